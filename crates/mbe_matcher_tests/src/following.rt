@@ -1,16 +1,9 @@
 // What may follow a fragment, and names that are bound twice or have an unknown specifier: rustc 1.95 refuses each of these
 // definitions at the second place of each line, or the only one, and nowhere else.
-use crate::found::found;
-use std::alloc::Global;
+use crate::found::Found;
+use test_rows::{each, rows};
 
-// Pairs of texts as one text: of a table of 134 pairs the proof costs half a minute more. A pair ends in 2, and 1 parts its texts.
-macro_rules! pairs {
-    ($(($text:literal, $want:literal $(,)?)),* $(,)?) => {
-        concat!($($text, "\u{1}", $want, "\u{2}"),*)
-    };
-}
-
-static ROWS: &str = pairs![
+const ROWS: &str = rows![
     ("($_e:expr =>) => {}", ""),
     ("($_e:expr ,) => {}", ""),
     ("($_e:expr ;) => {}", ""),
@@ -162,28 +155,7 @@ static ROWS: &str = pairs![
     ("($x:foo priv) => {$x}", "unknown x 2;"),
 ];
 
-fn is_found(alloc: Global, text: &str, want: &str) -> bool {
-    match found(alloc, text) {
-        Ok(lines) => lines.as_str() == want,
-        Err(_) => false,
-    }
-}
-
-// The first of the pairs that isn't so. There are 134.
-fn first_unlike(alloc: Global) -> Option<&'static str> {
-    let mut count = 0usize;
-    for pair in ROWS.split_terminator('\u{2}') {
-        match pair.split_once('\u{1}') {
-            Some((text, want)) if is_found(alloc, text, want) => {}
-            _ => return Some(pair),
-        }
-        count = count.saturating_add(1);
-    }
-    (count != 134).then_some("another number of pairs")
-}
-
 #[test]
 fn what_rustc_forbids_is_found(rt: HostRuntime) {
-    let wrong = first_unlike(rt.alloc());
-    assert!(rt; wrong.is_none(), "{wrong:?}");
+    each(&rt, rt.alloc(), &Found, ROWS, 134);
 }

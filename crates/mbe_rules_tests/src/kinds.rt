@@ -1,14 +1,16 @@
 // Each kind of fragment: a text, and the part of it that is the fragment.
-use crate::rows::assert_rows;
+use crate::taking::Part;
+use mbe_rust::fragments::rust_rules;
 use mbe_tt::grammar::PrefixEntryPoint;
-use std::test::Fail;
+use mbe_tt::span::Edition;
+use test_rows::{each, rows};
 
-static PATHS: [(&str, &str); 12] = [
+const PATHS: &str = rows![
     ("a::b::c + d", "a::b::c"),
     ("::a::b, c", "::a::b"),
     (
         "crate::a<'b, C, { 1 }>::d<-1> e",
-        "crate::a<'b, C, { 1 }>::d<-1>",
+        "crate::a<'b, C, { 1 }>::d<-1>"
     ),
     ("Vec<Vec<u8>>= a", "Vec<Vec<u8>>"),
     ("Fn(u8) -> Vec<u8> where", "Fn(u8) -> Vec<u8>"),
@@ -21,23 +23,18 @@ static PATHS: [(&str, &str); 12] = [
     ("fn", ""),
 ];
 
-#[test]
-fn paths(rt: HostRuntime) -> Result<(), Fail> {
-    assert_rows(&rt, rt.alloc(), PrefixEntryPoint::Path, &PATHS)
-}
-
-static TYPES: [(&str, &str); 16] = [
+const TYPES: &str = rows![
     ("&'a mut [u8; 4] = a", "&'a mut [u8; 4]"),
     ("*const *mut u8, a", "*const *mut u8"),
     ("(u8, u16) as a", "(u8, u16)"),
     ("dyn A + B + 'a => c", "dyn A + B + 'a"),
     (
         "impl for<'a> Fn(&'a u8) -> u8 + Copy;",
-        "impl for<'a> Fn(&'a u8) -> u8 + Copy",
+        "impl for<'a> Fn(&'a u8) -> u8 + Copy"
     ),
     (
         "for<'a> unsafe extern \"C\" fn(&'a u8) -> &'a u8 { a }",
-        "for<'a> unsafe extern \"C\" fn(&'a u8) -> &'a u8",
+        "for<'a> unsafe extern \"C\" fn(&'a u8) -> &'a u8"
     ),
     ("<<A as B>::C as D>::E<F> | a", "<<A as B>::C as D>::E<F>"),
     ("A<B<C>>> d", "A<B<C>>"),
@@ -51,19 +48,14 @@ static TYPES: [(&str, &str); 16] = [
     ("1", ""),
 ];
 
-#[test]
-fn types(rt: HostRuntime) -> Result<(), Fail> {
-    assert_rows(&rt, rt.alloc(), PrefixEntryPoint::Ty, &TYPES)
-}
-
-static EXPRESSIONS: [(&str, &str); 22] = [
+const EXPRESSIONS: &str = rows![
     ("a + b * -c => d", "a + b * -c"),
     ("a as usize <= b, c", "a as usize <= b"),
     ("a as usize < b", ""),
     ("a as A<B>> c;", "a as A<B>> c"),
     (
         "&raw const a.b[c](d)?.e::<F>() g",
-        "&raw const a.b[c](d)?.e::<F>()",
+        "&raw const a.b[c](d)?.e::<F>()"
     ),
     ("a.0.1.b c", "a.0.1.b"),
     ("A { b }.c + d, e", "A { b }.c + d"),
@@ -73,19 +65,19 @@ static EXPRESSIONS: [(&str, &str); 22] = [
     ("if A { b } == c { d } else { e }", "if A { b } == c { d }"),
     (
         "if a { b } else if let C | D = e { f } .g()",
-        "if a { b } else if let C | D = e { f } .g()",
+        "if a { b } else if let C | D = e { f } .g()"
     ),
     (
         "match return A { b } { c => d } e",
-        "match return A { b } { c => d }",
+        "match return A { b } { c => d }"
     ),
     (
         "'a: for (b, c) in 0.. { d } e",
-        "'a: for (b, c) in 0.. { d }",
+        "'a: for (b, c) in 0.. { d }"
     ),
     (
         "|a, &b: &u8| -> u8 { a } (c) d",
-        "|a, &b: &u8| -> u8 { a } (c)",
+        "|a, &b: &u8| -> u8 { a } (c)"
     ),
     ("move || a = b, c", "move || a = b"),
     ("return |a| ..b; c", "return |a| ..b"),
@@ -96,12 +88,7 @@ static EXPRESSIONS: [(&str, &str); 22] = [
     ("use || a", ""),
 ];
 
-#[test]
-fn expressions(rt: HostRuntime) -> Result<(), Fail> {
-    assert_rows(&rt, rt.alloc(), PrefixEntryPoint::Expr, &EXPRESSIONS)
-}
-
-static PATTERNS: [(&str, &str); 12] = [
+const PATTERNS: &str = rows![
     ("Some(a) | None = b", "Some(a) | None"),
     ("| a | b if c", "| a | b"),
     ("&mut (a, ref b) in c", "&mut (a, ref b)"),
@@ -116,27 +103,17 @@ static PATTERNS: [(&str, &str); 12] = [
     ("a |", ""),
 ];
 
-#[test]
-fn patterns(rt: HostRuntime) -> Result<(), Fail> {
-    assert_rows(&rt, rt.alloc(), PrefixEntryPoint::PatTop, &PATTERNS)
-}
-
-static PARAMETERS: [(&str, &str); 3] = [
+const PARAMETERS: &str = rows![
     ("Some(a) | None", "Some(a)"),
     ("a @ b | c", "a @ b"),
     ("| a", ""),
 ];
 
-#[test]
-fn patterns_of_parameters(rt: HostRuntime) -> Result<(), Fail> {
-    assert_rows(&rt, rt.alloc(), PrefixEntryPoint::Pat, &PARAMETERS)
-}
-
-static STATEMENTS: [(&str, &str); 18] = [
+const STATEMENTS: &str = rows![
     ("let a: Vec<Vec<u8>>= b; c", "let a: Vec<Vec<u8>>= b"),
     (
         "let Some(a) = b else { c }; d",
-        "let Some(a) = b else { c }",
+        "let Some(a) = b else { c }"
     ),
     ("; a", ";"),
     ("{ a } - b", "{ a }"),
@@ -156,19 +133,9 @@ static STATEMENTS: [(&str, &str); 18] = [
     ("let = a", ""),
 ];
 
-#[test]
-fn statements(rt: HostRuntime) -> Result<(), Fail> {
-    assert_rows(&rt, rt.alloc(), PrefixEntryPoint::Stmt, &STATEMENTS)
-}
+const BLOCKS: &str = rows![("{ a } b", "{ a }"), ("unsafe { a }", ""), ("(a)", ""),];
 
-static BLOCKS: [(&str, &str); 3] = [("{ a } b", "{ a }"), ("unsafe { a }", ""), ("(a)", "")];
-
-#[test]
-fn blocks(rt: HostRuntime) -> Result<(), Fail> {
-    assert_rows(&rt, rt.alloc(), PrefixEntryPoint::Block, &BLOCKS)
-}
-
-static METAS: [(&str, &str); 8] = [
+const METAS: &str = rows![
     ("a::b(c) d", "a::b(c)"),
     ("a = b + 1, c", "a = b + 1"),
     ("derive[A] b", "derive[A]"),
@@ -179,36 +146,31 @@ static METAS: [(&str, &str); 8] = [
     ("\"a\"", ""),
 ];
 
-#[test]
-fn metas(rt: HostRuntime) -> Result<(), Fail> {
-    assert_rows(&rt, rt.alloc(), PrefixEntryPoint::MetaItem, &METAS)
-}
-
-static ITEMS: [(&str, &str); 24] = [
+const ITEMS: &str = rows![
     (
         "#[a] pub const unsafe extern \"C\" fn b<T: ?Sized>(c: T) -> D where T: E, {} f",
-        "#[a] pub const unsafe extern \"C\" fn b<T: ?Sized>(c: T) -> D where T: E, {}",
+        "#[a] pub const unsafe extern \"C\" fn b<T: ?Sized>(c: T) -> D where T: E, {}"
     ),
     ("struct A<T>(T) where T: B; c", "struct A<T>(T) where T: B;"),
     (
         "struct A<const N: usize = { 1 }> { b: u8 } c",
-        "struct A<const N: usize = { 1 }> { b: u8 }",
+        "struct A<const N: usize = { 1 }> { b: u8 }"
     ),
     ("enum A { B = 1 } c", "enum A { B = 1 }"),
     ("union A { b: u8 } c", "union A { b: u8 }"),
     (
         "type A<T> = fn(T) -> dyn B; d",
-        "type A<T> = fn(T) -> dyn B;",
+        "type A<T> = fn(T) -> dyn B;"
     ),
     ("const _: () = { a }; b", "const _: () = { a };"),
     ("static mut A: u8 = 1; b", "static mut A: u8 = 1;"),
     (
         "unsafe auto trait A: B + C {} d",
-        "unsafe auto trait A: B + C {}",
+        "unsafe auto trait A: B + C {}"
     ),
     (
         "impl<T> ::a::B<T> for &'c mut D {} e",
-        "impl<T> ::a::B<T> for &'c mut D {}",
+        "impl<T> ::a::B<T> for &'c mut D {}"
     ),
     ("impl <T as X>::Y {} a", "impl <T as X>::Y {}"),
     ("impl !A for B {} c", "impl !A for B {}"),
@@ -218,7 +180,7 @@ static ITEMS: [(&str, &str); 24] = [
     ("extern crate self as a; b", "extern crate self as a;"),
     (
         "unsafe extern \"C\" { fn a(); } b",
-        "unsafe extern \"C\" { fn a(); }",
+        "unsafe extern \"C\" { fn a(); }"
     ),
     ("macro_rules! a (b); c", "macro_rules! a (b);"),
     ("a::b! { c } d", "a::b! { c }"),
@@ -229,12 +191,7 @@ static ITEMS: [(&str, &str); 24] = [
     ("let a = b;", ""),
 ];
 
-#[test]
-fn items(rt: HostRuntime) -> Result<(), Fail> {
-    assert_rows(&rt, rt.alloc(), PrefixEntryPoint::Item, &ITEMS)
-}
-
-static VISIBILITIES: [(&str, &str); 10] = [
+const VISIBILITIES: &str = rows![
     ("pub a", "pub"),
     ("pub(crate) a", "pub(crate)"),
     ("pub(self)(a)", "pub(self)"),
@@ -247,7 +204,23 @@ static VISIBILITIES: [(&str, &str); 10] = [
     ("(u8)", ""),
 ];
 
+static KINDS: [(PrefixEntryPoint, &str, usize); 10] = [
+    (PrefixEntryPoint::Path, PATHS, 12),
+    (PrefixEntryPoint::Ty, TYPES, 16),
+    (PrefixEntryPoint::Expr, EXPRESSIONS, 22),
+    (PrefixEntryPoint::PatTop, PATTERNS, 12),
+    (PrefixEntryPoint::Pat, PARAMETERS, 3),
+    (PrefixEntryPoint::Stmt, STATEMENTS, 18),
+    (PrefixEntryPoint::Block, BLOCKS, 3),
+    (PrefixEntryPoint::MetaItem, METAS, 8),
+    (PrefixEntryPoint::Item, ITEMS, 24),
+    (PrefixEntryPoint::Vis, VISIBILITIES, 10),
+];
+
 #[test]
-fn visibilities(rt: HostRuntime) -> Result<(), Fail> {
-    assert_rows(&rt, rt.alloc(), PrefixEntryPoint::Vis, &VISIBILITIES)
+fn fragments_of_each_kind(rt: HostRuntime) {
+    for &(entry, rows, count) in &KINDS {
+        let table = rust_rules(Edition::Edition2021, &[]);
+        each(&rt, rt.alloc(), &Part { table, entry }, rows, count);
+    }
 }

@@ -1,19 +1,16 @@
 // What renaming makes of texts. A word's context is the number after its `__`, as in `a__0`, and 1 where it has none: context 0 is the
 // caller's text, 1 and 2 are two steps, and 3 is one whose macro step 1 wrote. What is expected is what rustc's hygiene says that the
 // names mean.
+use crate::texts::{is_written, rust};
 use mbe_renaming::renaming::{Nesting, Renamed, rename};
-use mbe_rust_text::writing::Writer;
-use mbe_text::dialect::Dialect;
-use mbe_text::lexer::lex_as;
-use mbe_tt::span::{Edition, Span, SyntaxContext};
+use mbe_tt::span::{Span, SyntaxContext};
 use mbe_tt::symbol::Symbol;
-use mbe_tt::tt::{Ident, Leaf, Literal, TokenTreesView, TopSubtree, TopSubtreeBuilder, TtElement};
+use mbe_tt::tt::{Ident, Leaf, Literal, TopSubtree, TopSubtreeBuilder, TtElement};
 use std::alloc::{AllocError, Global};
-use std::process::Abort;
-use std::test::Fail;
+use test_rows::{Fields, Rows, each, number, rows};
 
 // A text, what it becomes, and how many places aren't decided. Around the text is the name `outside`.
-static ROWS: [(&str, &str, usize); 56] = [
+const ROWS: &str = rows![
     // A `let` of a template beside the caller's name.
     ("{ let a = 1; a__0 + a }", "{ let a_1 = 1; a + a_1 }", 0),
     // No other token has the name.
@@ -280,16 +277,6 @@ static ROWS: [(&str, &str, usize); 56] = [
     ("a + a__0", "a + a", 0),
 ];
 
-fn lexed(alloc: Global, text: &str) -> Result<TopSubtree, Fail> {
-    if text.len() > 100_000 {
-        return Err(Fail::from("too long"));
-    }
-    match lex_as(alloc, Dialect::Rust(Edition::Edition2021), text, 0) {
-        Ok(tree) => Ok(tree),
-        Err(_) => Err(Fail::from("not lexed")),
-    }
-}
-
 fn at(span: Span, context: u32) -> Span {
     Span {
         ctx: SyntaxContext(context),
@@ -347,15 +334,8 @@ fn write_marked(
     }
 }
 
-fn closed(builder: TopSubtreeBuilder) -> Result<TopSubtree, Fail> {
-    match builder.open_kind() {
-        None => Ok(builder.build()),
-        Some(_) => Err(Fail::from("not closed")),
-    }
-}
-
 // The tree with the contexts that its words are marked with.
-fn with_contexts(alloc: Global, tree: &TopSubtree) -> Result<TopSubtree, Fail> {
+fn with_contexts(alloc: Global, tree: &TopSubtree) -> Result<TopSubtree, AllocError> {
     let mut builder = TopSubtreeBuilder::new(alloc, tree.top_subtree().delimiter)?;
     let tokens = tree.iter().remaining();
     let mut cursor = tokens.cursor();
@@ -363,33 +343,37 @@ fn with_contexts(alloc: Global, tree: &TopSubtree) -> Result<TopSubtree, Fail> {
         write_marked(alloc, &mut builder, cursor.token_tree())?;
         cursor.bump_or_end();
     }
-    closed(builder)
+    match builder.open_kind() {
+        None => Ok(builder.build()),
+        Some(_) => Err(AllocError),
+    }
 }
 
-fn written(alloc: Global, tree: &TopSubtree) -> Result<String, AllocError> {
-    let mut writer = Writer::new(alloc, 0);
-    writer.trees(tree.iter().remaining())?;
-    Ok(writer.into_text())
-}
-
-fn renamed(alloc: Global, text: &str) -> Result<Renamed, Fail> {
-    let tree = with_contexts(alloc, &lexed(alloc, text)?)?;
+fn renamed(alloc: Global, text: &str) -> Result<Renamed, AllocError> {
+    let tree = with_contexts(alloc, &rust(alloc, text)?)?;
     let names = [Symbol::intern(alloc, "outside")?];
     let nestings = [Nesting {
         inner: SyntaxContext(3),
         outer: SyntaxContext(1),
     }];
-    Ok(rename(alloc, &tree, &names, &nestings)?)
+    rename(alloc, &tree, &names, &nestings)
+}
+
+#[derive(Clone, Copy)]
+struct Renaming;
+
+impl Rows for Renaming {
+    fn is_so(
+        &self,
+        alloc: Global,
+        [text, want, undecided, ..]: Fields,
+    ) -> Result<bool, AllocError> {
+        let got = renamed(alloc, text)?;
+        Ok(got.undecided.len() == number(undecided) && is_written(alloc, &got.tree, want)?)
+    }
 }
 
 #[test]
-fn names_are_kept_apart(rt: HostRuntime) -> Result<(), Fail> {
-    let alloc = rt.alloc();
-    for (text, want, undecided) in &ROWS {
-        let got = renamed(alloc, *text)?;
-        let want = written(alloc, &lexed(alloc, *want)?)?;
-        assert_eq!(rt; written(alloc, &got.tree)?, want, "{text}");
-        assert_eq!(rt; got.undecided.len(), *undecided, "{text}");
-    }
-    Ok(())
+fn names_are_kept_apart(rt: HostRuntime) {
+    each(&rt, rt.alloc(), &Renaming, ROWS, 56);
 }

@@ -1,8 +1,8 @@
 // Variables that a template doesn't name, and those that still repeat where it does. Worked out by hand.
-use crate::found::{Row, found};
-use mbe_text::lexer::LexError;
+use crate::found::Found;
+use test_rows::{each, rows};
 
-static ROWS: [Row; 20] = [
+const ROWS: &str = rows![
     ("() => {}", ""),
     ("($x:ident) => {$x}", ""),
     ("($x:ident) => {}", "unused x 2;"),
@@ -29,10 +29,6 @@ static ROWS: [Row; 20] = [
 ];
 
 #[test]
-fn variables_of_no_use_are_found(rt: HostRuntime) -> Result<(), LexError> {
-    for (text, want) in &ROWS {
-        let lines = found(rt.alloc(), text)?;
-        assert!(rt; lines.as_str() == *want, "{text}: {lines}");
-    }
-    Ok(())
+fn variables_of_no_use_are_found(rt: HostRuntime) {
+    each(&rt, rt.alloc(), &Found, ROWS, 20);
 }

@@ -1,19 +1,15 @@
 // Crates of a few files: what the trees of their root become.
+use crate::texts::{rust, written};
 use mbe_following::following::{Unfound, follow};
 use mbe_following::taking::{File, Wrong};
 use mbe_modules::places::Place;
-use mbe_rust_text::writing::Writer;
-use mbe_text::dialect::Dialect;
-use mbe_text::lexer::lex_as;
-use mbe_tt::span::Edition;
 use mbe_tt::tt::TopSubtree;
 use std::alloc::{AllocError, Global};
-use std::process::Abort;
-use std::test::Fail;
+use test_rows::{Fields, Rows, each, rows};
 
 // The files of a crate, of which the first is its root, each `PATH: TEXT` and a `|` after it; what the root's trees become; and
 // the modules in them without their files.
-static ROWS: [(&str, &str, &str); 24] = [
+const ROWS: &str = rows![
     ("src/lib.rs: fn f() {}", "fn f() {}", ""),
     (
         "src/lib.rs: mod a;|src/a.rs: fn f() {}",
@@ -128,116 +124,83 @@ static ROWS: [(&str, &str, &str); 24] = [
     ),
 ];
 
-// The trees of each file, if it is Rust.
-fn lexed(alloc: Global, text: &str, number: usize) -> Result<Option<TopSubtree>, Fail> {
-    let at = u32::try_from(number).unwrap_or(0);
-    if text.len() > 100_000 {
-        return Err(Fail::from("too long"));
-    }
-    Ok(lex_as(alloc, Dialect::Rust(Edition::Edition2021), text, at).ok())
-}
-
 // The text of trees, without the white space between them, of which braces in place of a `;` have less.
-fn written(alloc: Global, tree: &TopSubtree) -> Result<String, AllocError> {
-    let mut writer = Writer::new(alloc, 0);
-    writer.trees(tree.iter().remaining())?;
-    writer.into_text().replace(alloc, " ", "")
+fn unspaced(alloc: Global, tree: &TopSubtree) -> Result<String, AllocError> {
+    written(alloc, tree)?.replace(alloc, " ", "")
 }
 
-fn said(alloc: Global, unfound: &[Unfound]) -> Result<String, AllocError> {
-    let mut text = String::new(alloc);
+// Whether that is said of modules: each one's name and what is wrong.
+fn is_said(unfound: &[Unfound], want: &str) -> bool {
+    let mut left = want;
     for found in unfound {
-        text.push_str(found.name.as_str())?;
-        text.push_str(match found.wrong {
-            Wrong::Missing => " missing ",
-            Wrong::Both => " both ",
-            Wrong::Circular => " circular ",
-            Wrong::NoRust => " no Rust ",
-        })?;
+        let rest = left.strip_prefix(found.name.as_str()).unwrap_or("?");
+        left = rest.strip_prefix(word(&found.wrong)).unwrap_or("?");
     }
-    Ok(text)
+    left.is_empty()
 }
 
-// A file of a crate.
-#[derive(Drop)]
-struct Read {
-    path: String,
-    tree: Option<TopSubtree>,
+fn word(wrong: &Wrong) -> &'static str {
+    match wrong {
+        Wrong::Missing => " missing ",
+        Wrong::Both => " both ",
+        Wrong::Circular => " circular ",
+        Wrong::NoRust => " no Rust ",
+    }
 }
 
-fn file_of(alloc: Global, file: &str, number: usize) -> Result<Read, Fail> {
-    let (path, text) = file.split_once(": ").unwrap_or((file, ""));
-    Ok(Read {
-        path: String::from_str(alloc, path)?,
-        tree: lexed(alloc, text, number)?,
-    })
+// The trees of each file of a crate, or nothing where it isn't Rust.
+fn trees_of(alloc: Global, row: &str) -> Result<Vec<Option<TopSubtree>>, AllocError> {
+    let mut trees = Vec::new(alloc);
+    for file in row.split('|') {
+        let (_path, text) = file.split_once(": ").unwrap_or((file, ""));
+        trees.push(rust(alloc, text).ok())?;
+    }
+    Ok(trees)
 }
 
 // The file of that number, or one that no module is in.
-fn file_at<'f>(files: &'f [Read], number: usize) -> File<'f> {
-    match files.get(number) {
-        Some(
-            Read {
-                path,
-                tree: Some(tree),
-            },
-        ) => File {
-            path: path.as_str(),
-            trees: Some(tree.iter().remaining()),
-        },
-        Some(Read { path, tree: None }) => File {
-            path: path.as_str(),
-            trees: None,
-        },
-        None => File {
-            path: "",
-            trees: None,
-        },
+fn file_at<'f>(row: &'f str, trees: &'f [Option<TopSubtree>], number: usize) -> File<'f> {
+    let file = row.split('|').nth(number).unwrap_or("");
+    let trees = match trees.get(number) {
+        Some(Some(tree)) => Some(tree.iter().remaining()),
+        _ => None,
+    };
+    File {
+        path: file.split_once(": ").unwrap_or((file, "")).0,
+        trees,
     }
 }
 
 // What the trees of the first file become, and what is said of modules.
-fn followed(alloc: Global, read: &[Read]) -> Result<(String, String), Fail> {
-    let Some(
-        Read {
-            path,
-            tree: Some(root),
-        },
-    ) = read.first()
-    else {
-        return Err(Fail::from("no root"));
+fn followed(alloc: Global, row: &str) -> Result<(TopSubtree, Vec<Unfound>), AllocError> {
+    let trees = trees_of(alloc, row)?;
+    let [Some(root), ..] = trees.as_slice() else {
+        return Err(AllocError);
     };
     let files = [
-        file_at(read, 0),
-        file_at(read, 1),
-        file_at(read, 2),
-        file_at(read, 3),
+        file_at(row, trees.as_slice(), 0),
+        file_at(row, trees.as_slice(), 1),
+        file_at(row, trees.as_slice(), 2),
+        file_at(row, trees.as_slice(), 3),
     ];
-    let place = Place::in_file(alloc, path.as_str(), None)?;
+    let place = Place::in_file(alloc, files[0].path, None)?;
     let mut unfound = Vec::new(alloc);
     let tree = follow(alloc, &files, &mut unfound, 0, &place, root)?;
-    Ok((written(alloc, &tree)?, said(alloc, unfound.as_slice())?))
+    Ok((tree, unfound))
 }
 
-// What a crate's root becomes, and what is said of its modules.
-fn crate_of(alloc: Global, row: &str) -> Result<(String, String), Fail> {
-    let mut files = Vec::new(alloc);
-    for file in row.split('|') {
-        files.push(file_of(alloc, file, files.len())?)?;
+#[derive(Clone, Copy)]
+struct Crates;
+
+impl Rows for Crates {
+    fn is_so(&self, alloc: Global, [files, want, wrong, ..]: Fields) -> Result<bool, AllocError> {
+        let (tree, unfound) = followed(alloc, files)?;
+        let want = unspaced(alloc, &rust(alloc, want)?)?;
+        Ok(unspaced(alloc, &tree)? == want && is_said(unfound.as_slice(), wrong))
     }
-    followed(alloc, files.as_slice())
 }
 
 #[test]
-fn modules_are_followed(rt: HostRuntime) -> Result<(), Fail> {
-    let alloc = rt.alloc();
-    for (row, want, wrong) in &ROWS {
-        let (got, unfound) = crate_of(alloc, *row)?;
-        let Some(want) = lexed(alloc, *want, 0)? else {
-            return Err(Fail::from("not lexed"));
-        };
-        assert_eq!(rt; got, written(alloc, &want)?, "{row}");
-        assert_eq!(rt; unfound.as_str(), *wrong, "{row}");
-    }
-    Ok(())
+fn modules_are_followed(rt: HostRuntime) {
+    each(&rt, rt.alloc(), &Crates, ROWS, 24);
 }

@@ -2,19 +2,9 @@
 use mbe_diagnostics::diagnostic::{Diagnostic, Level, Point};
 use mbe_diagnostics::json::{json_line, plain_line};
 use serde_json::Value;
-use std::alloc::Global;
+use std::alloc::{AllocError, Global};
 use std::test::Fail;
-
-fn text_at<'v>(value: &'v Value, path: &str) -> &'v str {
-    value
-        .pointer(path)
-        .and_then(Value::as_str)
-        .unwrap_or("none")
-}
-
-fn number_at(value: &Value, path: &str) -> u64 {
-    value.pointer(path).and_then(Value::as_u64).unwrap_or(999)
-}
+use test_rows::{Fields, Rows, each, holds, number, rows};
 
 // What is said of `b` in `a b`, the second line of a file that begins with three bytes and a line feed.
 fn sample(alloc: Global) -> Result<Value, Fail> {
@@ -42,7 +32,7 @@ fn sample(alloc: Global) -> Result<Value, Fail> {
     Ok(Value::from_str(alloc, line.as_str())?)
 }
 
-static TEXTS: [(&str, &str); 6] = [
+const TEXTS: &str = rows![
     ("/$message_type", "diagnostic"),
     ("/message", "it wants `\"` or `\\`,\n\u{6f22}"),
     ("/level", "warning"),
@@ -54,7 +44,7 @@ static TEXTS: [(&str, &str); 6] = [
     ),
 ];
 
-static NUMBERS: [(&str, u64); 8] = [
+const NUMBERS: &str = rows![
     ("/spans/0/byte_start", 6),
     ("/spans/0/byte_end", 7),
     ("/spans/0/line_start", 2),
@@ -65,32 +55,57 @@ static NUMBERS: [(&str, u64); 8] = [
     ("/spans/0/text/0/highlight_end", 4),
 ];
 
-static NULLS: [&str; 5] = [
-    "/code",
-    "/spans/0/label",
-    "/spans/0/suggested_replacement",
-    "/spans/0/suggestion_applicability",
-    "/spans/0/expansion",
+const NULLS: &str = rows![
+    ("/code"),
+    ("/spans/0/label"),
+    ("/spans/0/suggested_replacement"),
+    ("/spans/0/suggestion_applicability"),
+    ("/spans/0/expansion"),
 ];
+
+// What the members of a value are.
+#[derive(Clone, Copy)]
+enum Kind {
+    Text,
+    Number,
+    Null,
+}
+
+#[derive(Clone, Copy)]
+struct Members<'v>(&'v Value, Kind);
+
+impl Rows for Members<'_> {
+    fn is_so(&self, _alloc: Global, [path, want, ..]: Fields) -> Result<bool, AllocError> {
+        let Members(value, kind) = *self;
+        Ok(is_member(value.pointer(path), kind, want))
+    }
+}
+
+fn is_member(member: Option<&Value>, kind: Kind, want: &str) -> bool {
+    let Some(member) = member else {
+        return false;
+    };
+    match kind {
+        Kind::Text => member.as_str() == Some(want),
+        Kind::Number => member.as_u64() == u64::try_from(number(want)).ok(),
+        Kind::Null => member.is_null(),
+    }
+}
+
+fn is_primary(value: &Value) -> bool {
+    value
+        .pointer("/spans/0/is_primary")
+        .and_then(Value::as_bool)
+        == Some(true)
+}
 
 #[test]
 fn a_reader_takes_the_object(rt: HostRuntime) -> Result<(), Fail> {
     let value = sample(rt.alloc())?;
-    for (path, want) in &TEXTS {
-        assert_eq!(rt; text_at(&value, path), *want);
-    }
-    for (path, want) in &NUMBERS {
-        assert_eq!(rt; number_at(&value, path), *want);
-    }
-    for path in &NULLS {
-        assert!(rt; value.pointer(path).is_some_and(Value::is_null));
-    }
-    assert!(rt;
-        value
-            .pointer("/spans/0/is_primary")
-            .and_then(Value::as_bool)
-            == Some(true)
-    );
+    each(&rt, rt.alloc(), &Members(&value, Kind::Text), TEXTS, 6);
+    each(&rt, rt.alloc(), &Members(&value, Kind::Number), NUMBERS, 8);
+    each(&rt, rt.alloc(), &Members(&value, Kind::Null), NULLS, 5);
+    holds(&rt, Ok(is_primary(&value)));
     Ok(())
 }
 
@@ -98,8 +113,12 @@ fn a_reader_takes_the_object(rt: HostRuntime) -> Result<(), Fail> {
 fn what_has_no_place_has_no_spans(rt: HostRuntime) -> Result<(), Fail> {
     let line = plain_line(rt.alloc(), Level::Error, "couldn't read `a`")?;
     let value = Value::from_str(rt.alloc(), line.as_str())?;
-    assert_eq!(rt; text_at(&value, "/rendered"), "error: couldn't read `a`\n");
-    assert!(rt; value.pointer("/spans").is_some());
-    assert!(rt; value.pointer("/spans/0").is_none());
+    let text = "error: couldn't read `a`\n";
+    holds(
+        &rt,
+        Ok(is_member(value.pointer("/rendered"), Kind::Text, text)),
+    );
+    holds(&rt, Ok(value.pointer("/spans").is_some()));
+    holds(&rt, Ok(value.pointer("/spans/0").is_none()));
     Ok(())
 }

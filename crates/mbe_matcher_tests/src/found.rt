@@ -1,18 +1,14 @@
 // What is found of the rules of a text, as lines.
+use crate::matches::trees_of;
 use mbe_errors::error::SyntaxFault;
 use mbe_linting::findings::{Finding, findings};
 use mbe_linting::following::{Followed, Next};
 use mbe_ops::ops::{Op, Separator};
-use mbe_parser::rules::parse_rules;
-use mbe_text::lexer::{LexError, lex};
-use mbe_text::scanner::LexFault;
-use mbe_text::wrong::Wrong;
+use mbe_parser::rules::{Rule, parse_rules};
 use mbe_tt::span::{Edition, Span};
 use mbe_tt::tt::Punct;
 use std::alloc::{AllocError, Global};
-
-/// A row of a table: a definition in edition 2024, and what is found of it, each followed by a semicolon. Places are byte offsets.
-pub type Row = (&'static str, &'static str);
+use test_rows::{Fields, Rows};
 
 fn start_of(puncts: &[Punct]) -> u32 {
     match puncts {
@@ -86,23 +82,32 @@ fn line(alloc: Global, finding: Finding<'_>) -> Result<String, AllocError> {
     }
 }
 
-/// What is found of a text's rules, as in a row.
-pub fn found(alloc: Global, text: &str) -> Result<String, LexError> {
-    if text.len() > u32::MAX as usize {
-        return Err(LexError::Fault(LexFault {
-            offset: u32::MAX,
-            wrong: Wrong::Start,
-        }));
+fn push_lines(alloc: Global, rule: &Rule, lines: &mut String) -> Result<(), AllocError> {
+    for finding in &findings(alloc, &rule.lhs, &rule.rhs)? {
+        lines.push_str(line(alloc, *finding)?.as_str())?;
     }
-    let definition = lex(alloc, text, 0)?;
+    Ok(())
+}
+
+// What is found of a text's rules, each followed by a semicolon. Places are byte offsets.
+fn findings_of(alloc: Global, text: &str) -> Result<String, AllocError> {
+    let definition = trees_of(alloc, 0, text)?;
     let edition = |_context| Edition::Edition2024;
     let missing = SyntaxFault::ExpectedSemicolon;
     let (rules, _fault) = parse_rules(alloc, edition, definition.iter(), &[';'], missing)?;
     let mut lines = String::new(alloc);
     for rule in &rules {
-        for finding in &findings(alloc, &rule.lhs, &rule.rhs)? {
-            lines.push_str(line(alloc, *finding)?.as_str())?;
-        }
+        push_lines(alloc, rule, &mut lines)?;
     }
     Ok(lines)
+}
+
+/// Rows of a definition in edition 2024, and what is found of it.
+#[derive(Clone, Copy)]
+pub struct Found;
+
+impl Rows for Found {
+    fn is_so(&self, alloc: Global, [text, want, ..]: Fields) -> Result<bool, AllocError> {
+        Ok(findings_of(alloc, text)?.as_str() == want)
+    }
 }

@@ -1,17 +1,14 @@
 // What stays of texts whose trees are stripped, under `--cfg yes`.
+use crate::texts::{is_written, rust};
 use mbe_cfg::fault::{Fault, Wrong};
 use mbe_cfg::settings::{Cfg, Settings};
 use mbe_cfg::targets::Target;
 use mbe_rust::fragments::rust_rules;
-use mbe_rust_text::writing::Writer;
 use mbe_stripping::stripping::strip;
-use mbe_text::dialect::Dialect;
-use mbe_text::lexer::lex_as;
 use mbe_tt::span::Edition;
 use mbe_tt::tt::TopSubtree;
 use std::alloc::{AllocError, Global};
-use std::process::Abort;
-use std::test::Fail;
+use test_rows::{Fields, Rows, each, holds, rows};
 
 static GIVEN: [Cfg<'static>; 1] = [Cfg {
     name: "yes",
@@ -19,7 +16,7 @@ static GIVEN: [Cfg<'static>; 1] = [Cfg {
 }];
 
 // A text, and what stays of it.
-static ROWS: [(&str, &str); 36] = [
+const ROWS: &str = rows![
     ("#[cfg(yes)] fn f() {} m!();", "#[cfg(yes)] fn f() {} m!();"),
     ("#[cfg(no)] fn f() { a!(); } m!();", "m!();"),
     ("#[cfg(no)] use a::{b, c}; m!();", "m!();"),
@@ -103,22 +100,6 @@ static ROWS: [(&str, &str); 36] = [
     ),
 ];
 
-fn lexed(alloc: Global, text: &str) -> Result<TopSubtree, Fail> {
-    if text.len() > 100_000 {
-        return Err(Fail::from("too long"));
-    }
-    match lex_as(alloc, Dialect::Rust(Edition::Edition2021), text, 0) {
-        Ok(tree) => Ok(tree),
-        Err(_) => Err(Fail::from("not lexed")),
-    }
-}
-
-fn written(alloc: Global, tree: &TopSubtree) -> Result<String, AllocError> {
-    let mut writer = Writer::new(alloc, 0);
-    writer.trees(tree.iter().remaining())?;
-    Ok(writer.into_text())
-}
-
 // What stays of a tree, and what is wrong in it.
 fn stripped(alloc: Global, tree: &TopSubtree) -> Result<(TopSubtree, Vec<Fault>), AllocError> {
     let settings = Settings {
@@ -133,28 +114,34 @@ fn stripped(alloc: Global, tree: &TopSubtree) -> Result<(TopSubtree, Vec<Fault>)
     Ok((stays, faults))
 }
 
-#[test]
-fn what_is_off_is_left_out(rt: HostRuntime) -> Result<(), Fail> {
-    let alloc = rt.alloc();
-    for (text, want) in &ROWS {
-        let tree = lexed(alloc, *text)?;
-        let (stays, faults) = stripped(alloc, &tree)?;
-        let got = written(alloc, &stays)?;
-        let want = written(alloc, &lexed(alloc, *want)?)?;
-        assert_eq!(rt; got, want, "{text}");
-        assert_eq!(rt; faults.len(), 0, "{text}");
+// Whether that stays of a text, and nothing is wrong in it.
+#[derive(Clone, Copy)]
+struct Stays;
+
+impl Rows for Stays {
+    fn is_so(&self, alloc: Global, [text, want, ..]: Fields) -> Result<bool, AllocError> {
+        let (stays, faults) = stripped(alloc, &rust(alloc, text)?)?;
+        Ok(faults.is_empty() && is_written(alloc, &stays, want)?)
     }
-    Ok(())
 }
 
 #[test]
-fn faults_leave_what_they_are_on(rt: HostRuntime) -> Result<(), Fail> {
-    let alloc = rt.alloc();
-    let tree = lexed(alloc, "#[inline] #[cfg(a b)] fn f() {} #[cfg(a(b))] m!();")?;
+fn what_is_off_is_left_out(rt: HostRuntime) {
+    each(&rt, rt.alloc(), &Stays, ROWS, 36);
+}
+
+fn are_left(alloc: Global, text: &str) -> Result<bool, AllocError> {
+    let tree = rust(alloc, text)?;
     let (stays, faults) = stripped(alloc, &tree)?;
-    assert!(rt; stays == tree);
-    assert_eq!(rt; faults.len(), 2);
-    assert_eq!(rt; faults[0].wrong, Wrong::NoComma);
-    assert_eq!(rt; faults[1].wrong, Wrong::Invalid);
-    Ok(())
+    let is_so = match faults.as_slice() {
+        [one, other] => one.wrong == Wrong::NoComma && other.wrong == Wrong::Invalid,
+        _ => false,
+    };
+    Ok(is_so && stays == tree)
+}
+
+#[test]
+fn faults_leave_what_they_are_on(rt: HostRuntime) {
+    let text = "#[inline] #[cfg(a b)] fn f() {} #[cfg(a(b))] m!();";
+    holds(&rt, are_left(rt.alloc(), text));
 }
