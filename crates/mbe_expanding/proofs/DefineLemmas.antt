@@ -1,12 +1,13 @@
 -- Definitions of trees, by those of their parts.
 use Rattle.std.proofs.Common.{◌≡◌, ◌-◌, ℕ, suc, Bool, false, refl, ap, sym, subst, ◌∙◌}
-use Rattle.std.specs.Prelude.{◌||◌, ◌&&◌}
+use Rattle.std.specs.Prelude.{◌&&◌}
 use Rattle.mbe_tt.specs.Trees.Tree.{Forest, Tree, none}
 use Rattle.mbe_tt.specs.declared.span.Edition.{Edition}
 use Rattle.mbe_calls.specs.Fronts.{Call, Defined, Definition, ACall, Other, front}
 use Rattle.mbe_expanding.specs.Scopes.{Scope, IsRead}
-use Rattle.mbe_expanding.specs.Defining.{unmarked, marked, after_tree, DefinesTree, DefinesAll, ends, at_definition, at_call, at_tree, Defines}
+use Rattle.mbe_expanding.specs.Defining.{unmarked, marked, reach_of, after_tree, DefinesTree, DefinesAll, ends, at_definition, at_call, at_tree, Defines}
 use Rattle.mbe_expanding.specs.declared.expander.defining.Marks.{Marks}
+use Rattle.mbe_expanding.specs.declared.scope.Reach.{Reach}
 
 -- what is left to read, with what was read, is all
 pub record Defining (e : Edition) (levels : ℕ) (top : Bool) (f : Forest) (s : Scope) (m : Marks) (rest : Forest)
@@ -21,14 +22,14 @@ none_defined e levels top f s m h = record {
       more;
 }
 
-pub definition_defined : (e k : Edition) (levels : ℕ) (top wide : Bool) (f g : Forest) (d : Defined) (s t u : Scope)
-    (m n : Marks)
-    → k ≡ e → Defining e levels top f s m g t → front g ≡ Definition d → wide ≡ (m.is_exported || top)
-    → IsRead k d wide t u
+pub definition_defined : (e k : Edition) (levels : ℕ) (top : Bool) (r : Reach) (f g : Forest) (d : Defined)
+    (s t u : Scope) (m n : Marks)
+    → k ≡ e → Defining e levels top f s m g t → front g ≡ Definition d → r ≡ reach_of top m d
+    → IsRead k d r t u
     → n ≡ record { is_exported = false; is_used = m.is_used } → Defining e levels top f s n d.rest u
-definition_defined e k levels top wide f g d s t u m n h a is w r c = record {
+definition_defined e k levels top reach f g d s t u m n h a is w r c = record {
   on = λ v more.
-      a.on v (at_definition m g d t u v is (subst (λ x. IsRead x d (m.is_exported || top) t u) h
+      a.on v (at_definition m g d t u v is (subst (λ x. IsRead x d (reach_of top m d) t u) h
       (subst (λ x. IsRead k d x t u) w r))
       (subst (λ x. DefinesAll e (Defines e levels) top x d.rest u v) c more));
 }

@@ -14,7 +14,9 @@ use Rattle.mbe_calls.specs.Splicing.{Part, spliced}
 use Rattle.mbe_expanding.specs.Becoming.{after_group}
 use Rattle.mbe_expanding.specs.Calls.{Setting, State, Stays, too_many, not_found, limited, refused, named}
 use Rattle.mbe_expanding.specs.Fitting.{IsLeft, what_follows, after_semicolon}
-use Rattle.mbe_expanding.specs.Scopes.{Scope, Definition as AMacro, definition_at, is_found, last_below, wide, near, or_wide, lookup, placed}
+use Rattle.mbe_expanding.specs.Scopes.{Scope, Definition as AMacro, definition_at, is_found, last_below, reaches, wide, near, or_wide, lookup, placed}
+use Rattle.mbe_expanding.specs.declared.scope.Reach.{Reach}
+use Rattle.mbe_expanding.specs.declared.scope.Reach.TheVariants.{Text, Files, Paths}
 use Rattle.mbe_expanding.specs.Replacing.{Parts, ShowsItems, no_more, at_definition, at_call, at_tree, shown_at, shown, item_shown, LeavesGroup, is_left, is_used, PartsOfTree, PartsOfArgument, PartsOfCall, of_kept, of_replaced, FrontParts, of_definition, of_tree, of_call, AllParts, ends, goes_on, PartsIn, PartsWithin, PartsOfFile, IsIn, all_of_it, after_some, in_group, IsOfCall, NoneHas, NoneCalled}
 use Rattle.mbe_expanding.proofs.FrontLemmas.{Ahead, front_definition, front_call, front_tree, call_ahead}
 
@@ -137,10 +139,10 @@ and_false : (a b : Bool) → b ≡ false → (a && b) ≡ false
 and_false false b h = refl
 and_false true b h = h
 
-missing_at : (name : List ℕ) (w : Bool) (ds : List AMacro) (n : ℕ) → NoneHas name ds
+missing_at : (name : List ℕ) (w : Reach) (ds : List AMacro) (n : ℕ) → NoneHas name ds
     → is_found name w (slice_get ds n) ≡ false
 missing_at name w [] n h = refl
-missing_at name w (d ∷ ds) zero h = and_false (d.is_wide || not w) (bytes_eq d.name name)
+missing_at name w (d ∷ ds) zero h = and_false (reaches w d.reach) (bytes_eq d.name name)
     (or_left (bytes_eq d.name name) _ h)
 missing_at name w (d ∷ ds) (suc n) h = missing_at name w ds n (or_right (bytes_eq d.name name) _ h)
 
@@ -149,13 +151,13 @@ unfolding last_below
 not_last p zero h = refl
 not_last p (suc n) h = ap (λ b. if b then Some n else last_below p n) (h n) ∙ not_last p n h
 
-wide_missing : (s : Scope) (name : List ℕ) → NoneHas name s.definitions → wide s name ≡ None
-wide_missing s name h = not_last _ _ (λ n. missing_at name true s.definitions n h)
+wide_missing : (s : Scope) (w : Reach) (name : List ℕ) → NoneHas name s.definitions → wide s w name ≡ None
+wide_missing s w name h = not_last _ _ (λ n. missing_at name w s.definitions n h)
 
 seen_missing : (s : Scope) (name : List ℕ) (o : Option ℕ) → NoneHas name s.definitions
-    → is_found name false (option_and_then (definition_at s) o) ≡ false
+    → is_found name Text (option_and_then (definition_at s) o) ≡ false
 seen_missing s name None h = refl
-seen_missing s name (Some n) h = missing_at name false s.definitions n h
+seen_missing s name (Some n) h = missing_at name Text s.definitions n h
 
 near_missing : (s : Scope) (name : List ℕ) → NoneHas name s.definitions → near s name ≡ None
 near_missing s name h =
@@ -163,8 +165,8 @@ near_missing s name h =
 
 lookup_missing : (s : Scope) (name : List ℕ) (is_path : Bool) → NoneHas name s.definitions
     → lookup s name is_path ≡ None
-lookup_missing s name true h = wide_missing s name h
-lookup_missing s name false h = ap (or_wide s name) (near_missing s name h) ∙ wide_missing s name h
+lookup_missing s name true h = wide_missing s Paths name h
+lookup_missing s name false h = ap (or_wide s name) (near_missing s name h) ∙ wide_missing s Files name h
 
 unnamed : (s : State) (c : Call) → NoneHas c.name.sym s.scope.definitions → named s c ≡ None
 unnamed s c h = ap (λ o. option_map (λ (d : AMacro). d.rules) (option_and_then (definition_at s.scope) o))

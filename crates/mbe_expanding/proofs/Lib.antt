@@ -12,4 +12,5 @@ pub mod MarkLemmas
 pub mod ReplaceLemmas
 pub mod StepLemmas
 pub mod TakenLemmas
+pub mod UsingLemmas
 pub mod WriteLemmas

@@ -13,6 +13,7 @@ use Rattle.mbe_expanding.specs.Becoming.{Change, Becomes, ChangesGroup, ChangesT
 use Rattle.mbe_expanding.specs.Calls.{Setting, State, Tries}
 use Rattle.mbe_expanding.specs.Fitting.{IsPart, IsWrapped, IsWrap, bare, in_parentheses, in_braces, as_it_is, with_semicolon, semicolon, IsLeft, what_follows, from_group}
 use Rattle.mbe_expanding.specs.Scopes.{Scope, IsRead, with_shown}
+use Rattle.mbe_expanding.specs.declared.scope.Reach.TheVariants.{Text}
 use Rattle.mbe_expanding.proofs.GroupLemmas.{length_put}
 use Rattle.mbe_expanding.proofs.FrontLemmas.{front_definition, front_call, call_ahead}
 use Rattle.mbe_expanding.proofs.FitLemmas.{leaves_before}
@@ -36,7 +37,7 @@ same_state u s scope a b = ap (λ x. let t : State = record { scope = x; fuel = 
 
 pub reads_written : (e : Setting) (f view : Forest) (d : Defined) (s u : State) (read : Scope) (n : ℕ) (b now : Levels)
     → front f ≡ Definition d
-    → IsRead e.edition d false s.scope read → n ≡ length s.scope.definitions → u.scope ≡ with_shown n read
+    → IsRead e.edition d Text s.scope read → n ≡ length s.scope.definitions → u.scope ≡ with_shown n read
     → u.fuel ≡ s.fuel
     → IsUpTo f d.rest view → now ≡ put view b → Writes (Reads e f d s) b now u
 reads_written e f view d s u read n b now h r number scope fuel up w =

@@ -11,6 +11,7 @@ use Rattle.mbe_calls.specs.Beside.{is_standard}
 use Rattle.mbe_expanding.specs.Calls.{Setting, State, spent, Stays, IsReplaced}
 use Rattle.mbe_expanding.specs.Fitting.{IsPart, IsWrapped, IsEnded, IsLeft}
 use Rattle.mbe_expanding.specs.Scopes.{Scope, IsRead, with_shown, with_left}
+use Rattle.mbe_expanding.specs.declared.scope.Reach.TheVariants.{Text}
 
 -- that trees become these, from one state to another
 abbrev pub Change : Type 1
@@ -60,7 +61,7 @@ pub record StandsFor (inner : Change) (d : Delimiter) (tree : Forest) (s : State
 
 -- a definition stays, is read, and is visible from here on
 abbrev pub Reads : Setting → Forest → Defined → State → Forest → State → Type 0
-Reads e f d s out u = (f ≡ append out d.rest) × (read : Scope) × IsRead e.edition d false s.scope read
+Reads e f d s out u = (f ≡ append out d.rest) × (read : Scope) × IsRead e.edition d Text s.scope read
     × (u ≡ shows s read)
 
 -- A call stays; where it calls a macro of the standard library, the calls in its argument are expanded.

@@ -1,4 +1,4 @@
--- The definitions of a file, in order, and which of them are wide.
+-- The definitions of a file, in order, and what finds each.
 use Rattle.std.specs.Prelude.{◌≡◌, ℕ, zero, suc, Bool, true, false, ◌||◌, ◌&&◌, if◌then◌else◌, codes, List, Option, Some, None}
 use Rattle.mbe_tt.specs.Trees.Leaf.{is_text}
 use Rattle.mbe_tt.specs.Trees.Tree.{Forest, Tree, Leaf_tree, Group_tree, none}
@@ -6,9 +6,12 @@ use Rattle.mbe_tt.specs.declared.span.Edition.{Edition}
 use Rattle.mbe_tt.specs.declared.tt.DelimiterKind.{DelimiterKind}
 use Rattle.mbe_tt.specs.declared.tt.DelimiterKind.TheVariants.{Parenthesis, Brace, Bracket, Invisible}
 use Rattle.mbe_calls.specs.Beside.{attribute_of}
-use Rattle.mbe_calls.specs.Fronts.{Call, Defined, Definition, ACall, Other, front}
+use Rattle.mbe_calls.specs.Fronts.{Call, Defined, Definition, ACall, Other, front, is_item}
 use Rattle.mbe_expanding.specs.Scopes.{Scope, IsRead}
+use Rattle.mbe_expanding.specs.Using.{is_used_in}
 use Rattle.mbe_expanding.specs.declared.expander.defining.Marks.{Marks}
+use Rattle.mbe_expanding.specs.declared.scope.Reach.{Reach}
+use Rattle.mbe_expanding.specs.declared.scope.Reach.TheVariants.{Text, Files, Paths}
 
 -- ---- attributes before an item
 
@@ -42,6 +45,14 @@ after_tree (Group_tree d inside) m = after_group d.kind m
 
 -- ---- definitions
 
+-- Paths find a definition that is exported, a `macro` item, or named by a `use` after it in its group; and names that
+-- find no other
+-- also one in no group.
+abbrev pub reach_of : Bool → Marks → Defined → Reach
+reach_of is_top m d =
+    if (m.is_exported || is_item d.form) || is_used_in d.name.sym d.rest then Paths
+    else if is_top then Files else Text
+
 -- that trees make a scope of another, where the first says whether they are in no group, but such as `#[macro_use]`
 -- is of
 abbrev pub Reading : Type 1
@@ -51,12 +62,12 @@ abbrev pub DefinesTree : Reading → Bool → Tree → Scope → Scope → Type 
 DefinesTree within is_top (Leaf_tree l) s t = t ≡ s
 DefinesTree within is_top (Group_tree d inside) s t = within is_top inside s t
 
--- One front after another, with what precedes it. A definition is wide that is exported or in no group.
+-- one front after another, with what precedes it
 pub data DefinesAll (edition : Edition) (within : Reading) (is_top : Bool) : Marks → Forest → Scope → Scope
     → Type 0 where
   ends : (m : Marks) (s : Scope) → DefinesAll edition within is_top m none s s
   at_definition : (m : Marks) (f : Forest) (d : Defined) (s t u : Scope) → front f ≡ Definition d
-      → IsRead edition d (m.is_exported || is_top) s t
+      → IsRead edition d (reach_of is_top m d) s t
       → DefinesAll edition within is_top (record { is_exported = false; is_used = m.is_used }) d.rest t u
       → DefinesAll edition within is_top m f s u
   at_call : (m : Marks) (f : Forest) (c : Call) (s t : Scope) → front f ≡ ACall c

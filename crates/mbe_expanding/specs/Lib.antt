@@ -7,3 +7,4 @@ pub mod Replacing
 pub mod Scopes
 pub mod Shown
 pub mod Taking
+pub mod Using

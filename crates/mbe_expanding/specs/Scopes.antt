@@ -8,13 +8,14 @@ use Rattle.mbe_tt.specs.declared.span.SyntaxContext.{SyntaxContext}
 use Rattle.mbe_semantics.specs.Expansion.Macro.{Macro}
 use Rattle.mbe_semantics.specs.Expansion.ReadAs.{IsReadAs, IsReadAsMacro}
 use Rattle.mbe_calls.specs.Fronts.{Form, Rules, Body, Arguments, Defined}
+use Rattle.mbe_expanding.specs.declared.scope.Reach.{Reach}
+use Rattle.mbe_expanding.specs.declared.scope.Reach.TheVariants.{Text, Files, Paths}
 
--- a macro that was read: its name, what it says, whether it is found by a path and from other files, and where its name
--- is
+-- a macro that was read: its name, what it says, what finds it, and where its name is
 pub record Definition : Type 0 where
   pub name : List ℕ
   pub rules : Macro
-  pub is_wide : Bool
+  pub reach : Reach
   pub place : Span
 
 -- the definitions that were read, in order, and the numbers of those that a name finds at present, the latest last
@@ -39,11 +40,11 @@ IsReadIn edition Body d m = IsReadAsMacro (IsEdition edition) None d.rules m
 IsReadIn edition (Arguments k pattern) d m = IsReadAsMacro (IsEdition edition) (Some pattern) d.rules m
 
 -- one definition more, which no name finds yet
-pub record IsRead (edition : Edition) (d : Defined) (is_wide : Bool) (before after : Scope) : Type 0 where
+pub record IsRead (edition : Edition) (d : Defined) (reach : Reach) (before after : Scope) : Type 0 where
   pub rules : Macro
   pub read : IsReadIn edition d.form d rules
   pub definitions : after.definitions
-      ≡ before.definitions ++ (record { name = d.name.sym; rules = rules; is_wide = is_wide; place = d.name.span }) ∷ []
+      ≡ before.definitions ++ (record { name = d.name.sym; rules = rules; reach = reach; place = d.name.span }) ∷ []
   pub visible : after.visible ≡ before.visible
 
 -- ---- names
@@ -53,14 +54,31 @@ unfoldable pub last_below : (ℕ → Bool) → ℕ → Option ℕ
 last_below p zero = None
 last_below p (suc n) = if p n then Some n else last_below p n
 
--- a definition of that name, which is wide where it has to be
-abbrev pub is_found : List ℕ → Bool → Option Definition → Bool
-is_found name only_wide None = false
-is_found name only_wide (Some d) = (d.is_wide || not only_wide) && bytes_eq d.name name
+-- a name that finds no other finds all but those that are found in their group alone
+abbrev pub is_wide : Reach → Bool
+is_wide Text = false
+is_wide Files = true
+is_wide Paths = true
 
--- the number of the last wide definition of that name
-abbrev pub wide : Scope → List ℕ → Option ℕ
-wide s name = last_below (λ n. is_found name true (definition_at s n)) (length s.definitions)
+abbrev pub is_public : Reach → Bool
+is_public Text = false
+is_public Files = false
+is_public Paths = true
+
+-- whether what is asked for finds a definition
+abbrev pub reaches : Reach → Reach → Bool
+reaches Text r = true
+reaches Files r = is_wide r
+reaches Paths r = is_public r
+
+-- a definition of that name, which is found by what is asked for
+abbrev pub is_found : List ℕ → Reach → Option Definition → Bool
+is_found name asked None = false
+is_found name asked (Some d) = reaches asked d.reach && bytes_eq d.name name
+
+-- the number of the last definition of that name that is found by what is asked for
+abbrev pub wide : Scope → Reach → List ℕ → Option ℕ
+wide s asked name = last_below (λ n. is_found name asked (definition_at s n)) (length s.definitions)
 
 -- the definition that is visible in that place
 abbrev pub seen_at : Scope → ℕ → Option Definition
@@ -69,17 +87,16 @@ seen_at s n = option_and_then (definition_at s) (slice_get s.visible n)
 -- the number of the last visible definition of that name
 abbrev pub near : Scope → List ℕ → Option ℕ
 near s name = option_and_then (slice_get s.visible)
-    (last_below (λ n. is_found name false (seen_at s n)) (length s.visible))
+    (last_below (λ n. is_found name Text (seen_at s n)) (length s.visible))
 
 abbrev pub or_wide : Scope → List ℕ → Option ℕ → Option ℕ
-or_wide s name None = wide s name
+or_wide s name None = wide s Files name
 or_wide s name (Some n) = Some n
 
--- The number of the definition that a call names: for a name the last one that is visible, or the last wide one where
--- none is; for a
--- path the last wide one.
+-- The number of the definition that a call names: for a name the last one that is visible, or where none is the last
+-- one that names find in all files; for a path the last one that paths find.
 abbrev pub lookup : Scope → List ℕ → Bool → Option ℕ
-lookup s name true = wide s name
+lookup s name true = wide s Paths name
 lookup s name false = or_wide s name (near s name)
 
 -- what the macro that a call names says

@@ -10,7 +10,7 @@ use Rattle.mbe_expanding.specs.declared.scope.Scope.{Scope}
 use Rattle.mbe_expanding.specs.declared.expander.Expander.{Expander}
 
 abbrev pub definition_of : {A : Type 0} → Definition A → spec.Definition
-definition_of d = record { name = string_bytes d.name; rules = macro_of d.rules; is_wide = d.is_wide; place = d.place }
+definition_of d = record { name = string_bytes d.name; rules = macro_of d.rules; reach = d.reach; place = d.place }
 
 abbrev pub scope_of : {A : Type 0} → Scope A → spec.Scope
 scope_of s = record { definitions = map definition_of s.definitions.items; visible = s.visible.items }

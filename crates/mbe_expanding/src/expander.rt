@@ -20,7 +20,7 @@ mod replacing;
 mod writing;
 
 use crate::notes::{Level, Note};
-use crate::scope::Scope;
+use crate::scope::{Reach, Scope};
 use crate::settings::Settings;
 use mbe::{DeclarativeMacro, ExpandError, MacroCallStyle, ValueResult};
 use mbe_calls::calls::{Call, Defined};
@@ -82,15 +82,15 @@ impl<'g, A: Allocator + Copy> Expander<'g, A> {
     }
 
     // Reads a definition, and notes what is wrong with it.
-    fn read(&mut self, defined: Defined<'_, A>, is_wide: bool) -> Result<usize, AllocError>
+    fn read(&mut self, defined: Defined<'_, A>, reach: Reach) -> Result<usize, AllocError>
         ensures read { OnOk result (IsRead (setting_of self.old).edition
-            (defined_shown defined.entry) is_wide
+            (defined_shown defined.entry) reach
             (scope_of self.old.scope) (scope_of self.new.scope)) }
         ensures number { IfOk result (λ n. n ≡ length (scope_of self.old.scope).definitions) }
         ensures setting { OnOk result (setting_of self.new ≡ setting_of self.old) }
         ensures fuel { OnOk result (self.new.fuel ≡ self.old.fuel) }
     {
-        let (number, fault) = self.scope.read(defined, is_wide)?;
+        let (number, fault) = self.scope.read(defined, reach)?;
         if let Some(message) = fault {
             self.note(Level::Error, defined.name.span, message)?;
         }

@@ -10,3 +10,4 @@ mod origins;
 pub mod scope;
 pub mod settings;
 pub mod taking;
+mod using;

@@ -6,8 +6,10 @@ ghost use Rattle.mbe.specs.MacroViews.{macro_of};
 ghost use Rattle.mbe_calls.specs.Shown.{defined_shown, form_shown};
 ghost use Rattle.mbe_expanding.specs.Scopes as spec;
 ghost use Rattle.mbe_semantics.specs.Expansion.ReadAs.{IsReadAs, IsReadAsMacro};
-ghost use Rattle.mbe_expanding.specs.Scopes.{IsEdition, IsRead, IsReadIn, is_found, is_placed, with_shown, with_left};
+ghost use Rattle.mbe_expanding.specs.Scopes.{IsEdition, IsRead, IsReadIn, is_found, is_placed, reaches};
+ghost use Rattle.mbe_expanding.specs.Scopes.{with_shown, with_left};
 ghost use Rattle.mbe_expanding.specs.Shown.{definition_of, scope_of};
+ghost use Rattle.mbe_expanding.specs.declared.scope.Reach.TheVariants.{Text};
 
 use mbe::DeclarativeMacro;
 use mbe_calls::calls::{Defined, Form};
@@ -15,13 +17,37 @@ use mbe_tt::span::{Edition, Span};
 use mbe_tt::tt::{Delimiter, TokenTreesView, TopSubtree, TopSubtreeBuilder};
 use std::alloc::{AllocError, Allocator, Global};
 
+/// What finds a definition.
+#[derive(Clone, Copy, Debug, Drop, PartialEq, Eq)]
+pub enum Reach {
+    /// A name after it, in its group.
+    Text,
+    /// Also a name that finds no other, in any of the files.
+    Files,
+    /// Also a path.
+    Paths,
+}
+
+impl Reach {
+    // Whether what is asked for finds it.
+    fn reaches(self, asked: Reach) -> bool
+        ensures { result ≡ reaches asked self }
+    {
+        match asked {
+            Reach::Text => true,
+            Reach::Files => matches!(self, Reach::Files | Reach::Paths),
+            Reach::Paths => matches!(self, Reach::Paths),
+        }
+    }
+}
+
 /// A macro that a file or an expansion defines.
 #[derive(Drop)]
 pub struct Definition<A: Allocator = Global> {
     name: String<A>,
     rules: DeclarativeMacro<A>,
-    // Whether it is found by a path, and from other files.
-    is_wide: bool,
+    // What finds it.
+    reach: Reach,
     // Where its name is.
     place: Span,
 }
@@ -130,9 +156,9 @@ impl<A: Allocator + Copy> Scope<A> {
     pub fn read(
         &mut self,
         defined: Defined<'_, A>,
-        is_wide: bool,
+        reach: Reach,
     ) -> Result<(usize, Option<String<A>>), AllocError>
-        ensures read { OnOk result (IsRead self.old.edition (defined_shown defined.entry) is_wide
+        ensures read { OnOk result (IsRead self.old.edition (defined_shown defined.entry) reach
             (scope_of self.old) (scope_of self.new)) }
         ensures number { IfOk result (λ r. r.0 ≡ length (scope_of self.old).definitions) }
         ensures edition { OnOk result (self.new.edition ≡ self.old.edition) }
@@ -144,7 +170,7 @@ impl<A: Allocator + Copy> Scope<A> {
         self.definitions.push(Definition {
             name,
             rules,
-            is_wide,
+            reach,
             place: defined.name.span,
         })?;
         Ok((number, fault))
@@ -207,35 +233,35 @@ impl<A: Allocator + Copy> Scope<A> {
         self.visible.truncate(mark);
     }
 
-    // Whether that definition has the name, and is wide where it has to be.
-    fn is_found(&self, number: usize, name: &str, only_wide: bool) -> bool
-        ensures { result ≡ is_found name.now only_wide
+    // Whether that definition has the name, and is found by what is asked for.
+    fn is_found(&self, number: usize, name: &str, asked: Reach) -> bool
+        ensures { result ≡ is_found name.now asked
             (spec.definition_at (scope_of self.now) number) }
     {
         match self.definition(number) {
-            Some(found) => (found.is_wide || !only_wide) && found.name.as_str() == name,
+            Some(found) => found.reach.reaches(asked) && found.name.as_str() == name,
             None => false,
         }
     }
 
     // Whether the definition that is visible in that place has the name.
     fn is_seen(&self, place: usize, name: &str) -> bool
-        ensures { result ≡ is_found name.now false (spec.seen_at (scope_of self.now) place) }
+        ensures { result ≡ is_found name.now Text (spec.seen_at (scope_of self.now) place) }
     {
         match self.visible.get(place) {
-            Some(number) => self.is_found(*number, name, false),
+            Some(number) => self.is_found(*number, name, Reach::Text),
             None => false,
         }
     }
 
-    // The number of the last wide definition of that name.
-    fn wide(&self, name: &str) -> Option<usize>
-        ensures { result ≡ spec.wide (scope_of self.now) name.now }
+    // The number of the last definition of that name that is found by what is asked for.
+    fn wide(&self, name: &str, asked: Reach) -> Option<usize>
+        ensures { result ≡ spec.wide (scope_of self.now) asked name.now }
     {
         let mut left = self.definitions.len();
         'numbers: while left > 0 {
             left -= 1;
-            if self.is_found(left, name, true) {
+            if self.is_found(left, name, asked) {
                 return Some(left);
             }
         }
@@ -256,17 +282,17 @@ impl<A: Allocator + Copy> Scope<A> {
         None
     }
 
-    /// The number of the definition that a call names: for a name, the last one that it finds; for a path, and for a name that
-    /// finds none, the last wide one.
+    /// The number of the definition that a call names: for a name, the last one before it in the groups around it, or else the
+    /// last one in all files that a name may find there; for a path, the last one that paths find.
     pub fn lookup(&self, name: &str, is_path: bool) -> Option<usize>
         ensures { result ≡ spec.lookup (scope_of self.now) name.now is_path }
     {
         if is_path {
-            return self.wide(name);
+            return self.wide(name, Reach::Paths);
         }
         match self.near(name) {
             Some(number) => Some(number),
-            None => self.wide(name),
+            None => self.wide(name, Reach::Files),
         }
     }
 

@@ -9,13 +9,15 @@ use Rattle.mbe_calls.specs.Splicing.{Part}
 use Rattle.mbe_tt.specs.Trees.Top.{Top}
 use Rattle.mbe_expanding.specs.Calls.{Setting, State}
 use Rattle.mbe_expanding.specs.Replacing.{Adds, IsOfCall, NoneCalled, PartsOfFile}
-use Rattle.mbe_expanding.specs.Scopes.{Definition}
+use Rattle.mbe_expanding.specs.Defining.{Defines}
+use Rattle.mbe_expanding.specs.Scopes.{Definition, Scope}
+use Rattle.mbe_tt.specs.declared.span.Edition.{Edition}
 use Rattle.mbe_following.specs.Following.{crate_tree}
 use Rattle.mbe_modules.specs.Places.{in_file}
 use Rattle.mbe_expandm.specs.declared.places.Position.{Position}
 use Rattle.mbe_expandm.specs.Crates.{crate_at, crate_of, file_of, is_followed}
 use Rattle.mbe_expandm.specs.Expansions as spec
-use Rattle.mbe_expandm.specs.Expansions.{CrateParts, CratesParts, FileBecomes, FilesBecome, RootBecomes, TextBecomes, TreeBecomes, is_in, parts_in}
+use Rattle.mbe_expandm.specs.Expansions.{CrateParts, CratesParts, DefinesCrate, DefinesCrates, FileBecomes, FilesBecome, RootBecomes, TextBecomes, TreeBecomes, is_in, parts_in}
 use Rattle.mbe_expandm.specs.Sources.{Source}
 use Rattle.mbe_expandm.proofs.SessionLemmas.{map_taken}
 
@@ -74,6 +76,22 @@ pub no_tree_there : {X : Type 0} (see : X → Source) (follows : Bool) (files : 
     → length files ≤ n → crate_at follows (map see files) n ≡ None
 no_tree_there see follows files n h =
     ap (option_and_then (crate_of follows (map see files) n)) (none_there see files n h)
+
+-- ---- its definitions
+
+pub no_definitions : (c : Option Top) (e : Edition) (levels : ℕ) (s : Scope) → c ≡ None → DefinesCrate e levels c s s
+no_definitions c e levels s is = subst (λ x. DefinesCrate e levels x s s) (sym is) refl
+
+pub some_definitions : {X E : Type 0} (r : Result X E) (c : Option Top) (tree : Top) (e : Edition) (levels : ℕ)
+    (s t : Scope) → c ≡ Some tree → OnOk r (Defines e levels true tree.1 s t) → OnOk r (DefinesCrate e levels c s t)
+some_definitions r c tree e levels s t is h = subst (λ x. OnOk r (DefinesCrate e levels x s t)) (sym is) h
+
+pub one_more_defined : (e d : Edition) (levels : ℕ) (follows : Bool) (files : List Source) (n : ℕ) (s t u : Scope)
+    → DefinesCrates e levels follows files s n t → e ≡ d → DefinesCrate d levels (crate_at follows files n) t u
+    → DefinesCrates e levels follows files s (n + 1) u
+one_more_defined e d levels follows files n s t u before same one =
+    spec.one_crate_more n t u before
+    (subst (λ x. DefinesCrate x levels (crate_at follows files n) t u) (sym same) one)
 
 -- ---- its parts
 

@@ -17,16 +17,18 @@ use Rattle.mbe_expandm.specs.Sources.{Source}
 
 -- ---- definitions
 
--- the definitions of a file are read; one that isn't Rust has none
-abbrev pub DefinesFile : Edition → ℕ → Option Top → Scope → Scope → Type 0
-DefinesFile edition levels None s u = u ≡ s
-DefinesFile edition levels (Some tree) s u = Defines edition levels true tree.1 s u
+-- the definitions of a crate's trees are read; there are none, where its root isn't Rust
+abbrev pub DefinesCrate : Edition → ℕ → Option Top → Scope → Scope → Type 0
+DefinesCrate edition levels None s u = u ≡ s
+DefinesCrate edition levels (Some tree) s u = Defines edition levels true tree.1 s u
 
--- those of files, one file after another
-abbrev pub DefinesFiles : Edition → ℕ → List (Option Top) → Scope → Scope → Type 0
-DefinesFiles edition levels [] s u = u ≡ s
-DefinesFiles edition levels (file ∷ files) s u =
-    (t : Scope) × DefinesFile edition levels file s t × DefinesFiles edition levels files t u
+-- those of the crates whose roots are the first so many files, one crate after another
+pub data DefinesCrates (edition : Edition) (levels : ℕ) (follows : Bool) (files : List Source) (s : Scope)
+    : ℕ → Scope → Type 0 where
+  no_definition : DefinesCrates edition levels follows files s 0 s
+  one_crate_more : (n : ℕ) (t u : Scope) → DefinesCrates edition levels follows files s n t
+      → DefinesCrate edition levels (crate_at follows files n) t u
+      → DefinesCrates edition levels follows files s (n + 1) u
 
 -- ---- parts
 

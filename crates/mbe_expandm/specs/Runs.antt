@@ -12,7 +12,7 @@ use Rattle.mbe_expanding.specs.Calls.{Setting, State}
 use Rattle.mbe_cfg.specs.declared.settings.Settings.{Settings}
 use Rattle.mbe_expandm.specs.declared.places.Position.{Position}
 use Rattle.mbe_expandm.specs.Conditions.{Conditions, IsUnder}
-use Rattle.mbe_expandm.specs.Expansions.{CratesParts, DefinesFiles, FilesBecome, RootBecomes}
+use Rattle.mbe_expandm.specs.Expansions.{CratesParts, DefinesCrates, FilesBecome, RootBecomes}
 use Rattle.mbe_expandm.specs.Sources.{Source, Text, AreSources, source_text}
 
 -- how many groups and calls may be in one another
@@ -25,10 +25,11 @@ pub record IsRustTable (edition : Edition) (table : RuleTable) : Type 0 where
   pub starts : table.starts ≡ rust_starts
   pub edition_is : table.edition ≡ edition
 
--- Where a run begins: the files are read, their definitions are known, in the files' order, and no call is expanded
--- yet. The limit of depth is that of the words, or that of the files, or 128.
-pub record IsBegun (edition : Edition) (c : Conditions) (depth : Option ℕ) (fuel : ℕ) (texts : List Text)
-    (files : List Source) (e : Setting) (s : State) : Type 0 where
+-- Where a run begins: the files are read, the definitions of the crates whose roots are the first so many are known, in
+-- the order of the crates' trees, and no call is expanded yet. The limit of depth is that of the words, or that of the
+-- files, or 128.
+pub record IsBegun (edition : Edition) (c : Conditions) (depth : Option ℕ) (fuel : ℕ) (follows : Bool) (given : ℕ)
+    (texts : List Text) (files : List Source) (e : Setting) (s : State) : Type 0 where
   pub texts_are : map source_text files ≡ texts
   pub table : RuleTable
   pub is_rust : IsRustTable edition table
@@ -39,7 +40,7 @@ pub record IsBegun (edition : Edition) (c : Conditions) (depth : Option ℕ) (fu
   pub edition_is : e.edition ≡ edition
   pub limit : Option ℕ
   pub depth_is : e.depth ≡ unwrap_or (option_or depth limit) 128
-  pub defines : DefinesFiles edition 1001 (map (λ f. f.tree) files) (record { definitions = []; visible = [] }) s.scope
+  pub defines : DefinesCrates edition 1001 follows files (record { definitions = []; visible = [] }) given s.scope
   pub fuel_is : s.fuel ≡ fuel
 
 -- What is printed of files, of which so many are given, and the others are those of their modules: what the last one
@@ -50,7 +51,7 @@ pub record IsPrinted (edition : Edition) (c : Conditions) (depth : Option ℕ) (
   pub setting : Setting
   pub start : State
   pub end : State
-  pub begins : IsBegun edition c depth fuel texts files setting start
+  pub begins : IsBegun edition c depth fuel follows given texts files setting start
   pub root : Source
   pub is_last : slice_get files (given - 1) ≡ Some root
   pub becomes : RootBecomes setting 1000 call follows files (given - 1) root start out end
@@ -62,7 +63,7 @@ pub record AreWritten (edition : Edition) (c : Conditions) (depth : Option ℕ) 
   pub setting : Setting
   pub start : State
   pub end : State
-  pub begins : IsBegun edition c depth fuel texts files setting start
+  pub begins : IsBegun edition c depth fuel follows given texts files setting start
   pub parts : List Part
   pub of_crates : CratesParts setting 1000 follows files start given parts end
   pub become : FilesBecome call parts files outs

@@ -1,11 +1,12 @@
-// The parts of a crate's files that are replaced.
-ghost use Rattle.std.specs.Prelude.{◌≡◌, [], None, IfOk, IfSome, OnOk, map};
+// The definitions of crates, and the parts of their files that are replaced.
+ghost use Rattle.std.specs.Prelude.{◌≡◌, [], None, IfOk, IfSome, OnOk, map, suc, true};
 ghost use Rattle.std.specs.List.{All};
 ghost use Rattle.mbe_calls.specs.Replacements.{part_of};
+ghost use Rattle.mbe_expanding.specs.Defining.{Defines};
 ghost use Rattle.mbe_expanding.specs.Replacing.{Adds, IsOfCall, NoneCalled, PartsOfFile};
 ghost use Rattle.mbe_expanding.specs.Shown.{setting_of, state_of};
 ghost use Rattle.mbe_expandm.specs.Crates.{crate_at, crate_of, file_of, is_followed};
-ghost use Rattle.mbe_expandm.specs.Expansions.{CrateParts, CratesParts};
+ghost use Rattle.mbe_expandm.specs.Expansions.{CrateParts, CratesParts, DefinesCrate, DefinesCrates};
 ghost use Rattle.mbe_expandm.specs.ShownFiles.{source_of};
 ghost use Rattle.mbe_following.specs.Following.{crate_tree};
 ghost use Rattle.mbe_following.specs.Shown.{file_shown};
@@ -75,6 +76,83 @@ fn crate_tree(
     let tree = follow(alloc, found.as_slice(), &mut unfound, number, &place, tree)?;
     note_unfound(alloc, notes, unfound.as_slice())?;
     Ok(tree)
+}
+
+// Has the expander know the definitions of these trees.
+fn define_tree(expander: &mut Expander<'_>, tree: &TopSubtree) -> Result<(), AllocError>
+    ensures defines { OnOk result (Defines (setting_of expander.old).edition (suc LEVELS) true
+        tree.now.1 (state_of expander.old).scope (state_of expander.new).scope) }
+    ensures fuel { OnOk result ((state_of expander.new).fuel ≡ (state_of expander.old).fuel) }
+    ensures setting { OnOk result (setting_of expander.new ≡ setting_of expander.old) }
+{
+    expander.define(tree.iter().remaining())
+}
+
+// Has the expander know the definitions of the crate whose root is the file of that number. What is to be said of its modules is
+// noted with its calls.
+fn define_root(
+    alloc: Global,
+    follows: bool,
+    expander: &mut Expander<'_>,
+    files: &[SourceFile<'_>],
+    number: usize,
+    root: &SourceFile<'_>,
+) -> Result<(), AllocError>
+    ensures defines { OnOk result (DefinesCrate (setting_of expander.old).edition (suc LEVELS)
+        (crate_of follows (map source_of files.now) number (source_of root.now))
+        (state_of expander.old).scope (state_of expander.new).scope) }
+    ensures fuel { OnOk result ((state_of expander.new).fuel ≡ (state_of expander.old).fuel) }
+    ensures setting { OnOk result (setting_of expander.new ≡ setting_of expander.old) }
+{
+    let Some(tree) = &root.tree else {
+        return Ok(());
+    };
+    if !is_followed(follows, root.name) {
+        return define_tree(expander, tree);
+    }
+    let mut unsaid = Vec::new(alloc);
+    let tree = crate_tree(alloc, &mut unsaid, files, number, root.name, tree)?;
+    define_tree(expander, &tree)
+}
+
+// The same of the crate whose root is the file of that number, if there is one.
+fn define_crate(
+    alloc: Global,
+    follows: bool,
+    expander: &mut Expander<'_>,
+    files: &[SourceFile<'_>],
+    number: usize,
+) -> Result<(), AllocError>
+    ensures defines { OnOk result (DefinesCrate (setting_of expander.old).edition (suc LEVELS)
+        (crate_at follows (map source_of files.now) number)
+        (state_of expander.old).scope (state_of expander.new).scope) }
+    ensures fuel { OnOk result ((state_of expander.new).fuel ≡ (state_of expander.old).fuel) }
+    ensures setting { OnOk result (setting_of expander.new ≡ setting_of expander.old) }
+{
+    match files.get(number) {
+        Some(root) => define_root(alloc, follows, expander, files, number, root),
+        None => Ok(()),
+    }
+}
+
+/// Has the expander know the definitions of the crates whose roots are the first so many files, one crate after another.
+pub fn define_crates(
+    alloc: Global,
+    follows: bool,
+    expander: &mut Expander<'_>,
+    files: &[SourceFile<'_>],
+    given: usize,
+) -> Result<(), AllocError>
+    ensures defines { OnOk result (DefinesCrates (setting_of expander.old).edition (suc LEVELS)
+        follows (map source_of files.now) (state_of expander.old).scope given
+        (state_of expander.new).scope) }
+    ensures fuel { OnOk result ((state_of expander.new).fuel ≡ (state_of expander.old).fuel) }
+    ensures setting { OnOk result (setting_of expander.new ≡ setting_of expander.old) }
+{
+    for number in 0..given {
+        define_crate(alloc, follows, expander, files, number)?;
+    }
+    Ok(())
 }
 
 // The texts that spans of the files are in.

@@ -1,5 +1,5 @@
 // What files become.
-ghost use Rattle.std.specs.Prelude.{◌≡◌, ◌-◌, None, IfNone, IfOk, IfSome, OnOk, map, suc};
+ghost use Rattle.std.specs.Prelude.{◌≡◌, ◌-◌, None, IfNone, IfOk, IfSome, OnOk, map};
 ghost use Rattle.std.specs.List.{slice_get};
 ghost use Rattle.std.specs.String.{string_bytes};
 ghost use Rattle.mbe_expanding.specs.Replacing.{NoneCalled};
@@ -8,7 +8,7 @@ ghost use Rattle.mbe_calls.specs.Replacements.{part_of};
 ghost use Rattle.mbe_calls.specs.Splicing.{spliced};
 ghost use Rattle.mbe_expandm.specs.Crates.{crate_of};
 ghost use Rattle.mbe_expandm.specs.Expansions as spec;
-ghost use Rattle.mbe_expandm.specs.Expansions.{DefinesFile, DefinesFiles, FileBecomes, FilesBecome};
+ghost use Rattle.mbe_expandm.specs.Expansions.{FileBecomes, FilesBecome};
 ghost use Rattle.mbe_expandm.specs.Expansions.{RootBecomes, TextsThere, WritesOne};
 ghost use Rattle.mbe_expandm.specs.Returns.{placed_part, returns};
 ghost use Rattle.mbe_expandm.specs.ShownFiles.{source_of};
@@ -32,32 +32,6 @@ pub struct Wanted {
     pub call: Option<Position>,
     /// Whether modules are followed.
     pub follows: bool,
-}
-
-// Has the expander know the definitions of a file.
-fn define_file(expander: &mut Expander<'_>, file: &SourceFile<'_>) -> Result<(), AllocError>
-    ensures defines { OnOk result (DefinesFile (setting_of expander.old).edition (suc LEVELS)
-        file.now.tree (state_of expander.old).scope (state_of expander.new).scope) }
-    ensures fuel { OnOk result ((state_of expander.new).fuel ≡ (state_of expander.old).fuel) }
-    ensures setting { OnOk result (setting_of expander.new ≡ setting_of expander.old) }
-{
-    match &file.tree {
-        Some(tree) => expander.define(tree.iter().remaining()),
-        None => Ok(()),
-    }
-}
-
-/// Has the expander know the definitions of the files, in their order.
-pub fn define_files(expander: &mut Expander<'_>, files: &[SourceFile<'_>]) -> Result<(), AllocError>
-    ensures defines { OnOk result (DefinesFiles (setting_of expander.old).edition (suc LEVELS)
-        (map (λ f. f.tree) files.now) (state_of expander.old).scope (state_of expander.new).scope) }
-    ensures fuel { OnOk result ((state_of expander.new).fuel ≡ (state_of expander.old).fuel) }
-    ensures setting { OnOk result (setting_of expander.new ≡ setting_of expander.old) }
-{
-    for file in files {
-        define_file(expander, file)?;
-    }
-    Ok(())
 }
 
 /// Writes what the root of a crate becomes, the file of that number: its text with its calls expanded, or only what the calls at

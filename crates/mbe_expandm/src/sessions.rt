@@ -11,8 +11,8 @@ ghost use Rattle.mbe_expandm.specs.Sources.{AreSources, source_text};
 ghost use Rattle.mbe_expandm.specs.Statuses.{is_error, status_of};
 
 use crate::arguments::Options;
-use crate::crates::crates_parts;
-use crate::expansions::{Wanted, define_files, file_texts, write_last};
+use crate::crates::{crates_parts, define_crates};
+use crate::expansions::{Wanted, file_texts, write_last};
 use crate::files::{SourceFile, source_file};
 use crate::limits::recursion_limit;
 use crate::reading::Reading;
@@ -94,15 +94,16 @@ fn has_errors(notes: &[Note]) -> bool
 }
 
 impl<'f> Session<'f> {
-    /// Reads the files and their definitions. `AllocError` if out of memory, or of numbers for files.
+    /// Reads the files, and the definitions of the crates whose roots the words name. `AllocError` if out of memory, or of numbers for files.
     pub fn begin(
         alloc: Global,
         options: &Options<'_>,
         texts: &'f [Named],
     ) -> Result<Session<'f>, AllocError>
         ensures { IfOk result (λ s. IsBegun options.now.edition
-            (conditions_of options.now) options.now.depth options.now.fuel
-            (map text_of texts.now) (sources_of s) (setting_of s.expander) (state_of s.expander)) }
+            (conditions_of options.now) options.now.depth options.now.fuel options.now.follows
+            (length options.now.names.items) (map text_of texts.now) (sources_of s)
+            (setting_of s.expander) (state_of s.expander)) }
     {
         let mut notes = Vec::new(alloc);
         let grammar = rust_rules(options.edition, &[]);
@@ -112,10 +113,11 @@ impl<'f> Session<'f> {
             grammar,
         };
         let files = sources(alloc, &reading, texts, &mut notes)?;
-        let explain = explained(options.explain, files.as_slice(), options.names.len());
+        let given = options.names.len();
+        let explain = explained(options.explain, files.as_slice(), given);
         let settings = options.settings(limit_of(&files), explain);
         let mut expander = Expander::new(alloc, grammar, settings);
-        define_files(&mut expander, &files)?;
+        define_crates(alloc, options.follows, &mut expander, &files, given)?;
         Ok(Session {
             files,
             expander,

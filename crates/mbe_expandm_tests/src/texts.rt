@@ -90,7 +90,7 @@ static ROWS: [Counted; 12] = [
     ("x = m!(2);", "--depth 9", "x = m!(2);", 1),
     ("x = n!(m!());", "--depth 9", "x = n!(m!());", 0),
     ("x = vec![m!(), 2];", "--depth 9", "x = vec![1, 2];", 0),
-    ("x = a::m!();", "--depth 9", "x = 1;", 0),
+    ("x = a::m!();", "--depth 9", "x = a::m!();", 0),
     (
         "{ macro_rules! n { () => { 2 } } n!() } n!()",
         "--depth 9",

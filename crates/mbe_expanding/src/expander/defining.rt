@@ -1,13 +1,17 @@
 // The definitions of files.
-ghost use Rattle.std.specs.Prelude.{◌≡◌, ◌||◌, ◌&&◌, suc, false, true, OnOk};
+ghost use Rattle.std.specs.Prelude.{◌≡◌, ◌&&◌, suc, false, true, OnOk};
 ghost use Rattle.mbe_tt.specs.Views.Element.{element_tree};
 ghost use Rattle.mbe_tt.specs.Views.View.{trees};
+ghost use Rattle.mbe_calls.specs.Shown.{defined_shown};
 ghost use Rattle.mbe_expanding.specs.Defining.{Defines, DefinesTree};
-ghost use Rattle.mbe_expanding.specs.Defining.{after_group, after_tree, marked, with_attribute};
+ghost use Rattle.mbe_expanding.specs.Defining.{after_group, after_tree, marked, reach_of};
+ghost use Rattle.mbe_expanding.specs.Defining.{with_attribute};
 ghost use Rattle.mbe_expanding.specs.Shown.{scope_of, setting_of, state_of};
 
 use crate::expander::{Expander, LEVELS};
-use mbe_calls::calls::{Front, attribute_at, front_of};
+use crate::scope::Reach;
+use crate::using::is_used_in;
+use mbe_calls::calls::{Defined, Front, attribute_at, front_of};
 use mbe_tt::tt::{DelimiterKind, TokenTreesView, TtElement};
 use std::alloc::{AllocError, Allocator};
 
@@ -85,11 +89,18 @@ impl Marks {
         }
     }
 
-    // Whether paths find a definition that these precede.
-    fn is_wide(self, is_top: bool) -> bool
-        ensures { result ≡ (self.is_exported || is_top) }
+    // What finds a definition that these precede.
+    fn reach<A: Allocator>(self, is_top: bool, defined: Defined<'_, A>) -> Reach
+        ensures { result ≡ reach_of is_top self (defined_shown defined.entry) }
     {
-        self.is_exported || is_top
+        let name = defined.name.sym.as_str();
+        if self.is_exported || defined.is_item() || is_used_in(name, defined.rest) {
+            Reach::Paths
+        } else if is_top {
+            Reach::Files
+        } else {
+            Reach::Text
+        }
     }
 
     // Whether a group that these precede is as none around what it holds.
@@ -101,7 +112,8 @@ impl Marks {
 }
 
 impl<A: Allocator + Copy> Expander<'_, A> {
-    /// Reads the definitions of a file, so that paths find those that are exported or in no group, wherever the call is.
+    /// Reads the definitions of trees. From then on, wherever the call is, names that find no other find those in no group, and
+    /// paths those that are exported, `macro` items, or named by a `use`.
     pub fn define(&mut self, tokens: TokenTreesView<'_, A>) -> Result<(), AllocError>
         ensures defines { OnOk result (Defines (setting_of self.old).edition (suc LEVELS) true
             (trees tokens.entry) (state_of self.old).scope (state_of self.new).scope) }
@@ -130,7 +142,7 @@ impl<A: Allocator + Copy> Expander<'_, A> {
             match front_of(rest) {
                 Front::End => return Ok(()),
                 Front::Definition(defined) => {
-                    let _number = self.read(defined, marks.is_wide(is_top))?;
+                    let _number = self.read(defined, marks.reach(is_top, defined))?;
                     marks = marks.after_definition();
                     rest = defined.rest;
                 }

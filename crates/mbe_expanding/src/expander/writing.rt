@@ -19,6 +19,7 @@ use crate::fits::{
     Before, begins_in, beside, fit_of, from_group, left_after, left_by, left_by_call, part_of,
     semicolon, up_to,
 };
+use crate::scope::Reach;
 use mbe_calls::calls::{Call, Defined, Front, front_of, is_standard};
 use mbe_tt::tt::{
     Delimiter, DelimiterKind, TokenTreesView, TopSubtree, TopSubtreeBuilder, TtElement,
@@ -81,7 +82,7 @@ impl<A: Allocator + Copy> Expander<'_, A> {
             builder.old builder.new (state_of self.new)) }
         ensures setting { OnOk result (setting_of self.new ≡ setting_of self.old) }
     {
-        let number = self.read(defined, false)?;
+        let number = self.read(defined, Reach::Text)?;
         self.scope.show(number)?;
         builder.extend_with_tt(up_to(tokens, defined.rest))
     }

@@ -54,14 +54,14 @@ define_in-trees-preserved-in-Call g t c = (
 pub define_in-trees-preserved-in-Definition : goal.define_in-trees-preserved-in-Definition
 define_in-trees-preserved-in-Definition g t c = (
   definition_defined (setting_of c.args.self.now).edition (setting_of c.trees.self).edition c.args.levels c.args.is_top
-      c.is_wide.result
+      c.reach.result
       (trees c.args.tokens) (trees c.trees.rest) (defined_shown c.in-Definition.defined)
       (scope_of c.args.self.now.scope)
       (scope_of c.trees.self.scope) (scope_of c.read.new.self.scope) c.trees.marks c.after_definition-marks.result
       (ap (λ (x : Setting). x.edition) c.trees.invariant.2) c.trees.invariant.0
       (front_is front_shown c.front_of.result (v.Definition c.in-Definition.defined) (trees c.trees.rest)
       c.front_of.ensures c.in-Definition.is)
-      c.is_wide.ensures c.in_ok-_number-in-Definition.ensures.read c.after_definition-marks.ensures,
+      c.reach.ensures c.in_ok-_number-in-Definition.ensures.read c.after_definition-marks.ensures,
   c.in_ok-_number-in-Definition.ensures.fuel ∙ c.trees.invariant.1,
   c.in_ok-_number-in-Definition.ensures.setting ∙ c.trees.invariant.2,
 )

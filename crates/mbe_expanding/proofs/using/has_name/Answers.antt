@@ -1,0 +1,15 @@
+use Rattle.std.proofs.Common.{rules, sym, ◌∙◌}
+use Rattle.mbe_expanding.proofs.UsingLemmas.{name_here, name_nowhere, name_further}
+use Rattle.mbe_expanding.proofs.using.has_name.Goals as goal
+
+pub returns-then-is_name : goal.returns-then-is_name
+returns-then-is_name g c =
+    sym (name_here c.args.name c.trees.rest (search rules)) ∙ c.trees.invariant
+
+pub returns : goal.returns
+returns g c =
+    sym (name_nowhere c.args.name c.trees.rest (search rules)) ∙ c.trees.invariant
+
+pub trees-preserved : goal.trees-preserved
+trees-preserved g c =
+    name_further c.args.name c.trees.rest _ (search rules) (search rules) ∙ c.trees.invariant

@@ -1,0 +1,92 @@
+// Which macros a `use` names, so that paths find them.
+ghost use Rattle.std.specs.Prelude.{◌≡◌};
+ghost use Rattle.mbe_tt.specs.Views.View.{trees};
+ghost use Rattle.mbe_expanding.specs.Using as spec;
+
+use mbe_tt::tt::{Leaf, TokenTreesView, TtElement};
+use std::alloc::Allocator;
+
+// Whether a `:` is at the front.
+fn begins_path<A: Allocator>(tokens: TokenTreesView<'_, A>) -> bool
+    ensures { result ≡ spec.begins_path (trees tokens.entry) }
+{
+    match tokens.iter().next() {
+        Some(TtElement::Leaf(Leaf::Punct(punct))) => punct.char == ':',
+        Some(TtElement::Leaf(Leaf::Ident(_) | Leaf::Literal(_)) | TtElement::Subtree(..)) | None => {
+            false
+        }
+    }
+}
+
+// Whether the name is at the front, and is not the first one of a longer path.
+fn is_name<A: Allocator>(name: &str, tokens: TokenTreesView<'_, A>) -> bool
+    ensures { result ≡ spec.is_name name.now (trees tokens.entry) }
+{
+    let mut iter = tokens.iter();
+    match iter.next() {
+        Some(TtElement::Leaf(Leaf::Ident(ident))) => {
+            ident.sym.as_str() == name && !begins_path(iter.remaining())
+        }
+        Some(TtElement::Leaf(Leaf::Punct(_) | Leaf::Literal(_)) | TtElement::Subtree(..)) | None => {
+            false
+        }
+    }
+}
+
+// Whether the name is somewhere among these trees.
+fn has_name<A: Allocator>(name: &str, tokens: TokenTreesView<'_, A>) -> bool
+    ensures { result ≡ spec.has_name name.now (trees tokens.entry) }
+{
+    let mut rest = tokens.iter();
+    'trees: loop {
+        if is_name(name, rest.remaining()) {
+            return true;
+        }
+        match rest.next() {
+            Some(_) => {}
+            None => return false,
+        }
+    }
+}
+
+// Whether the name, or a group with it, is at the front.
+fn is_tree_of<A: Allocator>(name: &str, tokens: TokenTreesView<'_, A>) -> bool
+    ensures { result ≡ spec.is_tree_of name.now (trees tokens.entry) }
+{
+    match tokens.iter().next() {
+        Some(TtElement::Subtree(_, inside)) => has_name(name, inside.remaining()),
+        Some(TtElement::Leaf(_)) => is_name(name, tokens),
+        None => false,
+    }
+}
+
+// Whether a `use` of the name is at the front.
+fn is_use<A: Allocator>(name: &str, tokens: TokenTreesView<'_, A>) -> bool
+    ensures { result ≡ spec.is_use name.now (trees tokens.entry) }
+{
+    let mut iter = tokens.iter();
+    match iter.next() {
+        Some(TtElement::Leaf(Leaf::Ident(ident))) => {
+            ident.sym.as_str() == "use" && is_tree_of(name, iter.remaining())
+        }
+        Some(TtElement::Leaf(Leaf::Punct(_) | Leaf::Literal(_)) | TtElement::Subtree(..)) | None => {
+            false
+        }
+    }
+}
+
+// Whether a `use` among these trees names that macro: `use name;`, `use name as other;` or `use {name, other};`.
+pub(crate) fn is_used_in<A: Allocator>(name: &str, tokens: TokenTreesView<'_, A>) -> bool
+    ensures { result ≡ spec.is_used_in name.now (trees tokens.entry) }
+{
+    let mut rest = tokens.iter();
+    'trees: loop {
+        if is_use(name, rest.remaining()) {
+            return true;
+        }
+        match rest.next() {
+            Some(_) => {}
+            None => return false,
+        }
+    }
+}
