@@ -106,6 +106,8 @@ impl<A: Allocator + Copy> Expander<'_, A> {
         ensures defines { OnOk result (Defines (setting_of self.old).edition (suc LEVELS) true
             (trees tokens.entry) (state_of self.old).scope (state_of self.new).scope) }
         ensures fuel { OnOk result ((state_of self.new).fuel ≡ (state_of self.old).fuel) }
+        ensures contexts { OnOk result ((state_of self.new).contexts
+            ≡ (state_of self.old).contexts) }
         ensures setting { OnOk result (setting_of self.new ≡ setting_of self.old) }
     {
         self.define_in(tokens, true, LEVELS)
@@ -122,6 +124,7 @@ impl<A: Allocator + Copy> Expander<'_, A> {
         ensures defines { OnOk result (Defines (setting_of self.old).edition (suc levels) is_top
             (trees tokens.entry) (scope_of self.old.scope) (scope_of self.new.scope)) }
         ensures fuel { OnOk result (self.new.fuel ≡ self.old.fuel) }
+        ensures contexts { OnOk result (self.new.contexts.items ≡ self.old.contexts.items) }
         ensures setting { OnOk result (setting_of self.new ≡ setting_of self.old) }
     {
         let mut rest = tokens;
@@ -158,6 +161,7 @@ impl<A: Allocator + Copy> Expander<'_, A> {
             (Defines (setting_of self.old).edition levels) is_top (element_tree tree.entry)
             (scope_of self.old.scope) (scope_of self.new.scope)) }
         ensures fuel { OnOk result (self.new.fuel ≡ self.old.fuel) }
+        ensures contexts { OnOk result (self.new.contexts.items ≡ self.old.contexts.items) }
         ensures setting { OnOk result (setting_of self.new ≡ setting_of self.old) }
     {
         let TtElement::Subtree(_group, inside) = tree else {
@@ -177,6 +181,7 @@ impl<A: Allocator + Copy> Expander<'_, A> {
         ensures defines { OnOk result (Defines (setting_of self.old).edition levels is_top
             (trees tokens.entry) (scope_of self.old.scope) (scope_of self.new.scope)) }
         ensures fuel { OnOk result (self.new.fuel ≡ self.old.fuel) }
+        ensures contexts { OnOk result (self.new.contexts.items ≡ self.old.contexts.items) }
         ensures setting { OnOk result (setting_of self.new ≡ setting_of self.old) }
     {
         if levels == 0 {
