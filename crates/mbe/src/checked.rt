@@ -1,6 +1,7 @@
 // A macro that may be expanded: what `DeclarativeMacro::expand` asks for, as a type.
 ghost use Rattle.std.specs.Prelude.{◌≡◌, ◌<◌, false, length, map, option_map, IfOk, IfErr};
 ghost use Rattle.mbe_tt.specs.Trees.Top.{top_group};
+ghost use Rattle.mbe_tt.specs.Views.View.{group_of};
 ghost use Rattle.mbe_errors.specs.ErrorViews.{errors_of};
 ghost use Rattle.mbe_log.specs.BindingViews.{bound_by};
 ghost use Rattle.mbe_matcher.specs.Matched.{verdict_seen};
@@ -21,7 +22,7 @@ use mbe_matcher::wanting::Wants;
 use mbe_semantics::macro_call_style::MacroCallStyle;
 use mbe_tt::grammar::FragmentGrammar;
 use mbe_tt::span::Span;
-use mbe_tt::tt::TopSubtree;
+use mbe_tt::tt::{SubtreeView, TopSubtree};
 use std::alloc::{AllocError, Allocator, Global};
 
 /// A macro of which no pattern was refused, or that has no rule: it may be expanded, with nothing left to show.
@@ -94,6 +95,28 @@ impl<A: Allocator + Copy> CheckedMacro<A> {
             .expand(alloc, grammar, tt, marker, call_style, call_site)
     }
 
+    /// Expands a call whose argument a view shows, as `DeclarativeMacro::expand_view` does.
+    pub fn expand_view<G: FragmentGrammar, M: Fn(Span) -> Span + Copy>(
+        &self,
+        alloc: A,
+        grammar: &G,
+        tt: SubtreeView<'_, A>,
+        marker: M,
+        call_style: MacroCallStyle,
+        call_site: Span,
+    ) -> Result<ExpandResult<(TopSubtree<A>, MatchedArmIndex), A>, AllocError>
+        requires may_mark { MayMark (M.pre marker) }
+        ensures expands { IfOk result (λ r. Expands (G.grammar grammar.now) (M.post marker)
+            (checked_of self.now).rules call_style (group_of tt.entry).1 call_site
+            (top_group r.value.0) r.value.1 (errors_of r.err)) }
+        ensures recovers { IfOk result (λ r. Recovers (G.grammar grammar.now) call_site
+            (group_of tt.entry) (M.post marker) (checked_of self.now).rules call_style
+            (top_group r.value.0) r.value.1 (errors_of r.err)) }
+    {
+        self.defined
+            .expand_view(alloc, grammar, tt, marker, call_style, call_site)
+    }
+
     /// How the rule with this index reads an argument, as `DeclarativeMacro::explain` returns it. `rule` is less than the
     /// number of rules.
     pub fn explain<G: FragmentGrammar>(
@@ -108,6 +131,22 @@ impl<A: Allocator + Copy> CheckedMacro<A> {
             (checked_of self.now).rules tt.now.1 rule (verdict_seen verdict)) }
     {
         self.defined.explain(alloc, grammar, tt, rule)
+    }
+
+    /// How the rule with this index reads an argument that a view shows, as `DeclarativeMacro::explain_view` returns it.
+    /// `rule` is less than the number of rules.
+    pub fn explain_view<G: FragmentGrammar>(
+        &self,
+        alloc: A,
+        grammar: &G,
+        tt: SubtreeView<'_, A>,
+        rule: usize,
+    ) -> Result<Verdict, AllocError>
+        requires rule { rule < length (checked_of self.now).rules }
+        ensures explains { IfOk result (λ verdict. Explains (G.grammar grammar.now)
+            (checked_of self.now).rules (group_of tt.entry).1 rule (verdict_seen verdict)) }
+    {
+        self.defined.explain_view(alloc, grammar, tt, rule)
     }
 
     /// What the rule with this index wants where it stops, as `DeclarativeMacro::wants` returns it. `rule` is less than

@@ -1,6 +1,7 @@
 // The choice of the rule.
 ghost use Rattle.std.specs.Prelude.{◌≡◌, ◌-◌, ◌^◌, min, IfOk, Some, None, IsSome, true};
 ghost use Rattle.mbe_tt.specs.Trees.Top.{top_group};
+ghost use Rattle.mbe_tt.specs.Views.View.{group_of};
 ghost use Rattle.mbe_tt.specs.Trees.Tree.{tree_count};
 ghost use Rattle.mbe_semantics.specs.Expansion.Macro.{Expands, arm_of, empty_tree};
 ghost use Rattle.mbe_semantics.specs.Expansion.Error.{no_matching_rule};
@@ -27,7 +28,7 @@ use mbe_semantics::macro_call_style::MacroCallStyle;
 use mbe_transcriber::transcriber::transcribe;
 use mbe_tt::grammar::FragmentGrammar;
 use mbe_tt::span::{DelimSpan, Span};
-use mbe_tt::tt::TopSubtree;
+use mbe_tt::tt::{SubtreeView, TopSubtree};
 use std::alloc::{AllocError, Allocator};
 
 // What is left of a rule that doesn't apply, for the case that none does.
@@ -96,7 +97,7 @@ pub(crate) fn expand_rules<A: Allocator + Copy, G: FragmentGrammar, M: Fn(Span) 
     alloc: A,
     grammar: &G,
     rules: &[Rule<A>],
-    input: &TopSubtree<A>,
+    input: SubtreeView<'_, A>,
     marker: M,
     call_style: MacroCallStyle,
     call_site: Span,
@@ -104,10 +105,10 @@ pub(crate) fn expand_rules<A: Allocator + Copy, G: FragmentGrammar, M: Fn(Span) 
     requires checked { AreChecked (rules_seen rules.now) }
     requires may_mark { MayMark (M.pre marker) }
     ensures expands { IfOk result (λ r. Expands (G.grammar grammar.now) (M.post marker)
-        (rules_seen rules.now) call_style input.now.1 call_site
+        (rules_seen rules.now) call_style (group_of input.entry).1 call_site
         (top_group r.value.0) r.value.1 (errors_of r.err)) }
-    ensures recovers { IfOk result (λ r. Recovers (G.grammar grammar.now) call_site input.now
-        (M.post marker) (rules_seen rules.now) call_style
+    ensures recovers { IfOk result (λ r. Recovers (G.grammar grammar.now) call_site
+        (group_of input.entry) (M.post marker) (rules_seen rules.now) call_style
         (top_group r.value.0) r.value.1 (errors_of r.err)) }
 {
     let choice = choose(alloc, grammar, rules, input, marker, call_style, call_site)?;
@@ -128,7 +129,7 @@ fn choose<'a, A: Allocator + Copy, G: FragmentGrammar, M: Fn(Span) -> Span + Cop
     alloc: A,
     grammar: &G,
     rules: &'a [Rule<A>],
-    input: &'a TopSubtree<A>,
+    input: SubtreeView<'a, A>,
     marker: M,
     call_style: MacroCallStyle,
     call_site: Span,
@@ -136,7 +137,7 @@ fn choose<'a, A: Allocator + Copy, G: FragmentGrammar, M: Fn(Span) -> Span + Cop
     requires checked { AreChecked (rules_seen rules.now) }
     requires may_mark { MayMark (M.pre marker) }
     ensures { IfOk result (IsChosen (G.grammar grammar.now) (M.post marker) call_style call_site
-        input.now (rules_seen rules.now)) }
+        (group_of input.entry) (rules_seen rules.now)) }
 {
     let trees = input.iter().remaining().len();
     let mut nearest: Option<Candidate<'_, A>> = None;
@@ -166,17 +167,17 @@ fn consider<'a, A: Allocator + Copy, G: FragmentGrammar, M: Fn(Span) -> Span + C
     grammar: &G,
     idx: usize,
     rule: &'a Rule<A>,
-    input: &'a TopSubtree<A>,
+    input: SubtreeView<'a, A>,
     trees: usize,
     marker: M,
     call_style: MacroCallStyle,
     call_site: Span,
 ) -> Result<Considered<'a, A>, AllocError>
     requires checked { Checked (template_of rule.now.lhs) }
-    requires trees { trees ≡ tree_count input.now.1 }
+    requires trees { trees ≡ tree_count (group_of input).1 }
     requires may_mark { MayMark (M.pre marker) }
     ensures { IfOk result (IsConsidered (G.grammar grammar.now) (M.post marker) call_style
-        call_site input.now idx (rule_of rule.now)) }
+        call_site (group_of input.entry) idx (rule_of rule.now)) }
 {
     if rule.style != call_style {
         return Ok(Considered::OtherStyle);
@@ -222,16 +223,16 @@ fn try_rule<'a, A: Allocator + Copy, G: FragmentGrammar, M: Fn(Span) -> Span + C
     alloc: A,
     grammar: &G,
     rule: &'a Rule<A>,
-    input: &'a TopSubtree<A>,
+    input: SubtreeView<'a, A>,
     trees: usize,
     marker: M,
     call_site: Span,
 ) -> Result<Tried<'a, A>, AllocError>
     requires checked { Checked (template_of rule.now.lhs) }
-    requires trees { trees ≡ tree_count input.now.1 }
+    requires trees { trees ≡ tree_count (group_of input).1 }
     requires may_mark { MayMark (M.pre marker) }
-    ensures { IfOk result (IsTried (G.grammar grammar.now) (M.post marker) call_site input.now
-        (rule_of rule.now)) }
+    ensures { IfOk result (IsTried (G.grammar grammar.now) (M.post marker) call_site
+        (group_of input.entry) (rule_of rule.now)) }
 {
     if begins_otherwise(&rule.lhs, input.iter().remaining()) {
         let nearness = Nearness {
@@ -248,14 +249,14 @@ fn match_rule<'a, A: Allocator + Copy, G: FragmentGrammar, M: Fn(Span) -> Span +
     alloc: A,
     grammar: &G,
     rule: &'a Rule<A>,
-    input: &'a TopSubtree<A>,
+    input: SubtreeView<'a, A>,
     marker: M,
     call_site: Span,
 ) -> Result<Tried<'a, A>, AllocError>
     requires checked { Checked (template_of rule.now.lhs) }
     requires may_mark { MayMark (M.pre marker) }
-    ensures { IfOk result (IsTried (G.grammar grammar.now) (M.post marker) call_site input.now
-        (rule_of rule.now)) }
+    ensures { IfOk result (IsTried (G.grammar grammar.now) (M.post marker) call_site
+        (group_of input.entry) (rule_of rule.now)) }
 {
     let mut log = BindingLog::new(alloc);
     let argument = input.iter().remaining();
@@ -296,17 +297,17 @@ fn recovered<A: Allocator + Copy, G: FragmentGrammar, M: Fn(Span) -> Span + Copy
     alloc: A,
     grammar: &G,
     candidate: Candidate<'_, A>,
-    input: &TopSubtree<A>,
+    input: SubtreeView<'_, A>,
     marker: M,
     call_site: Span,
 ) -> Result<ExpandResult<(TopSubtree<A>, MatchedArmIndex), A>, AllocError>
     requires may_mark { MayMark (M.pre marker) }
-    requires remains { IsRemains (G.grammar grammar.now) (M.post marker) call_site input.now
-        (rule_of candidate.rule.now) candidate.remains }
+    requires remains { IsRemains (G.grammar grammar.now) (M.post marker) call_site
+        (group_of input) (rule_of candidate.rule.now) candidate.remains }
     ensures index { IfOk result (λ r. r.value.1 ≡ arm_of candidate.entry.idx) }
     ensures recovered { IfOk result (λ r. IsRecovered (G.grammar grammar.now) call_site
-        input.now (M.post marker) (rule_of candidate.entry.rule.now) (top_group r.value.0)
-        (errors_of r.err)) }
+        (group_of input.entry) (M.post marker) (rule_of candidate.entry.rule.now)
+        (top_group r.value.0) (errors_of r.err)) }
 {
     let Candidate {
         idx,
@@ -333,16 +334,17 @@ fn unlike<A: Allocator + Copy, G: FragmentGrammar, M: Fn(Span) -> Span + Copy>(
     grammar: &G,
     rule: &Rule<A>,
     index: MatchedArmIndex,
-    input: &TopSubtree<A>,
+    input: SubtreeView<'_, A>,
     marker: M,
     call_site: Span,
 ) -> Result<ExpandResult<(TopSubtree<A>, MatchedArmIndex), A>, AllocError>
     requires may_mark { MayMark (M.pre marker) }
     requires checked { Checked (template_of rule.now.lhs) }
-    requires otherwise { begins_otherwise (template_of rule.now.lhs) input.now.1 ≡ true }
+    requires otherwise { begins_otherwise (template_of rule.now.lhs) (group_of input).1 ≡ true }
     ensures index { IfOk result (λ r. r.value.1 ≡ index) }
     ensures recovered { IfOk result (λ r. IsRecovered (G.grammar grammar.now) call_site
-        input.now (M.post marker) (rule_of rule.now) (top_group r.value.0) (errors_of r.err)) }
+        (group_of input.entry) (M.post marker) (rule_of rule.now) (top_group r.value.0)
+        (errors_of r.err)) }
 {
     let argument = input.iter().remaining();
     let spans = input.top_subtree().delimiter.delim_span();

@@ -14,15 +14,15 @@ ghost use Rattle.mbe_semantics.specs.Laws.Marking.{MayMark, MayAsk};
 
 mod equality;
 mod taking;
+mod viewing;
 mod wanting;
 
-use crate::expander::expand_rules;
 use crate::macro_call_style::MacroCallStyles;
+use crate::macros::viewing::whole;
 use bitflags::Flags;
 use mbe_errors::error::{ParseError, SyntaxFault};
 use mbe_errors::value_result::{ExpandResult, MatchedArmIndex};
-use mbe_log::log::BindingLog;
-use mbe_matcher::matching::{Verdict, match_argument};
+use mbe_matcher::matching::Verdict;
 use mbe_parser::rules::{Rule, parse_one_rule, parse_rules};
 use mbe_parser::validate::refuses_some;
 use mbe_semantics::macro_call_style::MacroCallStyle;
@@ -186,15 +186,8 @@ impl<A: Allocator + Copy> DeclarativeMacro<A> {
             (M.post marker) (macro_of self.now).rules call_style
             (top_group r.value.0) r.value.1 (errors_of r.err)) }
     {
-        expand_rules(
-            alloc,
-            grammar,
-            &self.rules,
-            tt,
-            marker,
-            call_style,
-            call_site,
-        )
+        let whole = whole(tt);
+        self.expand_view(alloc, grammar, whole, marker, call_style, call_site)
     }
 
     /// How the rule with this index reads an argument, whatever its style and its template.
@@ -225,12 +218,7 @@ impl<A: Allocator + Copy> DeclarativeMacro<A> {
         ensures explains { IfOk result (λ verdict. Explains (G.grammar grammar.now)
             (macro_of self.now).rules tt.now.1 rule (verdict_seen verdict)) }
     {
-        let mut log = BindingLog::new(alloc);
-        let argument = tt.iter().remaining();
-        let around = tt.top_subtree().delimiter.delim_span();
-        let rule = &self.rules[rule];
-        let matched = match_argument(alloc, grammar, &rule.lhs, argument, around, &mut log)?;
-        Ok(matched.verdict)
+        self.explain_view(alloc, grammar, whole(tt), rule)
     }
 }
 

@@ -1,4 +1,5 @@
 use Rattle.std.proofs.Common.{◌≤◌, ◌+◌, ◌∙◌, ap, subst, sym, Some}
+use Rattle.mbe_tt.specs.Views.View.{group_of}
 use Rattle.mbe_tt.specs.Trees.Tree.{tree_count}
 use Rattle.mbe_tt.specs.declared.span.Span.{Span}
 use Rattle.mbe_parser.specs.RuleViews.{rule_of, rules_seen}
@@ -19,15 +20,16 @@ consider-requires-clause-trees g c = c.len-trees.ensures ∙ ap tree_count (c.re
 pub loop-idx-preserved-in-OtherStyle : goal.loop-idx-preserved-in-OtherStyle
 loop-idx-preserved-in-OtherStyle g c =
     let h = g.G.FragmentGrammar.grammar c.args.grammar.now in
+    let input = group_of c.args.input in
     let rs = rules_seen c.args.rules.now in
     let r = rule_of c.index-rules-idx.result in
     let here = seen_at rule_of c.args.rules.now c.loop-idx.idx c.index-rules-idx.result c.loop-idx-test.true
     c.index-rules-idx.is in
     let other = rw c.in-OtherStyle.is at c.in_ok-come_to.ensures in
     record {
-      none = none_more h c.args.call_style c.args.input.now.1 rs c.loop-idx.idx r c.loop-idx.invariant.none here
+      none = none_more h c.args.call_style input.1 rs c.loop-idx.idx r c.loop-idx.invariant.none here
           (λ a. other a.styled);
-      nearest = so_far_skipped h c.args.call_site c.args.input.now c.args.call_style rs c.loop-idx.idx r here _
+      nearest = so_far_skipped h c.args.call_site input c.args.call_style rs c.loop-idx.idx r here _
           c.loop-idx.invariant.nearest other;
       kept = c.loop-idx.invariant.kept;
     }
@@ -35,18 +37,20 @@ loop-idx-preserved-in-OtherStyle g c =
 pub returns-in-Applies : goal.returns-in-Applies
 returns-in-Applies g c =
     let h = g.G.FragmentGrammar.grammar c.args.grammar.now in
+    let input = group_of c.args.input in
     let rs = rules_seen c.args.rules.now in
     let r = rule_of c.index-rules-idx.result in
     let here = seen_at rule_of c.args.rules.now c.loop-idx.idx c.index-rules-idx.result c.loop-idx-test.true
     c.index-rules-idx.is in
     let it = rw c.in-Applies.is at c.in_ok-come_to.ensures in
-    let first = first_at h c.args.call_style c.args.input.now.1 rs c.loop-idx.idx r it.0 c.loop-idx.invariant.none
+    let first = first_at h c.args.call_style input.1 rs c.loop-idx.idx r it.0 c.loop-idx.invariant.none
     here in
     (c.loop-idx.idx, (r, it.0, first, it.1), it.2)
 
 pub loop-idx-preserved : goal.loop-idx-preserved
 loop-idx-preserved g c =
     let h = g.G.FragmentGrammar.grammar c.args.grammar.now in
+    let input = group_of c.args.input in
     let marks = λ (s t : Span). g.M.Fn.post c.args.marker (s, tt) t in
     let rs = rules_seen c.args.rules.now in
     let r = rule_of c.index-rules-idx.result in
@@ -54,30 +58,31 @@ loop-idx-preserved g c =
     c.index-rules-idx.is in
     let it = rw c.in-Fails.is at c.in_ok-come_to.ensures in
     record {
-      none = none_more h c.args.call_style c.args.input.now.1 rs c.loop-idx.idx r c.loop-idx.invariant.none here it.1;
-      nearest = subst (λ x. IsSoFar h c.args.call_site c.args.input.now c.args.call_style rs (c.loop-idx.idx + 1)
+      none = none_more h c.args.call_style input.1 rs c.loop-idx.idx r c.loop-idx.invariant.none here it.1;
+      nearest = subst (λ x. IsSoFar h c.args.call_site input c.args.call_style rs (c.loop-idx.idx + 1)
           (Some (candidate_seen x))) (sym c.nearer.ensures)
-          (so_far_tried h c.args.call_site c.args.input.now c.args.call_style rs c.loop-idx.idx r here
+          (so_far_tried h c.args.call_site input c.args.call_style rs c.loop-idx.idx r here
           c.loop-idx.nearest _ it.5 it.2 c.loop-idx.invariant.nearest);
-      kept = subst (IsCandidate h marks c.args.call_site c.args.input.now c.args.call_style rs) (sym c.nearer.ensures)
-          (kept_tried (IsCandidate h marks c.args.call_site c.args.input.now c.args.call_style rs) c.loop-idx.nearest _
+      kept = subst (IsCandidate h marks c.args.call_site input c.args.call_style rs) (sym c.nearer.ensures)
+          (kept_tried (IsCandidate h marks c.args.call_site input c.args.call_style rs) c.loop-idx.nearest _
           c.loop-idx.invariant.kept
-          (candidate h marks c.args.call_site c.args.input.now c.args.call_style rs c.loop-idx.idx r here _ it.0 it.3
+          (candidate h marks c.args.call_site input c.args.call_style rs c.loop-idx.idx r here _ it.0 it.3
           it.4 it.5));
     }
 
 pub returns-in-Some : goal.returns-in-Some
 returns-in-Some g c =
     let h = g.G.FragmentGrammar.grammar c.args.grammar.now in
+    let input = group_of c.args.input in
     let rs = rules_seen c.args.rules.now in
-    let nobody : NoneApplies h c.args.call_style c.args.input.now.1 rs =
-    subst (NoneApplies h c.args.call_style c.args.input.now.1)
+    let nobody : NoneApplies h c.args.call_style input.1 rs =
+    subst (NoneApplies h c.args.call_style input.1)
     (all_seen rule_of c.args.rules.now c.loop-idx.idx c.loop-idx-test.false) c.loop-idx.invariant.none in
     let so_far = rw c.in-Some.is at c.loop-idx.invariant.nearest in
     let kept = rw c.in-Some.is at c.loop-idx.invariant.kept in
     let all = subst (λ n. n ≤ c.loop-idx.idx) (sym (length_seen rule_of c.args.rules.now)) c.loop-idx-test.false in (
-      λ s k a. none_contained h c.args.call_style c.args.input.now.1 rs s nobody k a,
-      nearest h c.args.call_site c.args.input.now c.args.call_style rs c.loop-idx.idx c.in-Some.candidate.idx
+      λ s k a. none_contained h c.args.call_style input.1 rs s nobody k a,
+      nearest h c.args.call_site input c.args.call_style rs c.loop-idx.idx c.in-Some.candidate.idx
           c.in-Some.candidate.nearness _ all kept.styled so_far,
       kept.remains,
     )
@@ -85,7 +90,8 @@ returns-in-Some g c =
 pub returns-in-None : goal.returns-in-None
 returns-in-None g c =
     let h = g.G.FragmentGrammar.grammar c.args.grammar.now in
+    let input = group_of c.args.input in
     let rs = rules_seen c.args.rules.now in
     let so_far = rw c.in-None.is at c.loop-idx.invariant.nearest in
     let all = subst (λ n. n ≤ c.loop-idx.idx) (sym (length_seen rule_of c.args.rules.now)) c.loop-idx-test.false in
-    no_style h c.args.call_site c.args.input.now c.args.call_style rs c.loop-idx.idx all so_far
+    no_style h c.args.call_site input c.args.call_style rs c.loop-idx.idx all so_far

@@ -1,5 +1,6 @@
 use Rattle.std.proofs.Common.{sym, ◌∙◌, refl, rules}
 use denote.Enum.Bare.{differs_true, differs_false}
+use Rattle.mbe_tt.specs.Views.View.{group_of}
 use Rattle.mbe_semantics.specs.contracts.macro_call_style.MacroCallStyle.{the_type}
 use Rattle.mbe_semantics.specs.Expansion.Expansion.{Applies}
 use Rattle.mbe_parser.specs.RuleViews.{rule_of}
@@ -13,7 +14,7 @@ returns-in-Applies g c =
     let own = differs_false the_type (search rules) _ _ (sym c.ne.ensures ∙ c.if-ne.false) in
     let tried = rw c.in-Applies.is at c.in_ok-tried.ensures in
     let r = rule_of c.args.rule.now in
-    let a : Applies (g.G.FragmentGrammar.grammar c.args.grammar.now) c.args.call_style c.args.input.now.1 r =
+    let a : Applies (g.G.FragmentGrammar.grammar c.args.grammar.now) c.args.call_style (group_of c.args.input).1 r =
     record { styled = own; items = tried.0.items; fits = tried.0.fits; faultless = tried.0.faultless } in
     (a, tried.1, c.arm_index.ensures)
 

@@ -1,5 +1,6 @@
 use Rattle.std.proofs.Common.{sym, ap, ◌∙◌, refl, is_some, true≢false}
 use Rattle.std.proofs.lemmas.Option.{none-some}
+use Rattle.mbe_tt.specs.Views.View.{group_of}
 use Rattle.mbe_parser.specs.RuleViews.{rules_seen}
 use Rattle.mbe.proofs.ChoiceLemmas.{contains_first}
 use Rattle.mbe.proofs.ClosestLemmas.{at_place, closest, ok_both}
@@ -13,11 +14,12 @@ returns-in-Expanded-clause-expands g c =
     let h = g.G.FragmentGrammar.grammar c.args.grammar.now in
     let it = rw c.in-Expanded.is at c.in_ok-choice.ensures in
     let (r, a, first, written) = it.1 in
+    let trees = (group_of c.args.input).1 in
     record {
       sound = λ _. it;
       complete = λ s k b. refl;
       recovers = λ e x s. absurd (none-some e x);
-      no_rule = λ nobody. absurd (nobody (r, contains_first h c.args.call_style c.args.input.now.1 first, a.styled));
+      no_rule = λ nobody. absurd (nobody (r, contains_first h c.args.call_style trees first, a.styled));
     }
 
 pub returns-in-Closest-clause-expands : goal.returns-in-Closest-clause-expands
@@ -31,7 +33,7 @@ returns-in-Closest-clause-expands g c =
       complete = λ s k a. absurd (it.0 s k a);
       recovers = λ e y s. (
         c.in-Closest.candidate.idx,
-        closest h c.args.call_site c.args.input.now c.args.call_style rs c.in-Closest.candidate.idx _ it.1,
+        closest h c.args.call_site (group_of c.args.input) c.args.call_style rs c.in-Closest.candidate.idx _ it.1,
         index,
       );
       no_rule = λ other. absurd (other (_, at_place rs _ _ it.1.styled.0, it.1.styled.1));

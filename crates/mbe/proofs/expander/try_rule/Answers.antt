@@ -1,5 +1,5 @@
 use Rattle.std.proofs.Common.{◌≡◌, ◌∙◌, ap, sym, refl}
-use Rattle.mbe_tt.specs.Views.View.{trees}
+use Rattle.mbe_tt.specs.Views.View.{trees, group_of}
 use Rattle.mbe_parser.specs.RuleViews.{rule_of}
 use Rattle.mbe_matcher.specs.Fronts.{begins_otherwise}
 use Rattle.mbe.proofs.TriedLemmas.{unlike_tried}
@@ -9,10 +9,10 @@ pub returns-then-begins_otherwise : goal.returns-then-begins_otherwise
 returns-then-begins_otherwise g c =
     let h = g.G.FragmentGrammar.grammar c.args.grammar.now in
     let r = rule_of c.args.rule.now in
-    let same : trees c.remaining.result ≡ c.args.input.now.1 = c.remaining.ensures ∙ c.iter.ensures in
+    let same : trees c.remaining.result ≡ (group_of c.args.input).1 = c.remaining.ensures ∙ c.iter.ensures in
     let law = g.met.G.FragmentGrammar.lawful c.args.grammar.now in
     let other = sym (ap (begins_otherwise r.reads) same)
     ∙ (sym c.begins_otherwise.ensures ∙ c.if-begins_otherwise.true) in
-    let both = unlike_tried h c.args.call_site c.args.input.now r law c.requires.checked other _ c.requires.trees
+    let both = unlike_tried h c.args.call_site (group_of c.args.input) r law c.requires.checked other _ c.requires.trees
     refl in
     (both.0, both.1, (c.requires.checked, other))

@@ -1,6 +1,6 @@
 use Rattle.std.proofs.Common.{◌≡◌, ◌∙◌, Some, ap, subst, inl, rules}
 use Rattle.mbe_tt.specs.Trees.Top.{top_group}
-use Rattle.mbe_tt.specs.Views.View.{trees}
+use Rattle.mbe_tt.specs.Views.View.{trees, group_of}
 use Rattle.mbe_tt.specs.declared.span.Span.{Span}
 use Rattle.mbe_semantics.specs.Readings.Verdict.{stuck}
 use Rattle.mbe_semantics.specs.Bindings.Account.{no_commands}
@@ -28,16 +28,16 @@ returns-clause-recovered g c =
     let r = rule_of c.args.rule.now in
     let err = error_of c.in_ok-err.err in
     let env = bound_by c.new-bound.result in
-    let same : trees c.remaining-argument.result ≡ c.args.input.now.1 =
+    let same : trees c.remaining-argument.result ≡ (group_of c.args.input).1 =
     c.remaining-argument.ensures ∙ c.iter.ensures in
-    let around : c.delim_span-spans.result ≡ spans_of c.args.input.now.0 = search rules in
-    let reported = subst (λ d. Reports h r.reads c.args.input.now.1 d (stuck 0) err no_commands) around
+    let around : c.delim_span-spans.result ≡ spans_of (group_of c.args.input).0 = search rules in
+    let reported = subst (λ d. Reports h r.reads (group_of c.args.input).1 d (stuck 0) err no_commands) around
     (subst (λ f. Reports h r.reads f c.delim_span-spans.result (stuck 0) err no_commands) same c.in_ok-err.ensures) in
     let law = g.met.G.FragmentGrammar.lawful c.args.grammar.now in
-    let fails = unlike h c.args.call_site c.args.input.now r law c.requires.checked c.requires.otherwise
+    let fails = unlike h c.args.call_site (group_of c.args.input) r law c.requires.checked c.requires.otherwise
     err env reported c.new-bound.ensures in
     both_ok c.beside_error.result (λ x. errors_of x.err ≡ Some err)
     (λ x. IsWhatIsLeft h marks c.args.call_site env r.writes (top_group x.value.0))
-    (λ x. IsRecovered h c.args.call_site c.args.input.now marks r (top_group x.value.0) (errors_of x.err))
+    (λ x. IsRecovered h c.args.call_site (group_of c.args.input) marks r (top_group x.value.0) (errors_of x.err))
     (λ x is left. record { error = err; env = env; reported = is; fails = inl fails; left = left })
     c.beside_error.ensures.err c.beside_error.ensures.left

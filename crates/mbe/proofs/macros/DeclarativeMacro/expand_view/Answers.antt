@@ -3,7 +3,7 @@ use Rattle.mbe_parser.specs.RuleViews.{rules_seen}
 use Rattle.mbe.specs.Choice.{AreChecked}
 use Rattle.mbe.specs.MacroViews.{macro_of}
 use Rattle.mbe.proofs.ClosestLemmas.{all_checked}
-use Rattle.mbe.proofs.macros.DeclarativeMacro.expand.Goals as goal
+use Rattle.mbe.proofs.macros.DeclarativeMacro.expand_view.Goals as goal
 
 pub expand_rules-requires-clause-checked : goal.expand_rules-requires-clause-checked
 expand_rules-requires-clause-checked g c =
