@@ -39,6 +39,8 @@ fn define_file(expander: &mut Expander<'_>, file: &SourceFile<'_>) -> Result<(),
     ensures defines { OnOk result (DefinesFile (setting_of expander.old).edition (suc LEVELS)
         file.now.tree (state_of expander.old).scope (state_of expander.new).scope) }
     ensures fuel { OnOk result ((state_of expander.new).fuel ≡ (state_of expander.old).fuel) }
+    ensures contexts { OnOk result ((state_of expander.new).contexts
+        ≡ (state_of expander.old).contexts) }
     ensures setting { OnOk result (setting_of expander.new ≡ setting_of expander.old) }
 {
     match &file.tree {
@@ -52,6 +54,8 @@ pub fn define_files(expander: &mut Expander<'_>, files: &[SourceFile<'_>]) -> Re
     ensures defines { OnOk result (DefinesFiles (setting_of expander.old).edition (suc LEVELS)
         (map (λ f. f.tree) files.now) (state_of expander.old).scope (state_of expander.new).scope) }
     ensures fuel { OnOk result ((state_of expander.new).fuel ≡ (state_of expander.old).fuel) }
+    ensures contexts { OnOk result ((state_of expander.new).contexts
+        ≡ (state_of expander.old).contexts) }
     ensures setting { OnOk result (setting_of expander.new ≡ setting_of expander.old) }
 {
     for file in files {

@@ -7,12 +7,8 @@ use Rattle.mbe_tt.specs.declared.span.Span.{Span}
 use Rattle.mbe_tt.specs.declared.span.SyntaxContext.{SyntaxContext}
 use Rattle.mbe_renaming.specs.declared.naming.Nesting.{Nesting}
 use Rattle.mbe_renaming.specs.Renaming.{renamed_trees}
-
--- the leaves of trees, those in groups too
-unfoldable pub leaves_in : Forest → List Leaf
-leaves_in none = []
-leaves_in (leaf l rest) = l ∷ leaves_in rest
-leaves_in (group d inside rest) = leaves_in inside ++ leaves_in rest
+use Rattle.mbe_renaming.specs.Sites.{start}
+use Rattle.mbe_renaming.specs.Steps.{Step, token, opening, closing, steps}
 
 -- ---- contexts of a definition
 
@@ -28,13 +24,18 @@ is_number_among (m ∷ ms) n = m == n || is_number_among ms n
 abbrev pub with_number : List ℕ → ℕ → List ℕ
 with_number found n = if is_number_among found n then found else found ++ (n ∷ [])
 
-abbrev pub contexts_from : List ℕ → List Leaf → List ℕ
-contexts_from found [] = found
-contexts_from found (l ∷ ls) = contexts_from (with_number found (leaf_context l)) ls
+abbrev pub with_context : List ℕ → Step → List ℕ
+with_context found (token l r) = with_number found (leaf_context l)
+with_context found (opening k span r) = found
+with_context found (closing span) = found
 
--- the contexts of the tokens of trees, each once
+abbrev pub contexts_from : List ℕ → List Step → List ℕ
+contexts_from found [] = found
+contexts_from found (x ∷ xs) = contexts_from (with_context found x) xs
+
+-- the contexts of the tokens of trees, each once, whatever group they are in
 abbrev pub contexts_in : Forest → List ℕ
-contexts_in f = contexts_from [] (leaves_in f)
+contexts_in f = contexts_from [] (steps start f)
 
 -- ---- contexts of a step
 
@@ -100,13 +101,18 @@ leaf_words (ident i) = i.sym ∷ []
 leaf_words (literal l) = []
 leaf_words (punct p) = []
 
-abbrev pub words_of : List Leaf → List (List ℕ)
-words_of [] = []
-words_of (l ∷ ls) = leaf_words l ++ words_of ls
+abbrev pub step_words : Step → List (List ℕ)
+step_words (token l r) = leaf_words l
+step_words (opening k span r) = []
+step_words (closing span) = []
 
--- the words of trees, those in groups too
+abbrev pub words_of : List Step → List (List ℕ)
+words_of [] = []
+words_of (x ∷ xs) = step_words x ++ words_of xs
+
+-- the words of trees, whatever group they are in
 abbrev pub words_in : Forest → List (List ℕ)
-words_in f = words_of (leaves_in f)
+words_in f = words_of (steps start f)
 
 -- the names that an expansion's locals mustn't have: those of what follows it, where that may see them
 abbrev pub names_beside : Forest → Forest → List (List ℕ)

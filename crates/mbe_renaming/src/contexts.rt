@@ -1,41 +1,17 @@
 // Which contexts the tokens of a step have, and with which names its locals are told apart from others.
-ghost use Rattle.std.specs.Prelude.{◌≡◌, ◌++◌, IfOk, OnOk, length, map};
+ghost use Rattle.std.specs.Prelude.{◌≡◌, ◌++◌, [], IfOk, OnOk, length, map};
 ghost use Rattle.mbe_tt.specs.Views.Shown.{leaf_of};
 ghost use Rattle.mbe_tt.specs.Views.View.{trees};
 ghost use Rattle.mbe_renaming.specs.Contexts as spec;
+ghost use Rattle.mbe_renaming.specs.Shown.{step_of};
 
 use crate::naming::Nesting;
 use crate::renaming::{Renamed, rename};
+use crate::walking::{Step, steps_of};
 use mbe_tt::span::{Span, SyntaxContext};
 use mbe_tt::symbol::Symbol;
 use mbe_tt::tt::{Leaf, TokenTreesView, TopSubtree, TtElement};
 use std::alloc::{AllocError, Allocator};
-
-// The leaves of trees, those in groups too.
-fn leaves_in<'t, A: Allocator + Copy>(
-    alloc: A,
-    tokens: TokenTreesView<'t, A>,
-) -> Result<Vec<&'t Leaf<A>, A>, AllocError>
-    ensures { IfOk result (λ v. map (λ l. leaf_of l.now) v.items
-        ≡ spec.leaves_in (trees tokens.entry)) }
-{
-    let mut found = Vec::new(alloc);
-    let mut around = Vec::new(alloc);
-    let mut iter = tokens.iter();
-    'trees: loop {
-        match iter.next() {
-            Some(TtElement::Leaf(leaf)) => found.push(leaf)?,
-            Some(TtElement::Subtree(_, inside)) => {
-                around.push(iter)?;
-                iter = inside;
-            }
-            None => match around.pop() {
-                None => return Ok(found),
-                Some(rest) => iter = rest,
-            },
-        }
-    }
-}
 
 // ---- contexts of a definition
 
@@ -69,6 +45,32 @@ fn push_number<A: Allocator>(found: &mut Vec<u32, A>, number: u32) -> Result<(),
     Ok(())
 }
 
+fn push_context<A: Allocator>(
+    found: &mut Vec<u32, A>,
+    step: Step<'_, A>,
+) -> Result<(), AllocError>
+    ensures { OnOk result (found.new.items
+        ≡ spec.with_context found.old.items (step_of step.entry)) }
+{
+    match step {
+        Step::Leaf(leaf, _) => push_number(found, leaf_context(leaf)),
+        Step::Open(..) | Step::Close(_) => Ok(()),
+    }
+}
+
+fn contexts_of<A: Allocator + Copy>(
+    alloc: A,
+    steps: &[Step<'_, A>],
+) -> Result<Vec<u32, A>, AllocError>
+    ensures { IfOk result (λ v. v.items ≡ spec.contexts_from [] (map step_of steps.now)) }
+{
+    let mut found = Vec::new(alloc);
+    for step in steps {
+        push_context(&mut found, *step)?;
+    }
+    Ok(found)
+}
+
 /// The contexts of the tokens of trees, each once.
 pub fn contexts_in<A: Allocator + Copy>(
     alloc: A,
@@ -76,12 +78,8 @@ pub fn contexts_in<A: Allocator + Copy>(
 ) -> Result<Vec<u32, A>, AllocError>
     ensures { IfOk result (λ v. v.items ≡ spec.contexts_in (trees tokens.entry)) }
 {
-    let leaves = leaves_in(alloc, tokens)?;
-    let mut found = Vec::new(alloc);
-    for leaf in &leaves {
-        push_number(&mut found, leaf_context(*leaf))?;
-    }
-    Ok(found)
+    let steps = steps_of(alloc, tokens)?;
+    contexts_of(alloc, steps.as_slice())
 }
 
 // ---- contexts of a step
@@ -211,19 +209,41 @@ fn push_word<A: Allocator>(
     Ok(())
 }
 
-// The words of trees, those in groups too.
+fn push_words<A: Allocator>(
+    words: &mut Vec<Symbol<A>, A>,
+    step: Step<'_, A>,
+) -> Result<(), AllocError>
+    ensures { OnOk result (words.new.items
+        ≡ words.old.items ++ spec.step_words (step_of step.entry)) }
+{
+    match step {
+        Step::Leaf(leaf, _) => push_word(words, leaf),
+        Step::Open(..) | Step::Close(_) => Ok(()),
+    }
+}
+
+fn words_of<A: Allocator + Copy>(
+    alloc: A,
+    steps: &[Step<'_, A>],
+) -> Result<Vec<Symbol<A>, A>, AllocError>
+    ensures { IfOk result (λ v. v.items ≡ spec.words_of (map step_of steps.now)) }
+{
+    let mut words = Vec::new(alloc);
+    for step in steps {
+        push_words(&mut words, *step)?;
+    }
+    Ok(words)
+}
+
+// The words of trees, whatever group they are in.
 fn words_in<A: Allocator + Copy>(
     alloc: A,
     tokens: TokenTreesView<'_, A>,
 ) -> Result<Vec<Symbol<A>, A>, AllocError>
     ensures { IfOk result (λ v. v.items ≡ spec.words_in (trees tokens.entry)) }
 {
-    let leaves = leaves_in(alloc, tokens)?;
-    let mut words = Vec::new(alloc);
-    for leaf in &leaves {
-        push_word(&mut words, *leaf)?;
-    }
-    Ok(words)
+    let steps = steps_of(alloc, tokens)?;
+    words_of(alloc, steps.as_slice())
 }
 
 // The names that an expansion's locals mustn't have: those of what follows it, where that may see them.

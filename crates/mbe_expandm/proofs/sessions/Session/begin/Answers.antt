@@ -42,4 +42,5 @@ returns c =
           (state_of c.define_files.new.expander).scope) scope c.in_ok-define_files.ensures.defines));
       fuel_is = c.in_ok-define_files.ensures.fuel ∙ ap (λ s. s.fuel) c.new-expander.ensures.state
           ∙ c.settings-settings.ensures.fuel;
+      contexts_are = c.in_ok-define_files.ensures.contexts ∙ ap (λ s. s.contexts) c.new-expander.ensures.state;
     }
