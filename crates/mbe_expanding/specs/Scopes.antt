@@ -46,12 +46,12 @@ pub record IsRead (edition : Edition) (d : Defined) (is_wide : Bool) (before aft
   pub read : IsReadIn edition d.form d rules
   pub definitions : after.definitions
       ≡ before.definitions ++ (record {
-    name = d.name.sym;
-    rules = rules;
-    contexts = contexts_in d.rules;
-    is_wide = is_wide;
-    place = d.name.span;
-  }) ∷ []
+        name = d.name.sym;
+        rules = rules;
+        contexts = contexts_in d.rules;
+        is_wide = is_wide;
+        place = d.name.span;
+      }) ∷ []
   pub visible : after.visible ≡ before.visible
 
 -- ---- names

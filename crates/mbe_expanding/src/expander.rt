@@ -4,7 +4,7 @@
 // it. A call of a macro that is found is replaced by its expansion, whose calls are expanded in turn, as far as the
 // settings say; any other tree stays. So the trees that come out have no call left but those of macros that no file
 // defines, those that no rule fits, and those beyond the limits; of the latter two a note says so.
-ghost use Rattle.std.specs.Prelude.{◌≡◌, [], IsSome, IfOk, OnOk, length, option_map};
+ghost use Rattle.std.specs.Prelude.{◌≡◌, ◌++◌, [], IsSome, IfOk, OnOk, length, option_map, unwrap_or};
 ghost use Rattle.std.specs.String.{string_bytes};
 ghost use Rattle.mbe_tt.specs.Views.View.{trees};
 ghost use Rattle.mbe.specs.MacroViews.{macro_of};
@@ -12,7 +12,7 @@ ghost use Rattle.mbe_calls.specs.Shown.{call_shown, defined_shown};
 ghost use Rattle.mbe_rules.specs.Lawful.{grammar_of};
 ghost use Rattle.mbe_rust_text.specs.Writing as text;
 ghost use Rattle.mbe_expanding.specs.Calls.{Allows, Applies, Tries, contexts_named, named, next_context, stepped};
-ghost use Rattle.mbe_expanding.specs.Scopes.{IsRead};
+ghost use Rattle.mbe_expanding.specs.Scopes.{IsRead, contexts_found};
 ghost use Rattle.mbe_expanding.specs.Shown.{scope_of, setting_of, state_of};
 
 mod defining;
@@ -115,9 +115,7 @@ impl<'g, A: Allocator + Copy> Expander<'g, A> {
     fn contexts_named<'s>(&'s self, call: Call<'_, A>) -> &'s [u32]
         ensures { result.now ≡ contexts_named (state_of self.now) (call_shown call.entry) }
     {
-        self.scope
-            .contexts(call.name.sym.as_str(), call.is_path)
-            .unwrap_or(&[])
+        contexts_of(&self.scope, call)
     }
 
     // The context of a step that comes next.
@@ -133,11 +131,7 @@ impl<'g, A: Allocator + Copy> Expander<'g, A> {
             ≡ stepped (call_shown call.entry) (state_of self.old)) }
         ensures setting { OnOk result (setting_of self.new ≡ setting_of self.old) }
     {
-        let contexts = self
-            .scope
-            .contexts(call.name.sym.as_str(), call.is_path)
-            .unwrap_or(&[]);
-        self.contexts.extend_from_slice(contexts)
+        push_contexts(&mut self.contexts, &self.scope, call)
     }
 
     // Whether the limits allow one more call of that name, which a note says otherwise.
@@ -255,6 +249,29 @@ impl<'g, A: Allocator + Copy> Expander<'g, A> {
         let message = format!(in self.alloc; "to `{text}`")?;
         self.note(Level::Note, call.name.span, message)
     }
+}
+
+// The contexts of the tokens of the macro that a call names.
+fn contexts_of<'s, A: Allocator + Copy>(scope: &'s Scope<A>, call: Call<'_, A>) -> &'s [u32]
+    ensures { result.now ≡ unwrap_or (contexts_found (scope_of scope.now)
+        (call_shown call.entry).name.sym (call_shown call.entry).is_path) [] }
+{
+    match scope.contexts(call.name.sym.as_str(), call.is_path) {
+        Some(contexts) => contexts,
+        None => &[],
+    }
+}
+
+fn push_contexts<A: Allocator + Copy>(
+    contexts: &mut Vec<u32, A>,
+    scope: &Scope<A>,
+    call: Call<'_, A>,
+) -> Result<(), AllocError>
+    ensures { OnOk result (contexts.new.items ≡ contexts.old.items
+        ++ unwrap_or (contexts_found (scope_of scope.now)
+        (call_shown call.entry).name.sym (call_shown call.entry).is_path) []) }
+{
+    contexts.extend_from_slice(contexts_of(scope, call))
 }
 
 // The text of these trees, with so many braces around it.

@@ -41,7 +41,11 @@ static ROWS: [Row; 13] = [
         "m!(a);",
         "0:46 `a` keeps its name, since this may be the one that a macro binds; 0:36 `a` is bound here; ",
     ),
-    ("m { ($x:expr) => { let a = 1; S { a } + $x } }", "m!(b);", ""),
+    (
+        "m { ($x:expr) => { let a = 1; S { a } + $x } }",
+        "m!(b);",
+        "",
+    ),
     ("m { ($x:expr) => { fn f(a: u8) { a } $x } }", "m!(a);", ""),
 ];
 

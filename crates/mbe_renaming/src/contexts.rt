@@ -45,10 +45,7 @@ fn push_number<A: Allocator>(found: &mut Vec<u32, A>, number: u32) -> Result<(),
     Ok(())
 }
 
-fn push_context<A: Allocator>(
-    found: &mut Vec<u32, A>,
-    step: Step<'_, A>,
-) -> Result<(), AllocError>
+fn push_context<A: Allocator>(found: &mut Vec<u32, A>, step: Step<'_, A>) -> Result<(), AllocError>
     ensures { OnOk result (found.new.items
         ≡ spec.with_context found.old.items (step_of step.entry)) }
 {
@@ -195,10 +192,7 @@ fn has_let<A: Allocator>(tokens: TokenTreesView<'_, A>) -> bool
     false
 }
 
-fn push_word<A: Allocator>(
-    words: &mut Vec<Symbol<A>, A>,
-    leaf: &Leaf<A>,
-) -> Result<(), AllocError>
+fn push_word<A: Allocator>(words: &mut Vec<Symbol<A>, A>, leaf: &Leaf<A>) -> Result<(), AllocError>
     ensures { OnOk result (words.new.items
         ≡ words.old.items ++ spec.leaf_words (leaf_of leaf.now)) }
 {
