@@ -22,7 +22,7 @@ use Rattle.mbe_semantics.specs.declared.macro_call_style.MacroCallStyle.TheVaria
 use Rattle.mbe_calls.specs.Fronts.{Call}
 use Rattle.mbe_calls.specs.Parting.{parted}
 use Rattle.mbe_semantics.specs.Expansion.Macro.{Macro}
-use Rattle.mbe_expanding.specs.Calls.{Setting, IsItself, Makes}
+use Rattle.mbe_expanding.specs.Calls.{Setting, State, Marks, Makes}
 
 -- rounds are written so where each round is
 rounds_written : (separator : Forest) (round other : ℕ → Forest → Type 0)
@@ -124,14 +124,15 @@ module _ (g : Grammar) {A B : Span → Span → Type 0} (more : (s t : Span) →
     no_rule = h.no_rule;
   }
 
--- what the rules make of an argument that was copied, with each span as it is
-pub makes : {A : Span → Span → Type 0} (e : Setting) (c : Call) (m : Macro) (buffer tree : Top) (i : Option ℕ)
-    (err is : Option ExpandError)
-    → Expands e.grammar A m.rules FnLike buffer.1 c.name.span (top_group tree) i err → ((s t : Span) → A s t → t ≡ s)
-    → buffer ≡ (c.delimiter, parted c.argument) → err ≡ is → Makes e c m tree is
-makes e c m buffer tree i err is h only b k = (
+-- what the rules make of an argument that was copied, with the marks of a step
+pub makes : {A : Span → Span → Type 0} (e : Setting) (s : State) (c : Call) (m : Macro) (buffer tree : Top)
+    (i : Option ℕ) (err is : Option ExpandError)
+    → Expands e.grammar A m.rules FnLike buffer.1 c.name.span (top_group tree) i err
+    → ((x y : Span) → A x y → Marks s c x y)
+    → buffer ≡ (c.delimiter, parted c.argument) → err ≡ is → Makes e s c m tree is
+makes e s c m buffer tree i err is h only b k = (
   i,
-  subst (λ x. Expands e.grammar IsItself m.rules FnLike (parted c.argument) c.name.span (top_group tree) i x) k
-      (subst (λ (x : Top). Expands e.grammar IsItself m.rules FnLike x.1 c.name.span (top_group tree) i err) b
+  subst (λ x. Expands e.grammar (Marks s c) m.rules FnLike (parted c.argument) c.name.span (top_group tree) i x) k
+      (subst (λ (x : Top). Expands e.grammar (Marks s c) m.rules FnLike x.1 c.name.span (top_group tree) i err) b
       (expands_so e.grammar only c.name.span m.rules FnLike buffer.1 (top_group tree) i err h)),
 )

@@ -148,17 +148,18 @@ kept_added e k levels c o s t u b now h tried n a = (
   a.2,
 )
 
-pub replaced_added : {X : Type 0} (shown : X → Part) (e k : Setting) (levels : ℕ) (left : Forest) (c : Call)
+pub replaced_added : {X : Type 0} (shown : X → Part) (e k : Setting) (levels mark : ℕ) (left : Forest) (c : Call)
     (tree : Top) (o : Option Top) (s t u : State)
-    (xs ys : List X) (x : X) → k ≡ e → Tries e c levels e.depth s t o → o ≡ Some tree
-    → IsPartOf k levels (e.depth - 1) c tree.1 t (shown x) left u → ys ≡ xs ++ x ∷ []
+    (xs ys : List X) (x : X) → k ≡ e → mark ≡ length s.contexts → Tries e c levels e.depth s t o → o ≡ Some tree
+    → IsPartOf k levels (e.depth - 1) mark c tree.1 t (shown x) left u → ys ≡ xs ++ x ∷ []
     → Adds (λ parts. PartsOfCall e levels (PartsWithin e levels) c s parts left) (map shown xs) (map shown ys) u
-replaced_added shown e k levels left c tree o s t u xs ys x h tried n p is =
-    let made = subst (Tries e c levels e.depth s t) n tried in (
+replaced_added shown e k levels mark left c tree o s t u xs ys x h m tried n p is =
+    let made = subst (Tries e c levels e.depth s t) n tried in
+    let here = subst (λ v. IsPartOf k levels (e.depth - 1) v c tree.1 t (shown x) left u) m p in (
       shown x ∷ [],
       of_replaced tree (shown x) left u made.0
-          (subst (λ v. IsPartOf e levels (e.depth - 1) c tree.1 v (shown x) left u) made.1
-          (subst (λ v. IsPartOf v levels (e.depth - 1) c tree.1 t (shown x) left u) h p)),
+          (subst (λ v. IsPartOf e levels (e.depth - 1) (length s.contexts) c tree.1 v (shown x) left u) made.1
+          (subst (λ v. IsPartOf v levels (e.depth - 1) (length s.contexts) c tree.1 t (shown x) left u) h here)),
       ap (map shown) is ∙ map-append shown xs (x ∷ []),
     )
 
@@ -171,13 +172,11 @@ parts_left e levels within c s v all left (of_replaced tree part rest u r p) = p
 -- ---- files
 
 pub of_file : (e : Setting) (levels mark : ℕ) (f : Forest) (s t u : State) (b now : List Part) → b ≡ []
-    → Adds (PartsWithin e (suc levels) f s) b now t → mark ≡ length s.scope.visible → u.scope ≡ with_left mark t.scope
-    → u.fuel ≡ t.fuel
-    → PartsOfFile e levels f s now u
-of_file e levels mark f s t u b now h a m k l =
+    → Adds (PartsWithin e (suc levels) f s) b now t → mark ≡ length s.scope.visible
+    → u ≡ record t { scope = with_left mark t.scope } → PartsOfFile e levels f s now u
+of_file e levels mark f s t u b now h a m k =
     let same : now ≡ a.0 = a.2 ∙ ap (λ x. x ++ a.0) h in (
       t,
       subst (λ x. PartsWithin e (suc levels) f s x t) (sym same) a.1,
-      ap (λ x. let v : State = record { scope = x; fuel = u.fuel } in v) (k ∙ ap (λ n. with_left n t.scope) m)
-          ∙ ap (λ x. let v : State = record { scope = with_left (length s.scope.visible) t.scope; fuel = x } in v) l,
+      k ∙ ap (λ n. let v : State = record t { scope = with_left n t.scope } in v) m,
     )

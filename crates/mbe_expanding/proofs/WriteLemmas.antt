@@ -31,16 +31,18 @@ any_ok (Err e) h = tt
 abbrev pub IsUpTo : Forest → Forest → Forest → Type 0
 IsUpTo f rest view = (kept : Forest) → f ≡ append kept rest → view ≡ kept
 
-same_state : (u s : State) (scope : Scope) → u.scope ≡ scope → u.fuel ≡ s.fuel → u ≡ record s { scope = scope }
-same_state u s scope a b = ap (λ x. let t : State = record { scope = x; fuel = u.fuel } in t) a
-    ∙ ap (λ x. let t : State = record { scope = scope; fuel = x } in t) b
+same_state : (u s : State) (scope : Scope) → u.scope ≡ scope → u.fuel ≡ s.fuel → u.contexts ≡ s.contexts
+    → u ≡ record s { scope = scope }
+same_state u s scope a b c = ap (λ x. let t : State = record u { scope = x } in t) a
+    ∙ ap (λ x. let t : State = record { scope = scope; fuel = x; contexts = u.contexts } in t) b
+    ∙ ap (λ x. let t : State = record s { scope = scope; contexts = x } in t) c
 
 pub reads_written : (e : Setting) (f view : Forest) (d : Defined) (s u : State) (read : Scope) (n : ℕ) (b now : Levels)
     → front f ≡ Definition d
     → IsRead e.edition d Text s.scope read → n ≡ length s.scope.definitions → u.scope ≡ with_shown n read
-    → u.fuel ≡ s.fuel
+    → u.fuel ≡ s.fuel → u.contexts ≡ s.contexts
     → IsUpTo f d.rest view → now ≡ put view b → Writes (Reads e f d s) b now u
-reads_written e f view d s u read n b now h r number scope fuel up w =
+reads_written e f view d s u read n b now h r number scope fuel contexts up w =
     let a = front_definition f d h in (
       a.kept,
       (
@@ -48,7 +50,7 @@ reads_written e f view d s u read n b now h r number scope fuel up w =
         read,
         r,
         same_state u s (with_shown (length s.scope.definitions) read)
-            (scope ∙ ap (λ k. with_shown k read) number) fuel,
+            (scope ∙ ap (λ k. with_shown k read) number) fuel contexts,
       ),
       w ∙ ap (λ k. put k b) (up a.kept a.is),
     )

@@ -8,7 +8,7 @@ use Rattle.mbe_tt.specs.Trees.Tree.{Forest, Tree, Leaf_tree, Group_tree, none, g
 use Rattle.mbe_tt.specs.Trees.Top.{Top}
 use Rattle.mbe_calls.specs.Fronts.{Call, Defined, Definition, ACall, Other, front}
 use Rattle.mbe_calls.specs.Beside.{is_standard}
-use Rattle.mbe_expanding.specs.Calls.{Setting, State, spent, Stays, IsReplaced}
+use Rattle.mbe_expanding.specs.Calls.{Setting, State, after_step, Stays, IsReplaced}
 use Rattle.mbe_expanding.specs.Fitting.{IsPart, IsWrapped, IsEnded, IsLeft}
 use Rattle.mbe_expanding.specs.Scopes.{Scope, IsRead, with_shown, with_left}
 use Rattle.mbe_expanding.specs.declared.scope.Reach.TheVariants.{Text}
@@ -80,7 +80,7 @@ pub data ChangesCall (e : Setting) (levels depth : ℕ) (within : ℕ → Change
       → Keeps (within depth) (is_standard c.name.sym) f c t out u
       → ChangesCall e levels depth within f c s out c.rest u
   is_replaced : (tree : Top) (out rest : Forest) (t : State) → IsReplaced e c levels depth s tree
-      → StandsFor (within (depth - 1)) c.delimiter tree.1 (spent s) out t → IsLeft c.rest rest
+      → StandsFor (within (depth - 1)) c.delimiter tree.1 (after_step c s) out t → IsLeft c.rest rest
       → ChangesCall e levels depth within f c s out rest t
 
 -- what the front becomes, with what is left after it

@@ -1,5 +1,5 @@
 -- What a call becomes, or why it stays.
-use Rattle.std.specs.Prelude.{◌≡◌, ◌≢◌, ◌⊎◌, ◌<◌, ◌-◌, ℕ, zero, Bool, true, false, Option, Some, None}
+use Rattle.std.specs.Prelude.{◌≡◌, ◌≢◌, ◌⊎◌, ◌<◌, ◌-◌, ◌+◌, ℕ, zero, Bool, true, false, List, [], ◌++◌, length, Option, Some, None, unwrap_or}
 use Rattle.mbe_tt.specs.declared.span.Edition.{Edition}
 use Rattle.mbe_tt.specs.declared.span.Span.{Span}
 use Rattle.mbe_tt.specs.Fragments.Grammar.{Grammar}
@@ -9,7 +9,8 @@ use Rattle.mbe_semantics.specs.Expansion.Error.{ExpandError}
 use Rattle.mbe_semantics.specs.declared.macro_call_style.MacroCallStyle.TheVariants.{FnLike}
 use Rattle.mbe_calls.specs.Fronts.{Call}
 use Rattle.mbe_calls.specs.Parting.{parted}
-use Rattle.mbe_expanding.specs.Scopes.{Scope, rules_found}
+use Rattle.mbe_renaming.specs.Contexts.{marked, numbered}
+use Rattle.mbe_expanding.specs.Scopes.{Scope, rules_found, contexts_found}
 
 -- what stays the same on the way: the grammar of fragments, the edition that definitions are read in, and how deep
 -- expansions
@@ -19,27 +20,45 @@ pub record Setting : Type 0 where
   pub edition : Edition
   pub depth : ℕ
 
--- what changes: the definitions, and how many calls may still be expanded
+-- What changes: the definitions, how many calls may still be expanded, and which contexts the tokens of steps have: for
+-- each, beginning with context 1, that of the macro's token. Tokens of files have context 0.
 pub record State : Type 0 where
   pub scope : Scope
   pub fuel : ℕ
+  pub contexts : List ℕ
 
 -- one call less may be expanded
 abbrev pub spent : State → State
 spent s = record s { fuel = s.fuel - 1 }
 
--- tokens of a definition keep their spans
-abbrev pub IsItself : Span → Span → Type 0
-IsItself span marked = marked ≡ span
-
 -- the macro that a call names
 abbrev pub named : State → Call → Option Macro
 named s c = rules_found s.scope c.name.sym c.is_path
 
+-- the contexts of that macro's tokens
+abbrev pub contexts_named : State → Call → List ℕ
+contexts_named s c = unwrap_or (contexts_found s.scope c.name.sym c.is_path) []
+
+-- the context of a step that comes next
+abbrev pub next_context : State → ℕ
+next_context s = numbered (length s.contexts + 1)
+
+-- Tokens of a macro keep their spans but for their contexts, of which each gets one of the step's own.
+abbrev pub Marks : State → Call → Span → Span → Type 0
+Marks s c span out = out ≡ marked (next_context s) (contexts_named s c) span
+
+-- the step of that call has its contexts
+abbrev pub stepped : Call → State → State
+stepped c s = record s { contexts = s.contexts ++ contexts_named s c }
+
+-- a step was made: one call less may be expanded
+abbrev pub after_step : Call → State → State
+after_step c s = stepped c (spent s)
+
 -- what the rules make of a call's argument, whose operators are those of its texts
-abbrev pub Makes : Setting → Call → Macro → Top → Option ExpandError → Type 0
-Makes e c m tree err = (index : Option ℕ)
-    × Expands e.grammar IsItself m.rules FnLike (parted c.argument) c.name.span (top_group tree) index err
+abbrev pub Makes : Setting → State → Call → Macro → Top → Option ExpandError → Type 0
+Makes e s c m tree err = (index : Option ℕ)
+    × Expands e.grammar (Marks s c) m.rules FnLike (parted c.argument) c.name.span (top_group tree) index err
 
 -- whether the limits allow one call more, so deep in others
 abbrev pub Allows : ℕ → State → State → Bool → Type 0
@@ -49,7 +68,7 @@ Allows depth s t false = ((depth ≡ 0) ⊎ (s.fuel ≡ 0)) × (t ≡ s)
 -- the macro that a call names has a fault, or no rule of it applies
 pub data Refuses (e : Setting) (c : Call) (s : State) : Type 0 where
   by_definition : (m : Macro) → named s c ≡ Some m → m.err ≢ None → Refuses e c s
-  by_rules : (m : Macro) (tree : Top) (err : ExpandError) → named s c ≡ Some m → Makes e c m tree (Some err)
+  by_rules : (m : Macro) (tree : Top) (err : ExpandError) → named s c ≡ Some m → Makes e s c m tree (Some err)
       → Refuses e c s
 
 -- Why a call stays: it is in too many groups and calls, no macro is found, a limit is reached, or it is refused.
@@ -64,17 +83,18 @@ pub record IsReplaced (e : Setting) (c : Call) (levels depth : ℕ) (s : State) 
   pub rules : Macro
   pub found : named s c ≡ Some rules
   pub faultless : rules.err ≡ None
-  pub makes : Makes e c rules tree None
+  pub makes : Makes e s c rules tree None
   pub level_left : 0 < levels
   pub depth_left : 0 < depth
   pub fuel_left : 0 < s.fuel
 
 -- what comes of the rules that a call names: their tree, or nothing where they refuse it
-abbrev pub Applies : Setting → Call → State → Option Top → Type 0
-Applies e c s None = Refuses e c s
-Applies e c s (Some tree) = (m : Macro) × (named s c ≡ Some m) × (m.err ≡ None) × Makes e c m tree None
+abbrev pub Applies : Setting → Call → State → State → Option Top → Type 0
+Applies e c s t None = Refuses e c s × (t ≡ s)
+Applies e c s t (Some tree) =
+    (m : Macro) × (named s c ≡ Some m) × (m.err ≡ None) × Makes e s c m tree None × (t ≡ stepped c s)
 
 -- the tree that is to replace a call, or nothing where the call stays
 abbrev pub Tries : Setting → Call → ℕ → ℕ → State → State → Option Top → Type 0
 Tries e c levels depth s t None = Stays e c depth s levels t
-Tries e c levels depth s t (Some tree) = IsReplaced e c levels depth s tree × (t ≡ spent s)
+Tries e c levels depth s t (Some tree) = IsReplaced e c levels depth s tree × (t ≡ after_step c s)

@@ -12,8 +12,9 @@ use Rattle.mbe_calls.specs.Fronts.{Call, Defined, Definition, ACall, Other, fron
 use Rattle.mbe_calls.specs.Splicing.{Part, spliced}
 use Rattle.mbe_rust_text.specs.Writing.{text_of}
 use Rattle.mbe_expanding.specs.Becoming.{Becomes, StandsFor, after_group}
-use Rattle.mbe_expanding.specs.Calls.{Setting, State, Stays, IsReplaced, spent}
+use Rattle.mbe_expanding.specs.Calls.{Setting, State, Stays, IsReplaced, after_step}
 use Rattle.mbe_expanding.specs.Fitting.{IsLeft}
+use Rattle.mbe_renaming.specs.Contexts.{told_apart}
 use Rattle.mbe_expanding.specs.Scopes.{Scope, Definition as AMacro, placed, with_shown, with_left}
 
 -- ---- definitions of the file, which were read before
@@ -72,13 +73,13 @@ last_span c left =
     else c.delimiter.close
 
 -- What replaces the bytes of a call: the text of what the tree becomes that the rules made, fitted to what is
--- beside it.
-pub record IsPartOf (e : Setting) (levels depth : ℕ) (c : Call) (tree : Forest) (s : State) (part : Part)
+-- beside it, with its locals told apart. Contexts up to the mark are of earlier calls.
+pub record IsPartOf (e : Setting) (levels depth mark : ℕ) (c : Call) (tree : Forest) (s : State) (part : Part)
     (left : Forest) (t : State) : Type 0 where
   pub out : Forest
   pub placed : StandsFor (Becomes e levels depth) c.delimiter tree s out t
   pub indentation : ℕ
-  pub written : part.text ≡ text_of indentation out
+  pub written : part.text ≡ text_of indentation (told_apart t.contexts mark left out)
   pub leaves : IsLeft c.rest left
   pub in_file : part.file ≡ c.start.file
   pub starts : part.start ≡ c.start.start
@@ -91,7 +92,7 @@ pub data PartsOfCall (e : Setting) (levels : ℕ) (within : Parts) (c : Call) (s
       → PartsOfArgument within (is_standard c.name.sym) c.argument t parts u
       → PartsOfCall e levels within c s parts c.rest u
   of_replaced : (tree : Top) (part : Part) (left : Forest) (t : State) → IsReplaced e c levels e.depth s tree
-      → IsPartOf e levels (e.depth - 1) c tree.1 (spent s) part left t
+      → IsPartOf e levels (e.depth - 1) (length s.contexts) c tree.1 (after_step c s) part left t
       → PartsOfCall e levels within c s (part ∷ []) left t
 
 -- the parts of the front, with what is left after it
@@ -150,7 +151,8 @@ pub record IsOfCall (e : Setting) (whole : Forest) (part : Part) : Type 0 where
   pub tree : Top
   pub left : Forest
   pub is_replaced : IsReplaced e call levels e.depth before tree
-  pub is_part : IsPartOf e levels (e.depth - 1) call tree.1 (spent before) part left after
+  pub is_part :
+      IsPartOf e levels (e.depth - 1) (length before.contexts) call tree.1 (after_step call before) part left after
 
 -- none of these definitions has that name
 abbrev pub NoneHas : List ℕ → List AMacro → Type 0

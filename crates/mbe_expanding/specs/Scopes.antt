@@ -8,13 +8,15 @@ use Rattle.mbe_tt.specs.declared.span.SyntaxContext.{SyntaxContext}
 use Rattle.mbe_semantics.specs.Expansion.Macro.{Macro}
 use Rattle.mbe_semantics.specs.Expansion.ReadAs.{IsReadAs, IsReadAsMacro}
 use Rattle.mbe_calls.specs.Fronts.{Form, Rules, Body, Arguments, Defined}
+use Rattle.mbe_renaming.specs.Contexts.{contexts_in}
 use Rattle.mbe_expanding.specs.declared.scope.Reach.{Reach}
 use Rattle.mbe_expanding.specs.declared.scope.Reach.TheVariants.{Text, Files, Paths}
 
--- a macro that was read: its name, what it says, what finds it, and where its name is
+-- a macro that was read: its name, what it says, the contexts of its tokens, what finds it, and where its name is
 pub record Definition : Type 0 where
   pub name : List ℕ
   pub rules : Macro
+  pub contexts : List ℕ
   pub reach : Reach
   pub place : Span
 
@@ -44,7 +46,13 @@ pub record IsRead (edition : Edition) (d : Defined) (reach : Reach) (before afte
   pub rules : Macro
   pub read : IsReadIn edition d.form d rules
   pub definitions : after.definitions
-      ≡ before.definitions ++ (record { name = d.name.sym; rules = rules; reach = reach; place = d.name.span }) ∷ []
+      ≡ before.definitions ++ (record {
+        name = d.name.sym;
+        rules = rules;
+        contexts = contexts_in d.rules;
+        reach = reach;
+        place = d.name.span;
+      }) ∷ []
   pub visible : after.visible ≡ before.visible
 
 -- ---- names
@@ -98,6 +106,11 @@ or_wide s name (Some n) = Some n
 abbrev pub lookup : Scope → List ℕ → Bool → Option ℕ
 lookup s name true = wide s Paths name
 lookup s name false = or_wide s name (near s name)
+
+-- the contexts of the tokens of the macro that a call names
+abbrev pub contexts_found : Scope → List ℕ → Bool → Option (List ℕ)
+contexts_found s name is_path =
+    option_map (λ d. d.contexts) (option_and_then (definition_at s) (lookup s name is_path))
 
 -- what the macro that a call names says
 abbrev pub rules_found : Scope → List ℕ → Bool → Option Macro

@@ -1,6 +1,6 @@
-// Names that an expansion's text brings together, though hygiene keeps them apart: one that the macro binds, and one of the call's argument
-// that is where the first is bound, or the other way round. Which of the two a token is of is seen by its place: the argument's
-// tokens keep theirs. What isn't sure to be a binding or a use is passed over.
+// Names that an expansion's text brings together, though hygiene keeps them apart: one that the call's argument binds, and one of the
+// macro that is where the first is bound. (What the macro binds is told apart by its name.) Which of the two a token is of is seen
+// by its place: the argument's tokens keep theirs. What isn't sure to be a binding or a use is passed over.
 ghost use Rattle.std.specs.Prelude.{◌≡◌, OnOk};
 ghost use Rattle.mbe_expanding.specs.Shown.{setting_of, state_of};
 
@@ -25,14 +25,12 @@ pub(crate) enum Token<'t, A: Allocator> {
     Literal,
 }
 
-// A name that is bound, and where another text uses it.
+// A name that the argument binds, and where the macro uses it.
 #[derive(Drop)]
 #[derive_where(Clone, Copy)]
 struct Capture<'t, A: Allocator> {
     name: &'t Ident<A>,
     used: Span,
-    // Whether it is the call's argument that binds the name.
-    is_by_call: bool,
 }
 
 // The tokens of trees, one after another.
@@ -80,14 +78,13 @@ fn is_own<A: Allocator>(places: &[u64], name: &Ident<A>) -> bool {
     places.binary_search(&place_of(name.span)).is_ok()
 }
 
-// The first use of a name where it is bound, if it is of the other text than the binding.
+// The first use of a name where the argument binds it, if the macro uses it there.
 fn use_of<A: Allocator>(
     tokens: &[Token<'_, A>],
     places: &[u64],
     binding: Binding,
     name: &Ident<A>,
 ) -> Option<Span> {
-    let is_by_call = is_own(places, name);
     for at in binding.scope_from..scope_end(tokens, binding) {
         if let Some(Token::Name(found)) = tokens.get(at)
             && found.sym.as_str() == name.sym.as_str()
@@ -95,7 +92,7 @@ fn use_of<A: Allocator>(
             if is_rebound(tokens, at) {
                 return None;
             }
-            if is_own(places, found) != is_by_call && is_used(tokens, at) {
+            if !is_own(places, found) && is_used(tokens, at) {
                 return Some(found.span);
             }
         }
@@ -103,17 +100,16 @@ fn use_of<A: Allocator>(
     None
 }
 
-// The names of the argument, or those of the macro, in the order of their letters.
+// The names of the macro, in the order of their letters.
 fn names_of<'t, A: Allocator + Copy>(
     alloc: A,
     tokens: &[Token<'t, A>],
     places: &[u64],
-    are_own: bool,
 ) -> Result<Vec<&'t str, A>, AllocError> {
     let mut names = Vec::new(alloc);
     for token in tokens {
         if let Token::Name(name) = token
-            && is_own(places, name) == are_own
+            && !is_own(places, name)
         {
             names.push(name.sym.as_str())?;
         }
@@ -122,26 +118,21 @@ fn names_of<'t, A: Allocator + Copy>(
     Ok(names)
 }
 
-// The tokens of an expansion; the places of the names of its argument; and the names of the argument and of the macro.
+// The tokens of an expansion; the places of the names of its argument; and the names of the macro.
 #[derive(Drop)]
 struct Texts<'t, A: Allocator> {
     tokens: Vec<Token<'t, A>, A>,
     places: Vec<u64, A>,
-    own: Vec<&'t str, A>,
-    others: Vec<&'t str, A>,
+    names: Vec<&'t str, A>,
 }
 
-// Whether the other text has a name like this one.
+// Whether a name is of the argument, and the macro has one like it.
 fn is_shared<A: Allocator>(texts: &Texts<'_, A>, name: &Ident<A>) -> bool {
-    let others = if is_own(texts.places.as_slice(), name) {
-        texts.others.as_slice()
-    } else {
-        texts.own.as_slice()
-    };
-    others.binary_search(&name.sym.as_str()).is_ok()
+    let names = texts.names.as_slice();
+    is_own(texts.places.as_slice(), name) && names.binary_search(&name.sym.as_str()).is_ok()
 }
 
-// Adds the names that a pattern binds and the other text uses.
+// Adds the names of the argument that a pattern binds and the macro uses.
 fn add_captures<'t, A: Allocator>(
     captures: &mut Vec<Capture<'t, A>, A>,
     texts: &Texts<'t, A>,
@@ -155,11 +146,7 @@ fn add_captures<'t, A: Allocator>(
             && is_shared(texts, name)
             && let Some(used) = use_of(tokens, places, binding, name)
         {
-            captures.push(Capture {
-                name,
-                used,
-                is_by_call: is_own(places, name),
-            })?;
+            captures.push(Capture { name, used })?;
         }
     }
     Ok(())
@@ -173,12 +160,11 @@ fn note_capture<A: Allocator + Copy>(
     capture: Capture<'_, A>,
 ) -> Result<(), AllocError> {
     let name = capture.name.sym.as_str();
-    let binder = if capture.is_by_call { "call" } else { "macro" };
     notes.push(Note {
         level: Level::Note,
         span: capture.used,
         message: format!(in alloc;
-            "in the expansion of `{called}!` this `{name}` is the one that the {binder} binds"
+            "in the expansion of `{called}!` this `{name}` is the one that the call binds"
         )?,
     })?;
     notes.push(Note {
@@ -189,7 +175,7 @@ fn note_capture<A: Allocator + Copy>(
     Ok(())
 }
 
-// Notes the names of the expansion of a call that are bound by one of two texts, the macro and the argument, and used by the other.
+// Notes the names that the argument of a call binds and the macro uses.
 fn note_all<A: Allocator + Copy>(
     alloc: A,
     notes: &mut Vec<Note<A>, A>,
@@ -198,13 +184,11 @@ fn note_all<A: Allocator + Copy>(
 ) -> Result<(), AllocError> {
     let tokens = tokens_of(alloc, tree.iter().remaining())?;
     let places = places_of(alloc, call.argument)?;
-    let own = names_of(alloc, tokens.as_slice(), places.as_slice(), true)?;
-    let others = names_of(alloc, tokens.as_slice(), places.as_slice(), false)?;
+    let names = names_of(alloc, tokens.as_slice(), places.as_slice())?;
     let texts = Texts {
         tokens,
         places,
-        own,
-        others,
+        names,
     };
     let mut captures = Vec::new(alloc);
     for at in 0..texts.tokens.len() {

@@ -4,15 +4,15 @@
 // it. A call of a macro that is found is replaced by its expansion, whose calls are expanded in turn, as far as the
 // settings say; any other tree stays. So the trees that come out have no call left but those of macros that no file
 // defines, those that no rule fits, and those beyond the limits; of the latter two a note says so.
-ghost use Rattle.std.specs.Prelude.{◌≡◌, [], IsSome, IfOk, OnOk, length, option_map};
+ghost use Rattle.std.specs.Prelude.{◌≡◌, ◌++◌, [], IsSome, IfOk, OnOk, length, option_map, unwrap_or};
 ghost use Rattle.std.specs.String.{string_bytes};
 ghost use Rattle.mbe_tt.specs.Views.View.{trees};
 ghost use Rattle.mbe.specs.MacroViews.{macro_of};
 ghost use Rattle.mbe_calls.specs.Shown.{call_shown, defined_shown};
 ghost use Rattle.mbe_rules.specs.Lawful.{grammar_of};
 ghost use Rattle.mbe_rust_text.specs.Writing as text;
-ghost use Rattle.mbe_expanding.specs.Calls.{Allows, Applies, Tries, named};
-ghost use Rattle.mbe_expanding.specs.Scopes.{IsRead};
+ghost use Rattle.mbe_expanding.specs.Calls.{Allows, Applies, Tries, contexts_named, named, next_context, stepped};
+ghost use Rattle.mbe_expanding.specs.Scopes.{IsRead, contexts_found};
 ghost use Rattle.mbe_expanding.specs.Shown.{scope_of, setting_of, state_of};
 
 mod defining;
@@ -25,6 +25,7 @@ use crate::settings::Settings;
 use mbe::{DeclarativeMacro, ExpandError, MacroCallStyle, ValueResult};
 use mbe_calls::calls::{Call, Defined};
 use mbe_calls::parting::parted_buffer;
+use mbe_renaming::contexts::{marked, numbered};
 use mbe_rules::table::RuleTable;
 use mbe_rust_text::writing::Writer;
 use mbe_tt::span::Span;
@@ -43,6 +44,8 @@ pub struct Expander<'g, A: Allocator + Copy = Global> {
     scope: Scope<A>,
     // How many calls may still be expanded.
     fuel: u32,
+    // For each context of a step's tokens, beginning with 1, that of the macro's token.
+    contexts: Vec<u32, A>,
     pub notes: Vec<Note<A>, A>,
 }
 
@@ -57,6 +60,7 @@ impl<'g, A: Allocator + Copy> Expander<'g, A> {
         ensures state { state_of result ≡ record {
           scope = record { definitions = []; visible = [] };
           fuel = settings.fuel;
+          contexts = [];
         } }
     {
         Expander {
@@ -65,6 +69,7 @@ impl<'g, A: Allocator + Copy> Expander<'g, A> {
             grammar,
             scope: Scope::new(alloc, settings.edition),
             fuel: settings.fuel,
+            contexts: Vec::new(alloc),
             notes: Vec::new(alloc),
         }
     }
@@ -89,6 +94,7 @@ impl<'g, A: Allocator + Copy> Expander<'g, A> {
         ensures number { IfOk result (λ n. n ≡ length (scope_of self.old.scope).definitions) }
         ensures setting { OnOk result (setting_of self.new ≡ setting_of self.old) }
         ensures fuel { OnOk result (self.new.fuel ≡ self.old.fuel) }
+        ensures contexts { OnOk result (self.new.contexts.items ≡ self.old.contexts.items) }
     {
         let (number, fault) = self.scope.read(defined, reach)?;
         if let Some(message) = fault {
@@ -103,6 +109,29 @@ impl<'g, A: Allocator + Copy> Expander<'g, A> {
             ≡ named (state_of self.now) (call_shown call.entry) }
     {
         self.scope.find(call.name.sym.as_str(), call.is_path)
+    }
+
+    // The contexts of the tokens of the macro that a call names.
+    fn contexts_named<'s>(&'s self, call: Call<'_, A>) -> &'s [u32]
+        ensures { result.now ≡ contexts_named (state_of self.now) (call_shown call.entry) }
+    {
+        contexts_of(&self.scope, call)
+    }
+
+    // The context of a step that comes next.
+    fn next_context(&self) -> u32
+        ensures { result ≡ next_context (state_of self.now) }
+    {
+        numbered(self.contexts.len() + 1)
+    }
+
+    // The step of a call has its contexts.
+    fn add_contexts(&mut self, call: Call<'_, A>) -> Result<(), AllocError>
+        ensures state { OnOk result (state_of self.new
+            ≡ stepped (call_shown call.entry) (state_of self.old)) }
+        ensures setting { OnOk result (setting_of self.new ≡ setting_of self.old) }
+    {
+        push_contexts(&mut self.contexts, &self.scope, call)
     }
 
     // Whether the limits allow one more call of that name, which a note says otherwise.
@@ -159,9 +188,8 @@ impl<'g, A: Allocator + Copy> Expander<'g, A> {
     fn applied(&mut self, call: Call<'_, A>) -> Result<Option<TopSubtree<A>>, AllocError>
         requires found { IsSome (named (state_of self.old) (call_shown call)) }
         ensures applies { IfOk result (Applies (setting_of self.old) (call_shown call.entry)
-            (state_of self.old)) }
+            (state_of self.old) (state_of self.new)) }
         ensures setting { OnOk result (setting_of self.new ≡ setting_of self.old) }
-        ensures state { OnOk result (state_of self.new ≡ state_of self.old) }
     {
         let Some(rules) = self.rules(call) else {
             return Ok(None);
@@ -170,11 +198,13 @@ impl<'g, A: Allocator + Copy> Expander<'g, A> {
             return Ok(None);
         }
         let argument = parted_buffer(self.alloc, call.group.delimiter, call.argument)?;
+        let contexts = self.contexts_named(call);
+        let next = self.next_context();
         let ValueResult { value, err } = rules.expand(
             self.alloc,
             &self.grammar,
             &argument,
-            |span| span,
+            move |span: Span| marked(next, contexts, span),
             MacroCallStyle::FnLike,
             call.name.span,
         )?;
@@ -188,6 +218,7 @@ impl<'g, A: Allocator + Copy> Expander<'g, A> {
         self.note_origins(call, &tree)?;
         self.note_captures(call, &tree)?;
         self.explain(call, &argument, true)?;
+        self.add_contexts(call)?;
         Ok(Some(tree))
     }
 
@@ -218,6 +249,29 @@ impl<'g, A: Allocator + Copy> Expander<'g, A> {
         let message = format!(in self.alloc; "to `{text}`")?;
         self.note(Level::Note, call.name.span, message)
     }
+}
+
+// The contexts of the tokens of the macro that a call names.
+fn contexts_of<'s, A: Allocator + Copy>(scope: &'s Scope<A>, call: Call<'_, A>) -> &'s [u32]
+    ensures { result.now ≡ unwrap_or (contexts_found (scope_of scope.now)
+        (call_shown call.entry).name.sym (call_shown call.entry).is_path) [] }
+{
+    match scope.contexts(call.name.sym.as_str(), call.is_path) {
+        Some(contexts) => contexts,
+        None => &[],
+    }
+}
+
+fn push_contexts<A: Allocator + Copy>(
+    contexts: &mut Vec<u32, A>,
+    scope: &Scope<A>,
+    call: Call<'_, A>,
+) -> Result<(), AllocError>
+    ensures { OnOk result (contexts.new.items ≡ contexts.old.items
+        ++ unwrap_or (contexts_found (scope_of scope.now)
+        (call_shown call.entry).name.sym (call_shown call.entry).is_path) []) }
+{
+    contexts.extend_from_slice(contexts_of(scope, call))
 }
 
 // The text of these trees, with so many braces around it.

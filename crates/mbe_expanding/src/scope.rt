@@ -13,6 +13,7 @@ ghost use Rattle.mbe_expanding.specs.declared.scope.Reach.TheVariants.{Text};
 
 use mbe::DeclarativeMacro;
 use mbe_calls::calls::{Defined, Form};
+use mbe_renaming::contexts::contexts_in;
 use mbe_tt::span::{Edition, Span};
 use mbe_tt::tt::{Delimiter, TokenTreesView, TopSubtree, TopSubtreeBuilder};
 use std::alloc::{AllocError, Allocator, Global};
@@ -46,6 +47,8 @@ impl Reach {
 pub struct Definition<A: Allocator = Global> {
     name: String<A>,
     rules: DeclarativeMacro<A>,
+    // The contexts of its tokens, each once.
+    contexts: Vec<u32, A>,
     // What finds it.
     reach: Reach,
     // Where its name is.
@@ -170,6 +173,7 @@ impl<A: Allocator + Copy> Scope<A> {
         self.definitions.push(Definition {
             name,
             rules,
+            contexts: contexts_in(self.alloc, defined.rules)?,
             reach,
             place: defined.name.span,
         })?;
@@ -294,6 +298,15 @@ impl<A: Allocator + Copy> Scope<A> {
             Some(number) => Some(number),
             None => self.wide(name, Reach::Files),
         }
+    }
+
+    /// The contexts of the tokens of the macro that a call names.
+    pub fn contexts<'s>(&'s self, name: &str, is_path: bool) -> Option<&'s [u32]>
+        ensures { option_map (λ c. c.now) result
+            ≡ spec.contexts_found (scope_of self.now) name.now is_path }
+    {
+        let number = self.lookup(name, is_path)?;
+        Some(self.definition(number)?.contexts.as_slice())
     }
 
     /// What the macro that a call names says.

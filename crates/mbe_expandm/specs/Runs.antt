@@ -42,6 +42,7 @@ pub record IsBegun (edition : Edition) (c : Conditions) (depth : Option ℕ) (fu
   pub depth_is : e.depth ≡ unwrap_or (option_or depth limit) 128
   pub defines : DefinesCrates edition 1001 follows files (record { definitions = []; visible = [] }) given s.scope
   pub fuel_is : s.fuel ≡ fuel
+  pub contexts_are : s.contexts ≡ []
 
 -- What is printed of files, of which so many are given, and the others are those of their modules: what the last one
 -- that is given becomes.

@@ -83,6 +83,8 @@ fn define_tree(expander: &mut Expander<'_>, tree: &TopSubtree) -> Result<(), All
     ensures defines { OnOk result (Defines (setting_of expander.old).edition (suc LEVELS) true
         tree.now.1 (state_of expander.old).scope (state_of expander.new).scope) }
     ensures fuel { OnOk result ((state_of expander.new).fuel ≡ (state_of expander.old).fuel) }
+    ensures contexts { OnOk result ((state_of expander.new).contexts
+        ≡ (state_of expander.old).contexts) }
     ensures setting { OnOk result (setting_of expander.new ≡ setting_of expander.old) }
 {
     expander.define(tree.iter().remaining())
@@ -102,6 +104,8 @@ fn define_root(
         (crate_of follows (map source_of files.now) number (source_of root.now))
         (state_of expander.old).scope (state_of expander.new).scope) }
     ensures fuel { OnOk result ((state_of expander.new).fuel ≡ (state_of expander.old).fuel) }
+    ensures contexts { OnOk result ((state_of expander.new).contexts
+        ≡ (state_of expander.old).contexts) }
     ensures setting { OnOk result (setting_of expander.new ≡ setting_of expander.old) }
 {
     let Some(tree) = &root.tree else {
@@ -127,6 +131,8 @@ fn define_crate(
         (crate_at follows (map source_of files.now) number)
         (state_of expander.old).scope (state_of expander.new).scope) }
     ensures fuel { OnOk result ((state_of expander.new).fuel ≡ (state_of expander.old).fuel) }
+    ensures contexts { OnOk result ((state_of expander.new).contexts
+        ≡ (state_of expander.old).contexts) }
     ensures setting { OnOk result (setting_of expander.new ≡ setting_of expander.old) }
 {
     match files.get(number) {
@@ -147,6 +153,8 @@ pub fn define_crates(
         follows (map source_of files.now) (state_of expander.old).scope given
         (state_of expander.new).scope) }
     ensures fuel { OnOk result ((state_of expander.new).fuel ≡ (state_of expander.old).fuel) }
+    ensures contexts { OnOk result ((state_of expander.new).contexts
+        ≡ (state_of expander.old).contexts) }
     ensures setting { OnOk result (setting_of expander.new ≡ setting_of expander.old) }
 {
     for number in 0..given {

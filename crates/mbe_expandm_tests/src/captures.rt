@@ -1,64 +1,52 @@
-// Names that hygiene keeps apart and text doesn't. Which ones these are was worked out by the rules of hygiene.
+// Names that hygiene keeps apart. Which ones these are was worked out by the rules of hygiene.
 use crate::runs::none;
-use crate::texts::{Row, defined, noted};
+use crate::texts::{Row, defined, first_unlike, noted};
 use std::alloc::{AllocError, Global};
 
 // A definition, a call of it, and the notes: each with the byte of the call's line, or of the definition's (from 0), where it is.
-static ROWS: [Row; 18] = [
-    (
-        "m { ($x:expr) => { let a = 1; a + $x } }",
-        "m!(a);",
-        "1:3 this `a` is the one that the macro binds; 0:36 `a` is bound here; ",
-    ),
+static ROWS: [Row; 13] = [
     (
         "m { ($x:ident) => { let $x = 1; a + $x } }",
         "m!(a);",
         "0:45 this `a` is the one that the call binds; 1:3 `a` is bound here; ",
     ),
-    ("m { ($x:expr) => { let a = $x; a } }", "m!(a);", ""),
-    ("m { ($x:expr) => { let b = 1; b + $x } }", "m!(a);", ""),
+    ("m { ($x:expr) => { let a = 1; a + $x } }", "m!(a);", ""),
     ("m { ($x:ident) => { let $x = 1; $x } }", "m!(a);", ""),
-    ("m { ($x:ident) => { let a = 1; s.$x } }", "m!(a);", ""),
     ("m { ($x:ident) => { let a = 1; $x::b } }", "m!(a);", ""),
     (
         "m { ($x:ident) => { let a = 1; let $x = 2; $x } }",
         "m!(a);",
         "",
     ),
-    ("m { ($x:ident) => { { let a = 1; } $x } }", "m!(a);", ""),
-    ("m { ($x:expr) => { if let A = b {} $x } }", "m!(A);", ""),
+    ("m { ($x:ident) => { { let $x = 1; } a } }", "m!(a);", ""),
     (
-        "m { ($x:expr) => { f(|a| $x) } }",
+        "m { ($x:pat) => { f(|$x| a) } }",
         "m!(a);",
-        "1:3 this `a` is the one that the macro binds; 0:35 `a` is bound here; ",
+        "0:38 this `a` is the one that the call binds; 1:3 `a` is bound here; ",
     ),
     (
-        "m { ($x:expr) => { match b { Some(a) if c => $x, _ => d } } }",
+        "m { ($x:pat) => { match b { $x if c => a, _ => d } } }",
+        "m!(Some(a));",
+        "0:52 this `a` is the one that the call binds; 1:8 `a` is bound here; ",
+    ),
+    ("m { ($x:pat) => { for $x in a { b } } }", "m!(a);", ""),
+    // What may be the macro's local, and may be none.
+    (
+        "m { ($x:expr) => { let a = 1; S { a } + $x } }",
         "m!(a);",
-        "1:3 this `a` is the one that the macro binds; 0:47 `a` is bound here; ",
+        "0:47 `a` keeps its name, since this may be the one that a macro binds; 0:36 `a` is bound here; ",
     ),
     (
-        "m { ($x:expr) => { if let Some(a) = b { $x } } }",
+        "m { ($x:expr) => { let a = 1; f!(\"{a}\", $x) } }",
         "m!(a);",
-        "1:3 this `a` is the one that the macro binds; 0:44 `a` is bound here; ",
+        "0:46 `a` keeps its name, since this may be the one that a macro binds; 0:36 `a` is bound here; ",
     ),
     (
-        "m { ($x:expr) => { while let a = b { $x } } }",
-        "m!(a);",
-        "1:3 this `a` is the one that the macro binds; 0:42 `a` is bound here; ",
-    ),
-    (
-        "m { ($x:expr) => { for (a, b) in c { $x } } }",
-        "m!(f(b));",
-        "1:5 this `b` is the one that the macro binds; 0:40 `b` is bound here; ",
-    ),
-    ("m { ($x:expr) => { for a in $x { b } } }", "m!(a);", ""),
-    ("m { ($x:expr) => { a | b | $x } }", "m!(b);", ""),
-    (
-        "m { ($x:expr) => { match b { a => {} _ => $x } } }",
-        "m!(a);",
+        "m { ($x:expr) => { let a = 1; S { a } + $x } }",
+        "m!(b);",
         "",
     ),
+    ("m { ($x:expr) => { fn f(a: u8) { a } $x } }", "m!(a);", ""),
 ];
 
 fn rows() -> &'static [Row] {
@@ -82,4 +70,98 @@ fn first_other(alloc: Global, rows: &[Row]) -> Result<Option<&'static str>, Allo
 #[test]
 fn captures_are_noted(rt: HostRuntime) {
     none(&rt, first_other(rt.alloc(), rows()));
+}
+
+// A definition, what follows it, and what that becomes: locals and labels of the macro have names of their own where others have
+// theirs. Where the text has white space is the writer's choice.
+static RENAMED: [Row; 16] = [
+    (
+        "m { ($x:expr) => {{ let a = 1; a + $x }} }",
+        "y = m!(a);",
+        "y = {\n    let a_1 = 1;\n    a_1 + a\n};",
+    ),
+    (
+        "m { ($x:expr) => {{ let a = 1; a + $x }} }",
+        "y = m!(b);",
+        "y = {\n    let a = 1;\n    a + b\n};",
+    ),
+    (
+        "m { ($x:expr) => {{ let a = $x; a }} }",
+        "y = m!(m!(a));",
+        "y = {\n    let a_1 = ({\n        let a_2 = a;\n        a_2\n    });\n    a_1\n};",
+    ),
+    (
+        "m { ($x:expr) => {{ let a = 1; $x + a }} }",
+        "y = m!(a + a_1);",
+        "y = {\n    let a_2 = 1;\n    (a + a_1) + a_2\n};",
+    ),
+    (
+        "m { ($x:expr) => { 'a: loop { $x } } }",
+        "'a: loop { m!(break 'a) }",
+        "'a: loop { 'a_1: loop {\n    (break 'a)\n} }",
+    ),
+    (
+        "m { ($x:expr) => { let a = $x; } }",
+        "{ m!(1); f(a) }",
+        "{ let a_1 = 1; f(a) }",
+    ),
+    (
+        "m { ($x:expr) => { let a = $x; } }",
+        "{ m!(1); f(b) }",
+        "{ let a = 1; f(b) }",
+    ),
+    (
+        "m { ($x:expr) => { let a = $x; } }",
+        "{ f(a); m!(1); }",
+        "{ f(a); let a = 1; }",
+    ),
+    (
+        "m { ($x:expr) => { { let a = $x; } } }",
+        "{ m!(1); f(a) }",
+        "{ {\n    let a = 1;\n}; f(a) }",
+    ),
+    (
+        "m { ($x:expr) => { |a| $x + a } }",
+        "y = m!(a);",
+        "y = |a_1| a + a_1;",
+    ),
+    (
+        "m { ($x:expr) => { match b { Some(a) => a, _ => $x } } }",
+        "y = m!(a);",
+        "y = match b {\n    Some(a_1) => a_1, _ => a\n};",
+    ),
+    (
+        "m { ($x:expr) => { for (a, b) in c { $x } } }",
+        "m!(f(b));",
+        "for (a, b_1) in c {\n    (f(b))\n};",
+    ),
+    (
+        "m { ($x:expr) => { if let Some(a) = $x { a } } }",
+        "m!(a.b);",
+        "if let Some(a_1) = (a.b) {\n    a_1\n};",
+    ),
+    (
+        "m { ($n:ident) => { macro_rules! $n { ($x:expr) => {{ let a = $x; a }} } } }",
+        "m!(n); y = n!(a);",
+        "macro_rules! n {\n    ($x:expr) => {\n        {\n            let a = $x;\n            a\n        }\n    }\n} y = {\n    let a_1 = a;\n    a_1\n};",
+    ),
+    (
+        "m { ($n:ident $i:ident) => { macro_rules! $n { () => {{ let $i = 1; a + $i }} } } }",
+        "m!(n b); y = n!();",
+        "macro_rules! n {\n    () => {\n        {\n            let b = 1;\n            a + b\n        }\n    }\n} y = {\n    let b = 1;\n    a + b\n};",
+    ),
+    (
+        "m { ($i:ident $j:ident) => {{ let $i = 1; $j }} }",
+        "y = m!(a a);",
+        "y = {\n    let a = 1;\n    a\n};",
+    ),
+];
+
+fn renamed() -> &'static [Row] {
+    &RENAMED
+}
+
+#[test]
+fn locals_are_told_apart(rt: HostRuntime) {
+    none(&rt, first_unlike(rt.alloc(), renamed()));
 }

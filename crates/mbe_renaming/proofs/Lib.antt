@@ -1,5 +1,6 @@
 pub mod ApartLemmas
 pub mod FreshLemmas
+pub mod NestLemmas
 pub mod SameLemmas
 pub mod ShapeLemmas
 pub mod WalkLemmas

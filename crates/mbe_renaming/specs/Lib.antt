@@ -1,5 +1,6 @@
 pub mod Kinds
 pub mod Ahead
+pub mod Contexts
 pub mod Sites
 pub mod Roles
 pub mod Steps

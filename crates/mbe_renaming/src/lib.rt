@@ -2,6 +2,7 @@
 #![tactic(auto)]
 
 mod ahead;
+pub mod contexts;
 mod kinds;
 pub mod laws;
 mod mentions;

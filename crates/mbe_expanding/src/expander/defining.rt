@@ -118,6 +118,8 @@ impl<A: Allocator + Copy> Expander<'_, A> {
         ensures defines { OnOk result (Defines (setting_of self.old).edition (suc LEVELS) true
             (trees tokens.entry) (state_of self.old).scope (state_of self.new).scope) }
         ensures fuel { OnOk result ((state_of self.new).fuel ≡ (state_of self.old).fuel) }
+        ensures contexts { OnOk result ((state_of self.new).contexts
+            ≡ (state_of self.old).contexts) }
         ensures setting { OnOk result (setting_of self.new ≡ setting_of self.old) }
     {
         self.define_in(tokens, true, LEVELS)
@@ -134,6 +136,7 @@ impl<A: Allocator + Copy> Expander<'_, A> {
         ensures defines { OnOk result (Defines (setting_of self.old).edition (suc levels) is_top
             (trees tokens.entry) (scope_of self.old.scope) (scope_of self.new.scope)) }
         ensures fuel { OnOk result (self.new.fuel ≡ self.old.fuel) }
+        ensures contexts { OnOk result (self.new.contexts.items ≡ self.old.contexts.items) }
         ensures setting { OnOk result (setting_of self.new ≡ setting_of self.old) }
     {
         let mut rest = tokens;
@@ -170,6 +173,7 @@ impl<A: Allocator + Copy> Expander<'_, A> {
             (Defines (setting_of self.old).edition levels) is_top (element_tree tree.entry)
             (scope_of self.old.scope) (scope_of self.new.scope)) }
         ensures fuel { OnOk result (self.new.fuel ≡ self.old.fuel) }
+        ensures contexts { OnOk result (self.new.contexts.items ≡ self.old.contexts.items) }
         ensures setting { OnOk result (setting_of self.new ≡ setting_of self.old) }
     {
         let TtElement::Subtree(_group, inside) = tree else {
@@ -189,6 +193,7 @@ impl<A: Allocator + Copy> Expander<'_, A> {
         ensures defines { OnOk result (Defines (setting_of self.old).edition levels is_top
             (trees tokens.entry) (scope_of self.old.scope) (scope_of self.new.scope)) }
         ensures fuel { OnOk result (self.new.fuel ≡ self.old.fuel) }
+        ensures contexts { OnOk result (self.new.contexts.items ≡ self.old.contexts.items) }
         ensures setting { OnOk result (setting_of self.new ≡ setting_of self.old) }
     {
         if levels == 0 {

@@ -15,8 +15,12 @@ ghost use Rattle.mbe_expanding.specs.Shown.{setting_of, state_of};
 
 use crate::expander::{Expander, LEVELS, text_of};
 use crate::fits::{Before, begins_in, left_by, left_by_call};
+use crate::notes::Level;
 use mbe_calls::calls::{Call, Defined, Front, attribute_at, front_of, is_standard};
 use mbe_calls::splicing::{Replacement, splice};
+use mbe_renaming::contexts::told_apart;
+use mbe_renaming::renaming::Doubt;
+use mbe_tt::span::Span;
 use mbe_tt::tt::{Delimiter, TokenTreesView, TopSubtree, TopSubtreeBuilder, TtElement};
 use std::alloc::{AllocError, Allocator};
 
@@ -234,6 +238,7 @@ impl<A: Allocator + Copy> Expander<'_, A> {
         ensures setting { OnOk result (setting_of self.new ≡ setting_of self.old) }
     {
         let depth = self.settings.depth;
+        let mark = self.contexts.len();
         match self.expansion(call, depth, levels)? {
             Some(tree) => {
                 let (replacement, rest) = self.replacement(
@@ -241,6 +246,7 @@ impl<A: Allocator + Copy> Expander<'_, A> {
                     &tree,
                     call,
                     last,
+                    mark,
                     depth - 1,
                     levels,
                 )?;
@@ -277,17 +283,19 @@ impl<A: Allocator + Copy> Expander<'_, A> {
         self.replace_inside(replacements, texts, call.argument, Before::Other, levels)
     }
 
-    // An expansion as text in place of its call, and what is left after that.
+    // An expansion as text in place of its call, with its locals told apart, and what is left after that. The first contexts, as many
+    // as `mark` says, are of earlier calls.
     fn replacement<'t>(
         &mut self,
         texts: &[&str],
         tree: &TopSubtree<A>,
         call: Call<'t, A>,
         last: Before,
+        mark: usize,
         depth: u32,
         levels: u32,
     ) -> Result<(Replacement<A>, TokenTreesView<'t, A>), AllocError>
-        ensures part { IfOk result (λ r. IsPartOf (setting_of self.old) levels depth
+        ensures part { IfOk result (λ r. IsPartOf (setting_of self.old) levels depth mark
             (call_shown call.entry) tree.now.1 (state_of self.old) (part_of r.0) (trees r.1)
             (state_of self.new)) }
         ensures setting { OnOk result (setting_of self.new ≡ setting_of self.old) }
@@ -296,11 +304,13 @@ impl<A: Allocator + Copy> Expander<'_, A> {
         let mut builder = TopSubtreeBuilder::new(self.alloc, around)?;
         let rest = self.write_expansion(&mut builder, tree, call, last, depth, levels)?;
         let written = builder.build();
+        let apart = told_apart(self.alloc, &written, rest, self.contexts.as_slice(), mark)?;
+        self.note_doubts(texts, apart.undecided.as_slice())?;
         let start = call.start.start as usize;
         let around = text_in(texts, call.start.file);
         let text = text_of(
             self.alloc,
-            written.iter().remaining(),
+            apart.tree.iter().remaining(),
             indentation(around, start),
         )?;
         let replacement = Replacement {
@@ -311,6 +321,36 @@ impl<A: Allocator + Copy> Expander<'_, A> {
         };
         Ok((replacement, rest))
     }
+
+    // Notes where it isn't decided whether a name is what a macro binds, and where that is bound.
+    fn note_doubts(&mut self, texts: &[&str], doubts: &[Doubt]) -> Result<(), AllocError>
+        ensures setting { OnOk result (setting_of self.new ≡ setting_of self.old) }
+        ensures state { OnOk result (state_of self.new ≡ state_of self.old) }
+    {
+        for doubt in doubts {
+            self.note_doubt(name_at(texts, doubt.bound), *doubt)?;
+        }
+        Ok(())
+    }
+
+    fn note_doubt(&mut self, name: &str, doubt: Doubt) -> Result<(), AllocError>
+        ensures setting { OnOk result (setting_of self.new ≡ setting_of self.old) }
+        ensures state { OnOk result (state_of self.new ≡ state_of self.old) }
+    {
+        let message = format!(in self.alloc;
+            "`{name}` keeps its name, since this may be the one that a macro binds"
+        )?;
+        self.note(Level::Note, doubt.place, message)?;
+        let message = format!(in self.alloc; "`{name}` is bound here")?;
+        self.note(Level::Note, doubt.bound, message)
+    }
+}
+
+// What is written there.
+fn name_at<'t>(texts: &[&'t str], span: Span) -> &'t str {
+    text_in(texts, span.file)
+        .get(span.start as usize..span.end as usize)
+        .unwrap_or("")
 }
 
 // Where a call ends: with its group, or with the `;` after it where that goes with it.

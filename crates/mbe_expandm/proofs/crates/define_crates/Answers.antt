@@ -7,16 +7,17 @@ use Rattle.mbe_expandm.proofs.CrateLemmas.{one_more_defined}
 use Rattle.mbe_expandm.proofs.crates.define_crates.Goals as goal
 
 pub loop-number-init : goal.loop-number-init
-loop-number-init c = (no_definition, refl, refl)
+loop-number-init c = (no_definition, refl, refl, refl)
 
 pub loop-number-preserved : goal.loop-number-preserved
 loop-number-preserved c = (
   one_more_defined (setting_of c.args.expander.now).edition (setting_of c.loop-number.expander).edition 1001
       c.args.follows (map source_of c.args.files.now) c.loop-number.number (state_of c.args.expander.now).scope
       (state_of c.loop-number.expander).scope (state_of c.define_crate.new.expander).scope c.loop-number.invariant.0
-      (sym (ap (λ (e : Setting). e.edition) c.loop-number.invariant.2)) c.in_ok-define_crate.ensures.defines,
+      (sym (ap (λ (e : Setting). e.edition) c.loop-number.invariant.3)) c.in_ok-define_crate.ensures.defines,
   c.in_ok-define_crate.ensures.fuel ∙ c.loop-number.invariant.1,
-  c.in_ok-define_crate.ensures.setting ∙ c.loop-number.invariant.2,
+  c.in_ok-define_crate.ensures.contexts ∙ c.loop-number.invariant.2,
+  c.in_ok-define_crate.ensures.setting ∙ c.loop-number.invariant.3,
 )
 
 pub returns-clause-defines : goal.returns-clause-defines

@@ -9,4 +9,5 @@ invariant-loop-number l =
     DefinesCrates (setting_of l.initial.expander).edition 1001 l.follows (map source_of l.files)
     (state_of l.initial.expander).scope l.number (state_of l.expander).scope
     × ((state_of l.expander).fuel ≡ (state_of l.initial.expander).fuel)
+    × ((state_of l.expander).contexts ≡ (state_of l.initial.expander).contexts)
     × (setting_of l.expander ≡ setting_of l.initial.expander)

@@ -17,6 +17,7 @@ define_in-trees-init g t c = (
       c.none-marks.result c.none-marks.ensures,
   refl,
   refl,
+  refl,
 )
 
 pub define_in-returns-in-End-clause-defines : goal.define_in-returns-in-End-clause-defines
@@ -49,6 +50,7 @@ define_in-trees-preserved-in-Call g t c = (
       c.in-Call.is),
   c.trees.invariant.1,
   c.trees.invariant.2,
+  c.trees.invariant.3,
 )
 
 pub define_in-trees-preserved-in-Definition : goal.define_in-trees-preserved-in-Definition
@@ -58,12 +60,13 @@ define_in-trees-preserved-in-Definition g t c = (
       (trees c.args.tokens) (trees c.trees.rest) (defined_shown c.in-Definition.defined)
       (scope_of c.args.self.now.scope)
       (scope_of c.trees.self.scope) (scope_of c.read.new.self.scope) c.trees.marks c.after_definition-marks.result
-      (ap (λ (x : Setting). x.edition) c.trees.invariant.2) c.trees.invariant.0
+      (ap (λ (x : Setting). x.edition) c.trees.invariant.3) c.trees.invariant.0
       (front_is front_shown c.front_of.result (v.Definition c.in-Definition.defined) (trees c.trees.rest)
       c.front_of.ensures c.in-Definition.is)
       c.reach.ensures c.in_ok-_number-in-Definition.ensures.read c.after_definition-marks.ensures,
   c.in_ok-_number-in-Definition.ensures.fuel ∙ c.trees.invariant.1,
-  c.in_ok-_number-in-Definition.ensures.setting ∙ c.trees.invariant.2,
+  c.in_ok-_number-in-Definition.ensures.contexts ∙ c.trees.invariant.2,
+  c.in_ok-_number-in-Definition.ensures.setting ∙ c.trees.invariant.3,
 )
 
 pub define_in-trees-preserved : goal.define_in-trees-preserved
@@ -74,13 +77,14 @@ define_in-trees-preserved g t c = (
       (scope_of c.args.self.now.scope)
       (scope_of c.trees.self.scope) (scope_of c.define_tree.new.self.scope) c.trees.marks c.marked-marks.result
       c.after-marks.result
-      (ap (λ (x : Setting). x.edition) c.trees.invariant.2) c.trees.invariant.0
+      (ap (λ (x : Setting). x.edition) c.trees.invariant.3) c.trees.invariant.0
       (front_is front_shown c.front_of.result (v.Tree c.in-Tree.tree c.in-Tree.after) (trees c.trees.rest)
       c.front_of.ensures c.in-Tree.is)
       c.marked-marks.ensures c.is_open-is_open.ensures c.in_ok-define_tree-in-Tree.ensures.defines
       c.after-marks.ensures,
   c.in_ok-define_tree-in-Tree.ensures.fuel ∙ c.trees.invariant.1,
-  c.in_ok-define_tree-in-Tree.ensures.setting ∙ c.trees.invariant.2,
+  c.in_ok-define_tree-in-Tree.ensures.contexts ∙ c.trees.invariant.2,
+  c.in_ok-define_tree-in-Tree.ensures.setting ∙ c.trees.invariant.3,
 )
 
 pub define_inside-returns-then-levels-eq0-clause-defines : goal.define_inside-returns-then-levels-eq0-clause-defines

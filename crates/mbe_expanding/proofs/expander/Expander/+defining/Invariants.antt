@@ -22,4 +22,5 @@ invariant-define_in-trees g l =
     Defining (setting_of l.initial.self).edition l.fn.levels l.fn.is_top (trees l.fn.tokens)
     (scope_of l.initial.self.scope) l.marks (trees l.rest) (scope_of l.self.scope)
     × (l.self.fuel ≡ l.initial.self.fuel)
+    × (l.self.contexts.items ≡ l.initial.self.contexts.items)
     × (setting_of l.self ≡ setting_of l.initial.self)

@@ -112,11 +112,11 @@ replace_inside-returns-then-levels-eq0-clause-adds g t c =
 
 pub replace_call-returns-in_ok-push-in-Some-clause-adds : goal.replace_call-returns-in_ok-push-in-Some-clause-adds
 replace_call-returns-in_ok-push-in-Some-clause-adds g t c =
-    replaced_added part_of (setting_of c.args.self.now) (setting_of c.expansion.new.self) c.args.levels _
+    replaced_added part_of (setting_of c.args.self.now) (setting_of c.expansion.new.self) c.args.levels _ _
     (call_shown c.args.call) c.in-Some.tree _
     (state_of c.args.self.now) (state_of c.expansion.new.self) (state_of c.replacement.new.self)
     c.args.replacements.now.items
-    c.push.new.self.items _ c.in_ok-tree.ensures.setting c.in_ok-tree.ensures.tries c.in-Some.is
+    c.push.new.self.items _ c.in_ok-tree.ensures.setting (search rules) c.in_ok-tree.ensures.tries c.in-Some.is
     c.in_ok-replacement-in-Some.ensures.part
     c.in_ok-push-in-Some.ensures.items
 

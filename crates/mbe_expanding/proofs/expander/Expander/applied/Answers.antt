@@ -1,36 +1,42 @@
-use Rattle.std.proofs.Common.{rules}
+use Rattle.std.proofs.Common.{rules, refl, ap, ◌∙◌}
 use Rattle.std.specs.Prelude.{Some, None}
 use Rattle.mbe_calls.specs.Shown.{call_shown}
 use Rattle.mbe_errors.specs.ErrorViews.{error_of, errors_of}
-use Rattle.mbe_expanding.specs.Shown.{setting_of}
+use Rattle.mbe_expanding.specs.Shown.{setting_of, state_of}
 use Rattle.mbe.specs.MacroViews.{macro_of}
-use Rattle.mbe_expanding.specs.Calls.{by_definition, by_rules}
+use Rattle.mbe_expanding.specs.Calls.{by_definition, by_rules, stepped}
 use Rattle.mbe_expanding.proofs.MarkLemmas.{makes}
 use Rattle.mbe_expanding.proofs.CallLemmas.{found_as, there, not_there}
 use Rattle.mbe_expanding.proofs.expander.Expander.applied.Goals as goal
 
 pub returns-then-is_some-clause-applies : goal.returns-then-is_some-clause-applies
-returns-then-is_some-clause-applies g c =
-    by_definition (macro_of c.in-Some.rules.now)
-    (found_as _ c.rules.result c.in-Some.rules _ c.rules.ensures (search rules))
-    (there _ c.err.result _ c.err.ensures (search rules))
+returns-then-is_some-clause-applies g c = (
+  by_definition (macro_of c.in-Some.rules.now)
+      (found_as _ c.rules.result c.in-Some.rules _ c.rules.ensures (search rules))
+      (there _ c.err.result _ c.err.ensures (search rules)),
+  refl,
+)
 
 pub returns-in-Some-err-clause-applies : goal.returns-in-Some-err-clause-applies
-returns-in-Some-err-clause-applies g c =
-    by_rules (macro_of c.in-Some.rules.now) _ _
-    (found_as _ c.rules.result c.in-Some.rules _ c.rules.ensures (search rules))
-    (makes (setting_of c.args.self.now) (call_shown c.args.call) (macro_of c.in-Some.rules.now)
-    c.in_ok-argument.argument c.in_ok-value.field-0.value.0
-    c.in_ok-value.field-0.value.1 (errors_of c.in_ok-value.field-0.err) (Some (error_of c.in-Some-err.error))
-    c.in_ok-value.ensures.expands (λ s t asked. search rules) (search rules) (search rules))
+returns-in-Some-err-clause-applies g c = (
+  by_rules (macro_of c.in-Some.rules.now) _ _
+      (found_as _ c.rules.result c.in-Some.rules _ c.rules.ensures (search rules))
+      (makes (setting_of c.args.self.now) (state_of c.args.self.now) (call_shown c.args.call)
+      (macro_of c.in-Some.rules.now)
+      c.in_ok-argument.argument c.in_ok-value.field-0.value.0
+      c.in_ok-value.field-0.value.1 (errors_of c.in_ok-value.field-0.err) (Some (error_of c.in-Some-err.error))
+      c.in_ok-value.ensures.expands (λ s t asked. search rules) (search rules) (search rules)),
+  search rules,
+)
 
 pub returns-clause-applies : goal.returns-clause-applies
 returns-clause-applies g c = (
   macro_of c.in-Some.rules.now,
   found_as _ c.rules.result c.in-Some.rules _ c.rules.ensures (search rules),
   not_there _ c.err.result _ c.err.ensures (search rules),
-  makes (setting_of c.args.self.now) (call_shown c.args.call) (macro_of c.in-Some.rules.now) c.in_ok-argument.argument
-      c.in_ok-value.field-0.value.0
+  makes (setting_of c.args.self.now) (state_of c.args.self.now) (call_shown c.args.call) (macro_of c.in-Some.rules.now)
+      c.in_ok-argument.argument c.in_ok-value.field-0.value.0
       c.in_ok-value.field-0.value.1 (errors_of c.in_ok-value.field-0.err) None c.in_ok-value.ensures.expands
       (λ s t asked. search rules) (search rules) (search rules),
+  c.in_ok-add_contexts.ensures.state ∙ ap (stepped (call_shown c.args.call)) (search rules),
 )

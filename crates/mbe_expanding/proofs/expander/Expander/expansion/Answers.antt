@@ -20,4 +20,4 @@ returns-clause-tries g c =
     tries_as (setting_of c.args.self.now) (setting_of c.may_expand.new.self) (call_shown c.args.call) c.args.depth
     c.args.levels (state_of c.args.self.now)
     (state_of c.may_expand.new.self) (state_of c.applied.new.self) c.applied.result (search rules) (search rules)
-    (search rules) c.applied.ensures.applies (search rules)
+    (search rules) c.applied.ensures.applies

@@ -1,6 +1,7 @@
-use Rattle.std.proofs.Common.{ap, map, refl}
+use Rattle.std.proofs.Common.{ap, map}
 use Rattle.mbe_tt.specs.Views.View.{trees}
 use Rattle.mbe_calls.specs.Replacements.{part_of}
+use Rattle.mbe_expanding.specs.Calls.{State}
 use Rattle.mbe_expanding.specs.Shown.{scope_of, setting_of, state_of}
 use Rattle.mbe_expanding.proofs.EachLemmas.{each_of_file, none_of_file}
 use Rattle.mbe_expanding.proofs.ReplaceLemmas.{of_file}
@@ -10,11 +11,16 @@ pub returns-clause-parts : goal.returns-clause-parts
 returns-clause-parts g c =
     of_file (setting_of c.args.self.now) _ c.enter-mark.result (trees c.args.tokens) (state_of c.args.self.now)
     (state_of c.replace_in.new.self)
-    (record { scope = scope_of c.leave.new.self; fuel = c.replace_in.new.self.fuel })
+    (record {
+      scope = scope_of c.leave.new.self;
+      fuel = c.replace_in.new.self.fuel;
+      contexts = c.replace_in.new.self.contexts.items;
+    })
     (map part_of c.new-replacements.result.items)
     (map part_of c.replace_in.new.replacements.items) (ap (map part_of) c.new-replacements.ensures.items)
     c.in_ok-replace_in.ensures.adds
-    c.enter-mark.ensures c.leave.ensures.left refl
+    c.enter-mark.ensures
+    (ap (λ x. let v : State = record (state_of c.replace_in.new.self) { scope = x } in v) c.leave.ensures.left)
 
 pub returns-clause-each : goal.returns-clause-each
 returns-clause-each g c = each_of_file _ _ _ _ _ _ (returns-clause-parts g c)

@@ -14,9 +14,13 @@ returns-clause-writes g c =
     on_ok c.extend_with_tt.result
     (λ put. reads_written (setting_of c.args.self.now) (trees c.args.tokens) (trees c.up_to.result)
     (defined_shown c.args.defined)
-    (state_of c.args.self.now) (record { scope = scope_of c.show.new.self; fuel = c.read.new.self.fuel })
+    (state_of c.args.self.now) (record {
+      scope = scope_of c.show.new.self;
+      fuel = c.read.new.self.fuel;
+      contexts = c.read.new.self.contexts.items;
+    })
     (scope_of c.read.new.self.scope)
     c.in_ok-number.number _ _ c.requires.front c.in_ok-number.ensures.read c.in_ok-number.ensures.number
     c.in_ok-show.ensures.shown
-    c.in_ok-number.ensures.fuel c.up_to.ensures put)
+    c.in_ok-number.ensures.fuel c.in_ok-number.ensures.contexts c.up_to.ensures put)
     c.extend_with_tt.ensures.ok

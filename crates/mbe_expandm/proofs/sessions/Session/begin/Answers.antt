@@ -46,4 +46,5 @@ returns c =
           c.in_ok-define_crates.ensures.defines)));
       fuel_is = c.in_ok-define_crates.ensures.fuel ∙ ap (λ s. s.fuel) c.new-expander.ensures.state
           ∙ c.settings-settings.ensures.fuel;
+      contexts_are = c.in_ok-define_crates.ensures.contexts ∙ ap (λ s. s.contexts) c.new-expander.ensures.state;
     }
