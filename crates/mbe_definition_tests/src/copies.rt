@@ -3,7 +3,7 @@ use crate::reading::read;
 use mbe::DeclarativeMacro;
 use mbe_text::lexer::LexError;
 use std::alloc::{AllocError, Global};
-use test_rows::{Fields, Rows, each, nth, rows};
+use test_rows::{Fields, Rows, Wrong, each, nth, rows};
 
 // The macros of two definitions are equal.
 fn are_equal(alloc: Global, one: &str, two: &str) -> Result<bool, LexError> {
@@ -46,8 +46,8 @@ impl Rows for Different {
 }
 
 #[test]
-fn macros_of_other_rules_differ(rt: HostRuntime) {
-    each(&rt, rt.alloc(), &Different, DIFFERENT, 13);
+fn macros_of_other_rules_differ(rt: HostRuntime) -> Result<(), Wrong> {
+    each(rt.alloc(), &Different, DIFFERENT, 13)
 }
 
 // Pairs whose separators are at different places.
@@ -69,8 +69,8 @@ impl Rows for Same {
 }
 
 #[test]
-fn separators_count_by_their_texts(rt: HostRuntime) {
-    each(&rt, rt.alloc(), &Same, SAME, 5);
+fn separators_count_by_their_texts(rt: HostRuntime) -> Result<(), Wrong> {
+    each(rt.alloc(), &Same, SAME, 5)
 }
 
 // With a fault, without rules, with a refusal, and with rules alone.
@@ -106,6 +106,6 @@ impl Rows for Copies {
 }
 
 #[test]
-fn a_copy_is_equal(rt: HostRuntime) {
-    each(&rt, rt.alloc(), &Copies, COPIED, 4);
+fn a_copy_is_equal(rt: HostRuntime) -> Result<(), Wrong> {
+    each(rt.alloc(), &Copies, COPIED, 4)
 }

@@ -6,7 +6,7 @@ use std::alloc::{AllocError, Global};
 use std::error::Error;
 use std::hash::{DefaultHasher, Hash, Hasher};
 use std::rc::Rc;
-use test_rows::holds;
+use test_rows::{Wrong, holds};
 
 const KINDS: usize = 8;
 
@@ -111,8 +111,8 @@ fn are_errors_kept_apart(alloc: Global) -> Result<bool, AllocError> {
 }
 
 #[test]
-fn errors_are_compared_by_place_and_kind(rt: HostRuntime) {
-    holds(&rt, are_errors_kept_apart(rt.alloc()));
+fn errors_are_compared_by_place_and_kind(rt: HostRuntime) -> Result<(), Wrong> {
+    holds(are_errors_kept_apart(rt.alloc()))
 }
 
 fn is_shown<E: Error>(alloc: Global, error: &E, want: &str) -> bool {
@@ -128,12 +128,12 @@ fn is_error_shown(alloc: Global, number: usize, want: &str) -> Result<bool, Allo
 }
 
 #[test]
-fn each_error_is_one(rt: HostRuntime) {
+fn each_error_is_one(rt: HostRuntime) -> Result<(), Wrong> {
     let alloc = rt.alloc();
     let is_shown_so = is_shown(alloc, &CountError::Misplaced, "${count} misplaced");
-    holds(&rt, Ok(is_shown_so));
-    holds(&rt, is_kind_shown(alloc, 4, "leftover tokens"));
-    holds(&rt, is_error_shown(alloc, 5, "Expand exceed limit"));
+    holds(Ok(is_shown_so))?;
+    holds(is_kind_shown(alloc, 4, "leftover tokens"))?;
+    holds(is_error_shown(alloc, 5, "Expand exceed limit"))?;
     let parse: ParseError = ParseError::InvalidRepeat;
-    holds(&rt, Ok(is_shown(alloc, &parse, "invalid repeat")));
+    holds(Ok(is_shown(alloc, &parse, "invalid repeat")))
 }

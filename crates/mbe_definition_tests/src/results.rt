@@ -2,7 +2,7 @@
 use mbe::CountError::{Misplaced, OutOfBounds};
 use mbe::{CountError, ValueResult};
 use std::alloc::AllocError;
-use test_rows::holds;
+use test_rows::{Wrong, holds};
 
 type Counted = ValueResult<u32, CountError>;
 
@@ -19,7 +19,7 @@ fn are(answers: &[Counted], wanted: &[Want]) -> bool {
 }
 
 #[test]
-fn results_are_made(rt: HostRuntime) {
+fn results_are_made(rt: HostRuntime) -> Result<(), Wrong> {
     let made = [
         ValueResult::new(3, Misplaced),
         ValueResult::ok(3),
@@ -36,17 +36,14 @@ fn results_are_made(rt: HostRuntime) {
         (3, None),
         (0, Some(Misplaced)),
     ];
-    holds(&rt, Ok(are(&made, &wanted)));
+    holds(Ok(are(&made, &wanted)))
 }
 
 #[test]
-fn a_result_is_the_error_where_there_is_one(rt: HostRuntime) {
+fn a_result_is_the_error_where_there_is_one(rt: HostRuntime) -> Result<(), Wrong> {
     let failed: Counted = ValueResult::new(3, Misplaced);
     let fine: Counted = ValueResult::ok(3);
-    holds(
-        &rt,
-        Ok(failed.result() == Err(Misplaced) && fine.result() == Ok(3)),
-    );
+    holds(Ok(failed.result() == Err(Misplaced) && fine.result() == Ok(3)))
 }
 
 fn mapped(answer: Counted) -> Counted {
@@ -58,12 +55,9 @@ fn moved(answer: Counted) -> Counted {
 }
 
 #[test]
-fn values_and_errors_are_paired_and_mapped(rt: HostRuntime) {
+fn values_and_errors_are_paired_and_mapped(rt: HostRuntime) -> Result<(), Wrong> {
     let paired = Counted::new(3, Misplaced).zip_val(true);
-    holds(
-        &rt,
-        Ok(paired.value == (3, true) && paired.err == Some(Misplaced)),
-    );
+    holds(Ok(paired.value == (3, true) && paired.err == Some(Misplaced)))?;
     let made = [
         mapped(Counted::new(3, Misplaced)),
         mapped(Counted::ok(3)),
@@ -76,7 +70,7 @@ fn values_and_errors_are_paired_and_mapped(rt: HostRuntime) {
         (3, Some(OutOfBounds)),
         (3, None),
     ];
-    holds(&rt, Ok(are(&made, &wanted)));
+    holds(Ok(are(&made, &wanted)))
 }
 
 // Whether a copy is equal, and what is lent is both parts.
@@ -87,18 +81,15 @@ fn is_copied(answer: &Counted) -> Result<bool, AllocError> {
 }
 
 #[test]
-fn results_are_lent_and_copied(rt: HostRuntime) {
-    holds(&rt, is_copied(&Counted::new(3, Misplaced)));
-    holds(&rt, is_copied(&Counted::ok(4)));
+fn results_are_lent_and_copied(rt: HostRuntime) -> Result<(), Wrong> {
+    holds(is_copied(&Counted::new(3, Misplaced)))?;
+    holds(is_copied(&Counted::ok(4)))
 }
 
 #[test]
-fn results_are_equal_by_both_parts(rt: HostRuntime) {
+fn results_are_equal_by_both_parts(rt: HostRuntime) -> Result<(), Wrong> {
     let answer: Counted = ValueResult::new(3, Misplaced);
-    holds(&rt, Ok(answer == ValueResult::new(3, Misplaced)));
-    holds(&rt, Ok(answer != Counted::new(4, Misplaced)));
-    holds(
-        &rt,
-        Ok(answer != Counted::new(3, OutOfBounds) && answer != Counted::ok(3)),
-    );
+    holds(Ok(answer == ValueResult::new(3, Misplaced)))?;
+    holds(Ok(answer != Counted::new(4, Misplaced)))?;
+    holds(Ok(answer != Counted::new(3, OutOfBounds) && answer != Counted::ok(3)))
 }

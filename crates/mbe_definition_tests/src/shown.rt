@@ -4,7 +4,7 @@ use mbe::{
     Binding, BindingLog, Bindings, CountError, ExpandError, ExpandErrorKind, ExprKind, Fragment,
     Handle, MacroCallStyle, MacroCallStyles, MetaVarKind, ParseError, TokensOrigin, ValueResult,
 };
-use mbe_text::lexer::{LexError, lex};
+use mbe_text::lexer::lex;
 use mbe_tt::grammar::{Front, PrefixEntryPoint};
 use mbe_tt::span::{DelimSpan, Edition, Span, SyntaxContext};
 use mbe_tt::symbol::Symbol;
@@ -14,7 +14,7 @@ use mbe_tt::tt::{
 use std::alloc::{AllocError, Global};
 use std::fmt::Debug;
 use std::rc::Rc;
-use test_rows::holds;
+use test_rows::{Wrong, holds};
 
 fn has_parts(text: &str, parts: &[&str]) -> bool {
     for part in parts {
@@ -44,30 +44,18 @@ const SPAN: Span = Span {
 const SPAN_TEXT: &str = "Span { file: 1, ast: 0, start: 2, end: 3, ctx: SyntaxContext(4) }";
 
 #[test]
-fn spans_and_fronts_are_shown(rt: HostRuntime) {
+fn spans_and_fronts_are_shown(rt: HostRuntime) -> Result<(), Wrong> {
     let alloc = rt.alloc();
     let pair = DelimSpan::from_single(SPAN);
     let front = Front {
         count: 5,
         fault: true,
     };
-    holds(&rt, Ok(shows(alloc, &SPAN, &[SPAN_TEXT])));
-    holds(
-        &rt,
-        Ok(shows(alloc, &pair, &["DelimSpan { opening: Span {"])),
-    );
-    holds(
-        &rt,
-        Ok(shows(alloc, &front, &["Front { count: 5, fault: true }"])),
-    );
-    holds(
-        &rt,
-        Ok(shows(alloc, &Edition::Edition2021, &["Edition2021"])),
-    );
-    holds(
-        &rt,
-        Ok(shows(alloc, &PrefixEntryPoint::PatTop, &["PatTop"])),
-    );
+    holds(Ok(shows(alloc, &SPAN, &[SPAN_TEXT])))?;
+    holds(Ok(shows(alloc, &pair, &["DelimSpan { opening: Span {"])))?;
+    holds(Ok(shows(alloc, &front, &["Front { count: 5, fault: true }"])))?;
+    holds(Ok(shows(alloc, &Edition::Edition2021, &["Edition2021"])))?;
+    holds(Ok(shows(alloc, &PrefixEntryPoint::PatTop, &["PatTop"])))
 }
 
 static LEAVES: [&str; 4] = [
@@ -89,17 +77,15 @@ fn are_borrows_shown(alloc: Global, tree: &TopSubtree) -> bool {
 }
 
 #[test]
-fn trees_are_shown(rt: HostRuntime) -> Result<(), LexError> {
-    let tree = lex(rt.alloc(), "(a 1 +)", 0)?;
-    holds(
-        &rt,
-        Ok(shows(rt.alloc(), &tree, &LEAVES) && are_borrows_shown(rt.alloc(), &tree)),
-    );
-    Ok(())
+fn trees_are_shown(rt: HostRuntime) -> Result<(), Wrong> {
+    let Ok(tree) = lex(rt.alloc(), "(a 1 +)", 0) else {
+        return Err(Wrong("not lexed"));
+    };
+    holds(Ok(shows(rt.alloc(), &tree, &LEAVES) && are_borrows_shown(rt.alloc(), &tree)))
 }
 
 #[test]
-fn groups_and_builders_are_shown(rt: HostRuntime) -> Result<(), AllocError> {
+fn groups_and_builders_are_shown(rt: HostRuntime) -> Result<(), Wrong> {
     let subtree = Subtree {
         delimiter: Delimiter {
             kind: DelimiterKind::Brace,
@@ -110,13 +96,9 @@ fn groups_and_builders_are_shown(rt: HostRuntime) -> Result<(), AllocError> {
         "Subtree { delimiter: Delimiter { opening: Span {",
         "kind: Brace",
     ];
-    holds(&rt, Ok(shows(rt.alloc(), &subtree, &parts)));
+    holds(Ok(shows(rt.alloc(), &subtree, &parts)))?;
     let builder = TopSubtreeBuilder::new(rt.alloc(), subtree.delimiter)?;
-    holds(
-        &rt,
-        Ok(shows(rt.alloc(), &builder, &["TopSubtreeBuilder {"])),
-    );
-    Ok(())
+    holds(Ok(shows(rt.alloc(), &builder, &["TopSubtreeBuilder {"])))
 }
 
 fn is_binding_error_shown(alloc: Global) -> Result<bool, AllocError> {
@@ -129,37 +111,28 @@ fn is_binding_error_shown(alloc: Global) -> Result<bool, AllocError> {
 }
 
 #[test]
-fn errors_and_results_are_shown(rt: HostRuntime) -> Result<(), AllocError> {
+fn errors_and_results_are_shown(rt: HostRuntime) -> Result<(), Wrong> {
     let alloc = rt.alloc();
     let result: ValueResult<u32, CountError> = ValueResult::new(6, CountError::Misplaced);
-    holds(
-        &rt,
-        Ok(shows(
-            alloc,
-            &result,
-            &["ValueResult { value: 6, err: Some(Misplaced) }"],
-        )),
-    );
-    holds(&rt, is_binding_error_shown(alloc));
+    holds(Ok(shows(
+        alloc,
+        &result,
+        &["ValueResult { value: 6, err: Some(Misplaced) }"],
+    )))?;
+    holds(is_binding_error_shown(alloc))?;
     let parse: ParseError = ParseError::Expected(String::from_str(alloc, "b")?);
-    holds(&rt, Ok(shows(alloc, &parse, &["Expected(\"b\")"])));
-    Ok(())
+    holds(Ok(shows(alloc, &parse, &["Expected(\"b\")"])))
 }
 
 #[test]
-fn macros_and_styles_are_shown(rt: HostRuntime) -> Result<(), LexError> {
+fn macros_and_styles_are_shown(rt: HostRuntime) -> Result<(), Wrong> {
     let alloc = rt.alloc();
-    holds(&rt, Ok(shows(alloc, &MacroCallStyle::Derive, &["Derive"])));
-    holds(
-        &rt,
-        Ok(shows(alloc, &MacroCallStyles::ATTR, &["MacroCallStyles(2)"])),
-    );
-    let rules = read(alloc, "attr() ($(a),*) => {}")?;
-    holds(
-        &rt,
-        Ok(shows(alloc, &rules, &["DeclarativeMacro {", "style: Attr"])),
-    );
-    Ok(())
+    holds(Ok(shows(alloc, &MacroCallStyle::Derive, &["Derive"])))?;
+    holds(Ok(shows(alloc, &MacroCallStyles::ATTR, &["MacroCallStyles(2)"])))?;
+    let Ok(rules) = read(alloc, "attr() ($(a),*) => {}") else {
+        return Err(Wrong("not read"));
+    };
+    holds(Ok(shows(alloc, &rules, &["DeclarativeMacro {", "style: Attr"])))
 }
 
 fn are_shown(alloc: Global, handle: &Handle, bindings: &Bindings<'_>) -> bool {
@@ -190,11 +163,12 @@ fn is_bound_shown(
 }
 
 #[test]
-fn bindings_are_shown(rt: HostRuntime) -> Result<(), LexError> {
+fn bindings_are_shown(rt: HostRuntime) -> Result<(), Wrong> {
     let alloc = rt.alloc();
-    holds(&rt, Ok(is_missing_shown(alloc)));
+    holds(Ok(is_missing_shown(alloc)))?;
     let name = Symbol::intern(alloc, "x")?;
-    let tree = lex(alloc, "d", 0)?;
-    holds(&rt, is_bound_shown(alloc, &name, tree.view()));
-    Ok(())
+    let Ok(tree) = lex(alloc, "d", 0) else {
+        return Err(Wrong("not lexed"));
+    };
+    holds(is_bound_shown(alloc, &name, tree.view()))
 }

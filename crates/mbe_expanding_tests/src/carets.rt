@@ -2,7 +2,7 @@
 use mbe_diagnostics::diagnostic::{Diagnostic, Level, Point};
 use mbe_diagnostics::text::rendered;
 use std::alloc::{AllocError, Global};
-use test_rows::{Fields, Rows, each, none, rows};
+use test_rows::{Fields, Rows, Wrong, each, none, rows};
 
 // What the line has before the part, the part, and what is after it; how the line is shown; and what is below it.
 const ROWS: &str = rows![
@@ -67,9 +67,9 @@ impl Rows for Carets {
 }
 
 #[test]
-fn the_carets_are_below_the_part(rt: HostRuntime) {
-    each(&rt, rt.alloc(), &Carets(7, " "), ROWS, 8);
-    each(&rt, rt.alloc(), &Carets(1024, "    "), ROWS, 8);
+fn the_carets_are_below_the_part(rt: HostRuntime) -> Result<(), Wrong> {
+    each(rt.alloc(), &Carets(7, " "), ROWS, 8)?;
+    each(rt.alloc(), &Carets(1024, "    "), ROWS, 8)
 }
 
 static LEVELS: [(Level, &str); 4] = [
@@ -86,9 +86,10 @@ fn is_coloured(alloc: Global, level: Level, word: &str) -> Result<bool, AllocErr
 }
 
 #[test]
-fn the_level_has_a_colour(rt: HostRuntime) {
+fn the_level_has_a_colour(rt: HostRuntime) -> Result<(), Wrong> {
     for &(level, word) in &LEVELS {
         let is_so = is_coloured(rt.alloc(), level, word).unwrap_or(false);
-        none(&rt, (!is_so).then_some(word));
+        none((!is_so).then_some(word))?;
     }
+    Ok(())
 }

@@ -5,7 +5,7 @@ use mbe_cfg::predicate::Verdict;
 use mbe_cfg::settings::{Cfg, Settings};
 use mbe_cfg::targets::Target;
 use std::alloc::{AllocError, Global};
-use test_rows::{Fields, Rows, each, holds, rows, spelled};
+use test_rows::{Fields, Rows, Wrong, each, holds, rows, spelled};
 
 static GIVEN: [Cfg<'static>; 2] = [
     Cfg {
@@ -142,8 +142,8 @@ impl Rows for Holding {
 }
 
 #[test]
-fn attributes_hold_or_not(rt: HostRuntime) {
-    each(&rt, rt.alloc(), &Holding, HOLD, 46);
+fn attributes_hold_or_not(rt: HostRuntime) -> Result<(), Wrong> {
+    each(rt.alloc(), &Holding, HOLD, 46)
 }
 
 #[derive(Clone, Copy)]
@@ -157,8 +157,8 @@ impl Rows for Faulted {
 }
 
 #[test]
-fn faults_have_places(rt: HostRuntime) {
-    each(&rt, rt.alloc(), &Faulted, FAULTS, 35);
+fn faults_have_places(rt: HostRuntime) -> Result<(), Wrong> {
+    each(rt.alloc(), &Faulted, FAULTS, 35)
 }
 
 // `not` in one another.
@@ -167,9 +167,9 @@ fn is_deep(alloc: Global, text: &str, want: &str) -> Result<bool, AllocError> {
 }
 
 #[test]
-fn predicates_are_so_deep_at_most(rt: HostRuntime) {
+fn predicates_are_so_deep_at_most(rt: HostRuntime) -> Result<(), Wrong> {
     let deep = is_deep(rt.alloc(), "#[cfg(«126 not(»yes«126 )»)]", "true 0");
-    holds(&rt, deep);
+    holds(deep)?;
     let deeper = is_deep(rt.alloc(), "#[cfg(«128 not(»yes«128 )»)]", "518 TooDeep");
-    holds(&rt, deeper);
+    holds(deeper)
 }

@@ -5,7 +5,7 @@ use mbe_following::taking::{File, Wrong};
 use mbe_modules::places::Place;
 use mbe_tt::tt::TopSubtree;
 use std::alloc::{AllocError, Global};
-use test_rows::{Fields, Rows, each, rows};
+use test_rows::{Fields, Rows, Wrong as Failed, each, rows};
 
 // The files of a crate, of which the first is its root, each `PATH: TEXT` and a `|` after it; what the root's trees become; and
 // the modules in them without their files.
@@ -201,6 +201,6 @@ impl Rows for Crates {
 }
 
 #[test]
-fn modules_are_followed(rt: HostRuntime) {
-    each(&rt, rt.alloc(), &Crates, ROWS, 24);
+fn modules_are_followed(rt: HostRuntime) -> Result<(), Failed> {
+    each(rt.alloc(), &Crates, ROWS, 24)
 }

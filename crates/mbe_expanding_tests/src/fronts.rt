@@ -3,7 +3,7 @@ use crate::texts::read;
 use mbe_calls::calls::{Form, Front, attribute_at, binds, front_of, is_standard};
 use mbe_text::dialect::Dialect;
 use std::alloc::{AllocError, Global};
-use test_rows::{Fields, Rows, each, holds, rows};
+use test_rows::{Fields, Rows, Wrong, each, holds, rows};
 
 // What is at the front: a word for it, the macro's name and the number of flat tokens after it.
 fn shown(alloc: Global, front: Front<'_>) -> Result<String, AllocError> {
@@ -68,8 +68,8 @@ impl Rows for Fronts {
 }
 
 #[test]
-fn what_is_at_the_front(rt: HostRuntime) {
-    each(&rt, rt.alloc(), &Fronts, ROWS, 24);
+fn what_is_at_the_front(rt: HostRuntime) -> Result<(), Wrong> {
+    each(rt.alloc(), &Fronts, ROWS, 24)
 }
 
 // A text, the name of the attribute at its front, and whether an operator is there.
@@ -103,12 +103,12 @@ impl Rows for Beside {
 }
 
 #[test]
-fn attributes_and_operators(rt: HostRuntime) {
-    each(&rt, rt.alloc(), &Beside, BESIDE, 10);
+fn attributes_and_operators(rt: HostRuntime) -> Result<(), Wrong> {
+    each(rt.alloc(), &Beside, BESIDE, 10)
 }
 
 #[test]
-fn standard_macros(rt: HostRuntime) {
-    holds(&rt, Ok(is_standard("vec") && is_standard("assert_eq")));
-    holds(&rt, Ok(!is_standard("stringify") && !is_standard("")));
+fn standard_macros(rt: HostRuntime) -> Result<(), Wrong> {
+    holds(Ok(is_standard("vec") && is_standard("assert_eq")))?;
+    holds(Ok(!is_standard("stringify") && !is_standard("")))
 }

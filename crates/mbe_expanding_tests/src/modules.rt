@@ -3,7 +3,7 @@ use mbe_modules::choice::{Choice, chosen};
 use mbe_modules::paths::join;
 use mbe_modules::places::{Candidates, Place};
 use std::alloc::{AllocError, Global};
-use test_rows::{Fields, Rows, each, holds, rows};
+use test_rows::{Fields, Rows, Wrong, each, holds, rows};
 
 // A folder, a file's own name or nothing, the inline modules around, each `name` or `name=path`, and the module, in the
 // same way; then the candidates.
@@ -101,9 +101,9 @@ impl Rows for Modules {
 }
 
 #[test]
-fn modules_have_files(rt: HostRuntime) {
-    each(&rt, rt.alloc(), &Modules, ROWS, 16);
-    each(&rt, rt.alloc(), &Modules, IN_FILES, 4);
+fn modules_have_files(rt: HostRuntime) -> Result<(), Wrong> {
+    each(rt.alloc(), &Modules, ROWS, 16)?;
+    each(rt.alloc(), &Modules, IN_FILES, 4)
 }
 
 // A file that modules are in, the file's own name or nothing, and the candidates of `mod a;` in it.
@@ -127,8 +127,8 @@ impl Rows for Files {
 }
 
 #[test]
-fn files_have_modules(rt: HostRuntime) {
-    each(&rt, rt.alloc(), &Files, FILES, 6);
+fn files_have_modules(rt: HostRuntime) -> Result<(), Wrong> {
+    each(rt.alloc(), &Files, FILES, 6)
 }
 
 fn is_joined(alloc: Global) -> Result<bool, AllocError> {
@@ -136,10 +136,10 @@ fn is_joined(alloc: Global) -> Result<bool, AllocError> {
 }
 
 #[test]
-fn one_of_two_is_taken(rt: HostRuntime) {
-    holds(&rt, Ok(chosen(true, false) == Choice::Beside));
-    holds(&rt, Ok(chosen(false, true) == Choice::Nested));
-    holds(&rt, Ok(chosen(true, true) == Choice::Both));
-    holds(&rt, Ok(chosen(false, false) == Choice::Missing));
-    holds(&rt, is_joined(rt.alloc()));
+fn one_of_two_is_taken(rt: HostRuntime) -> Result<(), Wrong> {
+    holds(Ok(chosen(true, false) == Choice::Beside))?;
+    holds(Ok(chosen(false, true) == Choice::Nested))?;
+    holds(Ok(chosen(true, true) == Choice::Both))?;
+    holds(Ok(chosen(false, false) == Choice::Missing))?;
+    holds(is_joined(rt.alloc()))
 }

@@ -3,11 +3,17 @@ use mbe_diagnostics::diagnostic::{Diagnostic, Level, Point};
 use mbe_diagnostics::json::{json_line, plain_line};
 use serde_json::Value;
 use std::alloc::{AllocError, Global};
-use std::test::Fail;
-use test_rows::{Fields, Rows, each, holds, number, rows};
+use test_rows::{Fields, Rows, Wrong, each, holds, number, rows};
+
+fn value_of(alloc: Global, line: &str) -> Result<Value, Wrong> {
+    match Value::from_str(alloc, line) {
+        Ok(value) => Ok(value),
+        Err(_) => Err(Wrong("no JSON")),
+    }
+}
 
 // What is said of `b` in `a b`, the second line of a file that begins with three bytes and a line feed.
-fn sample(alloc: Global) -> Result<Value, Fail> {
+fn sample(alloc: Global) -> Result<Value, Wrong> {
     let start = Point {
         byte: 6,
         line: 2,
@@ -28,8 +34,7 @@ fn sample(alloc: Global) -> Result<Value, Fail> {
         before: "a ",
         part: "b",
     };
-    let line = json_line(alloc, &said)?;
-    Ok(Value::from_str(alloc, line.as_str())?)
+    value_of(alloc, json_line(alloc, &said)?.as_str())
 }
 
 const TEXTS: &str = rows![
@@ -100,25 +105,20 @@ fn is_primary(value: &Value) -> bool {
 }
 
 #[test]
-fn a_reader_takes_the_object(rt: HostRuntime) -> Result<(), Fail> {
+fn a_reader_takes_the_object(rt: HostRuntime) -> Result<(), Wrong> {
     let value = sample(rt.alloc())?;
-    each(&rt, rt.alloc(), &Members(&value, Kind::Text), TEXTS, 6);
-    each(&rt, rt.alloc(), &Members(&value, Kind::Number), NUMBERS, 8);
-    each(&rt, rt.alloc(), &Members(&value, Kind::Null), NULLS, 5);
-    holds(&rt, Ok(is_primary(&value)));
-    Ok(())
+    each(rt.alloc(), &Members(&value, Kind::Text), TEXTS, 6)?;
+    each(rt.alloc(), &Members(&value, Kind::Number), NUMBERS, 8)?;
+    each(rt.alloc(), &Members(&value, Kind::Null), NULLS, 5)?;
+    holds(Ok(is_primary(&value)))
 }
 
 #[test]
-fn what_has_no_place_has_no_spans(rt: HostRuntime) -> Result<(), Fail> {
+fn what_has_no_place_has_no_spans(rt: HostRuntime) -> Result<(), Wrong> {
     let line = plain_line(rt.alloc(), Level::Error, "couldn't read `a`")?;
-    let value = Value::from_str(rt.alloc(), line.as_str())?;
+    let value = value_of(rt.alloc(), line.as_str())?;
     let text = "error: couldn't read `a`\n";
-    holds(
-        &rt,
-        Ok(is_member(value.pointer("/rendered"), Kind::Text, text)),
-    );
-    holds(&rt, Ok(value.pointer("/spans").is_some()));
-    holds(&rt, Ok(value.pointer("/spans/0").is_none()));
-    Ok(())
+    holds(Ok(is_member(value.pointer("/rendered"), Kind::Text, text)))?;
+    holds(Ok(value.pointer("/spans").is_some()))?;
+    holds(Ok(value.pointer("/spans/0").is_none()))
 }

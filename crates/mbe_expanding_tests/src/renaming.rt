@@ -7,7 +7,7 @@ use mbe_tt::span::{Span, SyntaxContext};
 use mbe_tt::symbol::Symbol;
 use mbe_tt::tt::{Ident, Leaf, Literal, TopSubtree, TopSubtreeBuilder, TtElement};
 use std::alloc::{AllocError, Global};
-use test_rows::{Fields, Rows, each, number, rows};
+use test_rows::{Fields, Rows, Wrong, each, number, rows};
 
 // A text, what it becomes, and how many places aren't decided. Around the text is the name `outside`.
 const ROWS: &str = rows![
@@ -374,6 +374,6 @@ impl Rows for Renaming {
 }
 
 #[test]
-fn names_are_kept_apart(rt: HostRuntime) {
-    each(&rt, rt.alloc(), &Renaming, ROWS, 56);
+fn names_are_kept_apart(rt: HostRuntime) -> Result<(), Wrong> {
+    each(rt.alloc(), &Renaming, ROWS, 56)
 }

@@ -1,7 +1,7 @@
 // Texts with some of their parts replaced.
 use mbe_calls::splicing::{Replacement, splice};
 use std::alloc::{AllocError, Global};
-use test_rows::none;
+use test_rows::{Wrong, none};
 
 // What the parts `start..end` become, in a text of nine bytes.
 fn spliced(alloc: Global, parts: &[(usize, usize, &str)]) -> Result<String, AllocError> {
@@ -31,18 +31,17 @@ static ROWS: [(&[(usize, usize, &str)], &str); 9] = [
     (&[(0, 2, "x"), (6, 7, "c")], "x b! é!"),
 ];
 
-// The first text that is given otherwise.
-fn first_wrong(alloc: Global) -> Option<&'static str> {
-    for (parts, want) in &ROWS {
-        match spliced(alloc, parts) {
-            Ok(text) if text.as_str() == *want => {}
-            _ => return Some(want),
-        }
+fn is_spliced(alloc: Global, parts: &[(usize, usize, &str)], want: &str) -> bool {
+    match spliced(alloc, parts) {
+        Ok(text) => text.as_str() == want,
+        Err(AllocError) => false,
     }
-    None
 }
 
 #[test]
-fn parts_are_replaced(rt: HostRuntime) {
-    none(&rt, first_wrong(rt.alloc()));
+fn parts_are_replaced(rt: HostRuntime) -> Result<(), Wrong> {
+    for &(parts, want) in &ROWS {
+        none((!is_spliced(rt.alloc(), parts, want)).then_some(want))?;
+    }
+    Ok(())
 }

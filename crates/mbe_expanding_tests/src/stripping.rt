@@ -8,7 +8,7 @@ use mbe_stripping::stripping::strip;
 use mbe_tt::span::Edition;
 use mbe_tt::tt::TopSubtree;
 use std::alloc::{AllocError, Global};
-use test_rows::{Fields, Rows, each, holds, rows};
+use test_rows::{Fields, Rows, Wrong as Failed, each, holds, rows};
 
 static GIVEN: [Cfg<'static>; 1] = [Cfg {
     name: "yes",
@@ -126,8 +126,8 @@ impl Rows for Stays {
 }
 
 #[test]
-fn what_is_off_is_left_out(rt: HostRuntime) {
-    each(&rt, rt.alloc(), &Stays, ROWS, 36);
+fn what_is_off_is_left_out(rt: HostRuntime) -> Result<(), Failed> {
+    each(rt.alloc(), &Stays, ROWS, 36)
 }
 
 fn are_left(alloc: Global, text: &str) -> Result<bool, AllocError> {
@@ -141,7 +141,7 @@ fn are_left(alloc: Global, text: &str) -> Result<bool, AllocError> {
 }
 
 #[test]
-fn faults_leave_what_they_are_on(rt: HostRuntime) {
+fn faults_leave_what_they_are_on(rt: HostRuntime) -> Result<(), Failed> {
     let text = "#[inline] #[cfg(a b)] fn f() {} #[cfg(a(b))] m!();";
-    holds(&rt, are_left(rt.alloc(), text));
+    holds(are_left(rt.alloc(), text))
 }

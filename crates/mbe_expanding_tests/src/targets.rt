@@ -1,7 +1,7 @@
 // The options of targets, and features and tests.
 use mbe_cfg::settings::Settings;
 use mbe_cfg::targets::Target;
-use test_rows::{holds, none};
+use test_rows::{Wrong, holds, none};
 
 // Targets, a name with a value that each has, and a name that one alone has.
 static TARGETS: [(Target, &str, &str, Option<&str>); 5] = [
@@ -26,13 +26,11 @@ fn has_options(target: Target, name: &str, value: &str, family: Option<&str>) ->
 }
 
 #[test]
-fn targets_have_their_options(rt: HostRuntime) {
+fn targets_have_their_options(rt: HostRuntime) -> Result<(), Wrong> {
     for &(target, name, value, family) in &TARGETS {
-        none(
-            &rt,
-            (!has_options(target, name, value, family)).then_some(value),
-        );
+        none((!has_options(target, name, value, family)).then_some(value))?;
     }
+    Ok(())
 }
 
 fn are_given(settings: &Settings<'_>) -> bool {
@@ -45,12 +43,12 @@ fn are_given(settings: &Settings<'_>) -> bool {
 }
 
 #[test]
-fn tests_and_features(rt: HostRuntime) {
+fn tests_and_features(rt: HostRuntime) -> Result<(), Wrong> {
     let settings = Settings {
         target: &[],
         given: &[],
         features: &["a-b"],
         test: true,
     };
-    holds(&rt, Ok(are_given(&settings)));
+    holds(Ok(are_given(&settings)))
 }

@@ -9,7 +9,7 @@ use mbe_tt::tt::{
     TopSubtree, TopSubtreeBuilder,
 };
 use std::alloc::{AllocError, Global};
-use test_rows::{Fields, Rows, each, holds, rows, spelled};
+use test_rows::{Fields, Rows, Wrong, each, holds, rows, spelled};
 
 // Writes the trees of these texts, with a `~` between two, each as one of a file of its own.
 fn write(
@@ -154,13 +154,13 @@ impl Rows for Written {
 }
 
 #[test]
-fn tokens_are_kept_apart(rt: HostRuntime) {
-    each(&rt, rt.alloc(), &Written(Dialect::Sample), ROWS, 32);
+fn tokens_are_kept_apart(rt: HostRuntime) -> Result<(), Wrong> {
+    each(rt.alloc(), &Written(Dialect::Sample), ROWS, 32)
 }
 
 #[test]
-fn comments_are_comments(rt: HostRuntime) {
-    each(&rt, rt.alloc(), &Written(RUST), COMMENTS, 32);
+fn comments_are_comments(rt: HostRuntime) -> Result<(), Wrong> {
+    each(rt.alloc(), &Written(RUST), COMMENTS, 32)
 }
 
 // Texts with a `"` before many `#`; no raw string holds so many as the last two.
@@ -184,8 +184,8 @@ impl Rows for Same {
 
 // What is written is the text that was lexed.
 #[test]
-fn a_comment_has_any_text(rt: HostRuntime) {
-    each(&rt, rt.alloc(), &Same, HASHES, 5);
+fn a_comment_has_any_text(rt: HostRuntime) -> Result<(), Wrong> {
+    each(rt.alloc(), &Same, HASHES, 5)
 }
 
 // Texts of which the lexer makes no doc comment of several lines, but for the first two.
@@ -243,13 +243,13 @@ impl Rows for Docs {
 }
 
 #[test]
-fn a_text_of_no_comment_is_an_attribute(rt: HostRuntime) {
-    each(&rt, rt.alloc(), &Docs, TEXTS, 10);
+fn a_text_of_no_comment_is_an_attribute(rt: HostRuntime) -> Result<(), Wrong> {
+    each(rt.alloc(), &Docs, TEXTS, 10)
 }
 
 #[test]
-fn dots_stay(rt: HostRuntime) {
-    each(&rt, rt.alloc(), &Written(RUST), DOTS, 20);
+fn dots_stay(rt: HostRuntime) -> Result<(), Wrong> {
+    each(rt.alloc(), &Written(RUST), DOTS, 20)
 }
 
 // `1.a` is three tokens, of which the first two, before a group of another file, would be the number `1.`.
@@ -267,15 +267,12 @@ fn is_number_and_dot(alloc: Global) -> Result<bool, AllocError> {
 }
 
 #[test]
-fn a_number_before_a_dot(rt: HostRuntime) {
-    holds(&rt, is_number_and_dot(rt.alloc()));
+fn a_number_before_a_dot(rt: HostRuntime) -> Result<(), Wrong> {
+    holds(is_number_and_dot(rt.alloc()))
 }
 
 #[test]
-fn lines_are_indented(rt: HostRuntime) {
+fn lines_are_indented(rt: HostRuntime) -> Result<(), Wrong> {
     let want = "a;\n    {\n        b;\n        c\n    }";
-    holds(
-        &rt,
-        is_text(rt.alloc(), (Dialect::Sample, 1), "a;~{b; c}", want),
-    );
+    holds(is_text(rt.alloc(), (Dialect::Sample, 1), "a;~{b; c}", want))
 }

@@ -4,7 +4,7 @@ use mbe_errors::error::SyntaxFault;
 use mbe_faults::rules::{PartFault, RulesFault, read_one_rule, read_rules};
 use mbe_tt::span::Edition;
 use std::alloc::{AllocError, Global};
-use test_rows::{Fields, Rows, each, holds, rows};
+use test_rows::{Fields, Rows, Wrong, each, holds, rows};
 
 // Rules that `;` separates; the fault, the number of the rules before it, and the number of flat tokens before it.
 // A punct, an opening and a closing are a flat token each, so `=>` is two.
@@ -101,13 +101,13 @@ impl Rows for Faults {
 }
 
 #[test]
-fn faults_are_placed(rt: HostRuntime) {
-    each(&rt, rt.alloc(), &Faults, FAULTS, 29);
+fn faults_are_placed(rt: HostRuntime) -> Result<(), Wrong> {
+    each(rt.alloc(), &Faults, FAULTS, 29)
 }
 
 #[test]
-fn what_is_read_has_no_fault(rt: HostRuntime) {
-    each(&rt, rt.alloc(), &Faults, READ, 6);
+fn what_is_read_has_no_fault(rt: HostRuntime) -> Result<(), Wrong> {
+    each(rt.alloc(), &Faults, READ, 6)
 }
 
 fn is_between_rules(alloc: Global, text: &str) -> Result<bool, AllocError> {
@@ -121,8 +121,8 @@ fn is_between_rules(alloc: Global, text: &str) -> Result<bool, AllocError> {
 }
 
 #[test]
-fn a_fault_between_rules_depends_on_the_separators(rt: HostRuntime) {
-    holds(&rt, is_between_rules(rt.alloc(), "() => {}, () => {} a"));
+fn a_fault_between_rules_depends_on_the_separators(rt: HostRuntime) -> Result<(), Wrong> {
+    holds(is_between_rules(rt.alloc(), "() => {}, () => {} a"))
 }
 
 // The arguments and the body of a `macro`; the fault, where it is, and the number of flat tokens before it there.
@@ -161,6 +161,6 @@ impl Rows for Parts {
 }
 
 #[test]
-fn faults_of_one_rule_are_placed(rt: HostRuntime) {
-    each(&rt, rt.alloc(), &Parts, PARTS, 4);
+fn faults_of_one_rule_are_placed(rt: HostRuntime) -> Result<(), Wrong> {
+    each(rt.alloc(), &Parts, PARTS, 4)
 }

@@ -1,7 +1,7 @@
 // What may follow a fragment, and names that are bound twice or have an unknown specifier: rustc 1.95 refuses each of these
 // definitions at the second place of each line, or the only one, and nowhere else.
 use crate::found::Found;
-use test_rows::{each, rows};
+use test_rows::{Wrong, each, rows};
 
 const ROWS: &str = rows![
     ("($_e:expr =>) => {}", ""),
@@ -156,6 +156,6 @@ const ROWS: &str = rows![
 ];
 
 #[test]
-fn what_rustc_forbids_is_found(rt: HostRuntime) {
-    each(&rt, rt.alloc(), &Found, ROWS, 134);
+fn what_rustc_forbids_is_found(rt: HostRuntime) -> Result<(), Wrong> {
+    each(rt.alloc(), &Found, ROWS, 134)
 }

@@ -1,7 +1,7 @@
 // Matches that would take for ever, or much memory, if each beginning of a reading were followed.
 use crate::matches::{comes_to, matched_texts};
 use std::alloc::{AllocError, Global};
-use test_rows::{Fields, Rows, each, rows, spelled};
+use test_rows::{Fields, Rows, Wrong, each, rows, spelled};
 
 // The verdict, and how many trees are left where the match stops.
 #[derive(Clone, Copy)]
@@ -26,8 +26,10 @@ const SEMICOLONS: &str = rows![
 ];
 
 #[test]
-fn repetitions_in_one_another_have_many_readings_of_semicolons(rt: HostRuntime) {
-    each(&rt, rt.alloc(), &Large, SEMICOLONS, 3);
+fn repetitions_in_one_another_have_many_readings_of_semicolons(
+    rt: HostRuntime,
+) -> Result<(), Wrong> {
+    each(rt.alloc(), &Large, SEMICOLONS, 3)
 }
 
 const WORDS: &str = rows![
@@ -46,8 +48,8 @@ const WORDS: &str = rows![
 ];
 
 #[test]
-fn eight_repetitions_read_a_thousand_words(rt: HostRuntime) {
-    each(&rt, rt.alloc(), &Large, WORDS, 2);
+fn eight_repetitions_read_a_thousand_words(rt: HostRuntime) -> Result<(), Wrong> {
+    each(rt.alloc(), &Large, WORDS, 2)
 }
 
 const GROUPS: &str = rows![
@@ -56,6 +58,6 @@ const GROUPS: &str = rows![
 ];
 
 #[test]
-fn groups_in_one_another_are_entered_and_taken(rt: HostRuntime) {
-    each(&rt, rt.alloc(), &Large, GROUPS, 2);
+fn groups_in_one_another_are_entered_and_taken(rt: HostRuntime) -> Result<(), Wrong> {
+    each(rt.alloc(), &Large, GROUPS, 2)
 }

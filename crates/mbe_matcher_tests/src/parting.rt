@@ -4,7 +4,7 @@ use crate::matches::{template_of, trees_of};
 use mbe_grammar::SampleGrammar;
 use mbe_parting::parting::first_parting;
 use std::alloc::{AllocError, Allocator};
-use test_rows::{AnyRows, Fields, each_of_any, each_refused, rows};
+use test_rows::{AnyRows, Fields, Wrong, each_of_any, each_refused, rows};
 
 #[derive(Clone, Copy)]
 struct Partings;
@@ -36,8 +36,8 @@ const BEFORE_A_REPETITION: &str = rows![
 ];
 
 #[test]
-fn readings_part_before_a_repetition(rt: HostRuntime) {
-    each_of_any(&rt, rt.alloc(), &Partings, BEFORE_A_REPETITION, 8);
+fn readings_part_before_a_repetition(rt: HostRuntime) -> Result<(), Wrong> {
+    each_of_any(rt.alloc(), &Partings, BEFORE_A_REPETITION, 8)
 }
 
 // Into another round, or out.
@@ -49,8 +49,8 @@ const AFTER_A_ROUND: &str = rows![
 ];
 
 #[test]
-fn readings_part_after_a_round(rt: HostRuntime) {
-    each_of_any(&rt, rt.alloc(), &Partings, AFTER_A_ROUND, 4);
+fn readings_part_after_a_round(rt: HostRuntime) -> Result<(), Wrong> {
+    each_of_any(rt.alloc(), &Partings, AFTER_A_ROUND, 4)
 }
 
 // A way that fits for some tokens, and leads to no reading, is none. In the first row only the place of `d` has two.
@@ -61,8 +61,8 @@ const DEAD_ENDS: &str = rows![
 ];
 
 #[test]
-fn no_reading_goes_by_a_dead_end(rt: HostRuntime) {
-    each_of_any(&rt, rt.alloc(), &Partings, DEAD_ENDS, 3);
+fn no_reading_goes_by_a_dead_end(rt: HostRuntime) -> Result<(), Wrong> {
+    each_of_any(rt.alloc(), &Partings, DEAD_ENDS, 3)
 }
 
 const ONE_READING: &str = rows![
@@ -74,11 +74,11 @@ const ONE_READING: &str = rows![
 ];
 
 #[test]
-fn one_reading_parts_nowhere(rt: HostRuntime) {
-    each_of_any(&rt, rt.alloc(), &Partings, ONE_READING, 5);
+fn one_reading_parts_nowhere(rt: HostRuntime) -> Result<(), Wrong> {
+    each_of_any(rt.alloc(), &Partings, ONE_READING, 5)
 }
 
 #[test]
-fn each_request_of_a_parting_refused(rt: HostRuntime) {
-    each_refused(&rt, rt.alloc(), &Partings, (DEAD_ENDS, 3), (0, true));
+fn each_request_of_a_parting_refused(rt: HostRuntime) -> Result<(), Wrong> {
+    each_refused(rt.alloc(), &Partings, (DEAD_ENDS, 3), (0, true))
 }

@@ -7,7 +7,7 @@ use mbe_tt::tt::{
     TopSubtreeBuilder,
 };
 use std::alloc::{AllocError, Allocator};
-use test_rows::holds;
+use test_rows::{Wrong, holds};
 
 const SPAN: Span = Span {
     file: 0,
@@ -84,6 +84,6 @@ fn is_ambiguous<A: Allocator + Copy>(alloc: A) -> Result<bool, AllocError> {
 }
 
 #[test]
-fn a_quote_and_a_lifetime_pass_different_lengths(rt: HostRuntime) {
-    holds(&rt, is_ambiguous(rt.alloc()));
+fn a_quote_and_a_lifetime_pass_different_lengths(rt: HostRuntime) -> Result<(), Wrong> {
+    holds(is_ambiguous(rt.alloc()))
 }

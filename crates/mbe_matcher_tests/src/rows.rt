@@ -2,7 +2,7 @@
 use crate::matches::{comes_to, matched_texts};
 use mbe_matcher::matching::Verdict;
 use std::alloc::{AllocError, Allocator};
-use test_rows::{AnyRows, Fields, each_of_any, each_refused, number, rows};
+use test_rows::{AnyRows, Fields, Wrong, each_of_any, each_refused, number, rows};
 
 // The verdict, and how many trees are left where the match stops.
 #[derive(Clone, Copy)]
@@ -59,8 +59,8 @@ const REPETITIONS: &str = rows![
 ];
 
 #[test]
-fn repetitions_have_the_readings_of_their_definition(rt: HostRuntime) {
-    each_of_any(&rt, rt.alloc(), &Stops, REPETITIONS, 13);
+fn repetitions_have_the_readings_of_their_definition(rt: HostRuntime) -> Result<(), Wrong> {
+    each_of_any(rt.alloc(), &Stops, REPETITIONS, 13)
 }
 
 const AMBIGUITIES: &str = rows![
@@ -69,8 +69,8 @@ const AMBIGUITIES: &str = rows![
 ];
 
 #[test]
-fn two_ways_to_go_on_by_a_fragment_are_ambiguous(rt: HostRuntime) {
-    each_of_any(&rt, rt.alloc(), &Stops, AMBIGUITIES, 2);
+fn two_ways_to_go_on_by_a_fragment_are_ambiguous(rt: HostRuntime) -> Result<(), Wrong> {
+    each_of_any(rt.alloc(), &Stops, AMBIGUITIES, 2)
 }
 
 // Three positions or more meet before each of the repetitions. At the pattern's end the first of
@@ -88,8 +88,8 @@ const REPORTS: &str = rows![
 ];
 
 #[test]
-fn where_positions_meet_the_first_or_the_last_is_reported(rt: HostRuntime) {
-    each_of_any(&rt, rt.alloc(), &Binds, REPORTS, 4);
+fn where_positions_meet_the_first_or_the_last_is_reported(rt: HostRuntime) -> Result<(), Wrong> {
+    each_of_any(rt.alloc(), &Binds, REPORTS, 4)
 }
 
 const BINDINGS: &str = rows![
@@ -104,8 +104,8 @@ const BINDINGS: &str = rows![
 ];
 
 #[test]
-fn rounds_bind_in_order(rt: HostRuntime) {
-    each_of_any(&rt, rt.alloc(), &Binds, BINDINGS, 8);
+fn rounds_bind_in_order(rt: HostRuntime) -> Result<(), Wrong> {
+    each_of_any(rt.alloc(), &Binds, BINDINGS, 8)
 }
 
 const REFUSED: &str = rows![
@@ -120,7 +120,7 @@ const REFUSED_BINDINGS: &str = rows![
 ];
 
 #[test]
-fn each_request_for_memory_refused(rt: HostRuntime) {
-    each_refused(&rt, rt.alloc(), &Stops, (REFUSED, 3), (10, false));
-    each_refused(&rt, rt.alloc(), &Binds, (REFUSED_BINDINGS, 2), (10, false));
+fn each_request_for_memory_refused(rt: HostRuntime) -> Result<(), Wrong> {
+    each_refused(rt.alloc(), &Stops, (REFUSED, 3), (10, false))?;
+    each_refused(rt.alloc(), &Binds, (REFUSED_BINDINGS, 2), (10, false))
 }

@@ -1,6 +1,6 @@
 // Variables that a template doesn't name, and those that still repeat where it does. Worked out by hand.
 use crate::found::Found;
-use test_rows::{each, rows};
+use test_rows::{Wrong, each, rows};
 
 const ROWS: &str = rows![
     ("() => {}", ""),
@@ -29,6 +29,6 @@ const ROWS: &str = rows![
 ];
 
 #[test]
-fn variables_of_no_use_are_found(rt: HostRuntime) {
-    each(&rt, rt.alloc(), &Found, ROWS, 20);
+fn variables_of_no_use_are_found(rt: HostRuntime) -> Result<(), Wrong> {
+    each(rt.alloc(), &Found, ROWS, 20)
 }

@@ -1,7 +1,7 @@
 // What the edition decides: `pat` takes alternatives from 2021 on, and `expr` takes `_` and `const` blocks from 2024 on.
 use crate::rows::{Table, all};
 use mbe_tt::span::Edition;
-use test_rows::rows;
+use test_rows::{Wrong, rows};
 
 const BEFORE_2021: &str = rows![
     (
@@ -105,6 +105,6 @@ static BY_EDITION: [Table; 12] = [
 ];
 
 #[test]
-fn the_edition_decides_what_fits(rt: HostRuntime) {
-    all(&rt, rt.alloc(), &BY_EDITION);
+fn the_edition_decides_what_fits(rt: HostRuntime) -> Result<(), Wrong> {
+    all(rt.alloc(), &BY_EDITION)
 }

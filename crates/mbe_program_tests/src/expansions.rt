@@ -7,7 +7,7 @@ use mbe_tt::grammar::PrefixEntryPoint;
 use mbe_tt::span::{DelimSpan, Edition, Span, SyntaxContext};
 use std::alloc::{AllocError, Global};
 use std::rc::Rc;
-use test_rows::{each, none, rows};
+use test_rows::{Wrong, each, none, rows};
 
 // Rows as `Worked` takes them: a sign belongs to its literal, and a type is written as it is.
 const WRITTEN: &str = rows![
@@ -96,8 +96,8 @@ const WRITTEN: &str = rows![
 ];
 
 #[test]
-fn fragments_are_written(rt: HostRuntime) {
-    each(&rt, rt.alloc(), &Worked(Edition::Edition2024), WRITTEN, 11);
+fn fragments_are_written(rt: HostRuntime) -> Result<(), Wrong> {
+    each(rt.alloc(), &Worked(Edition::Edition2024), WRITTEN, 11)
 }
 
 fn at(start: u32, end: u32) -> Span {
@@ -157,9 +157,10 @@ fn error(alloc: Global, reported: Option<&str>) -> Result<Option<ExpandError>, A
 }
 
 #[test]
-fn fronts_of_the_grammar(rt: HostRuntime) {
+fn fronts_of_the_grammar(rt: HostRuntime) -> Result<(), Wrong> {
     for row in &FRONTS {
         let is_so = is_front(rt.alloc(), row).unwrap_or(false);
-        none(&rt, (!is_so).then_some(row.1));
+        none((!is_so).then_some(row.1))?;
     }
+    Ok(())
 }

@@ -2,7 +2,7 @@
 use crate::rows::{Worked, is_row};
 use mbe_tt::span::Edition;
 use std::alloc::{AllocError, Global};
-use test_rows::{Fields, Rows, each, number, rows, spelled};
+use test_rows::{Fields, Rows, Wrong, each, number, rows, spelled};
 
 const EDITION: Edition = Edition::Edition2024;
 
@@ -32,8 +32,8 @@ const SEMICOLONS: &str = rows![
 ];
 
 #[test]
-fn repetitions_of_nothing_have_several_readings(rt: HostRuntime) {
-    each(&rt, rt.alloc(), &Worked(EDITION), SEMICOLONS, 3);
+fn repetitions_of_nothing_have_several_readings(rt: HostRuntime) -> Result<(), Wrong> {
+    each(rt.alloc(), &Worked(EDITION), SEMICOLONS, 3)
 }
 
 // A thousand words, of which two fit at any place, or too many rounds.
@@ -63,8 +63,8 @@ const ERRORS: &str = rows![
 ];
 
 #[test]
-fn words_that_are_ambiguous_or_too_many(rt: HostRuntime) {
-    each(&rt, rt.alloc(), &Worked(EDITION), ERRORS, 3);
+fn words_that_are_ambiguous_or_too_many(rt: HostRuntime) -> Result<(), Wrong> {
+    each(rt.alloc(), &Worked(EDITION), ERRORS, 3)
 }
 
 // Groups in one another are one tree, and those of the pattern are entered.
@@ -87,8 +87,8 @@ const GROUPS: &str = rows![
 ];
 
 #[test]
-fn groups_in_one_another_are_taken_and_entered(rt: HostRuntime) {
-    each(&rt, rt.alloc(), &Worked(EDITION), GROUPS, 3);
+fn groups_in_one_another_are_taken_and_entered(rt: HostRuntime) -> Result<(), Wrong> {
+    each(rt.alloc(), &Worked(EDITION), GROUPS, 3)
 }
 
 // The names of a variable and of the argument, of 100,000 letters each; and a rule after a thousand that don't fit.
@@ -117,8 +117,8 @@ const LONG: &str = rows![
 ];
 
 #[test]
-fn names_and_definitions_are_long(rt: HostRuntime) {
-    each(&rt, rt.alloc(), &Worked(EDITION), LONG, 3);
+fn names_and_definitions_are_long(rt: HostRuntime) -> Result<(), Wrong> {
+    each(rt.alloc(), &Worked(EDITION), LONG, 3)
 }
 
 // What is printed of so many words of a file, from that byte on.
@@ -153,8 +153,8 @@ impl Rows for Words {
 const ROUNDS: &str = rows![("($($x:ident)*) => {$($x)*}", "«65534 a »a", 65535, 1, 0,)];
 
 #[test]
-fn a_repetition_writes_65535_rounds(rt: HostRuntime) {
-    each(&rt, rt.alloc(), &Words, ROUNDS, 1);
+fn a_repetition_writes_65535_rounds(rt: HostRuntime) -> Result<(), Wrong> {
+    each(rt.alloc(), &Words, ROUNDS, 1)
 }
 
 // A pattern and a template of 6,000 words each. The template's first word is at byte 1 + 11,999 + 6.
@@ -167,6 +167,6 @@ const RULE: &str = rows![(
 )];
 
 #[test]
-fn a_long_rule_is_read_and_written(rt: HostRuntime) {
-    each(&rt, rt.alloc(), &Words, RULE, 1);
+fn a_long_rule_is_read_and_written(rt: HostRuntime) -> Result<(), Wrong> {
+    each(rt.alloc(), &Words, RULE, 1)
 }

@@ -3,7 +3,7 @@ use crate::memory::first_unneeded;
 use crate::runs::{first_unwritten, prints};
 use mbe_tt::span::Edition;
 use std::alloc::{AllocError, Global};
-use test_rows::{Fields, Rows, each, number, rows};
+use test_rows::{Fields, Rows, Wrong, each, number, rows};
 
 // A definition and an argument, and the lines.
 const LINTS: &str = rows![
@@ -75,8 +75,8 @@ impl Rows for Lints {
 }
 
 #[test]
-fn lints_are_printed(rt: HostRuntime) {
-    each(&rt, rt.alloc(), &Lints, LINTS, 14);
+fn lints_are_printed(rt: HostRuntime) -> Result<(), Wrong> {
+    each(rt.alloc(), &Lints, LINTS, 14)
 }
 
 // Texts that come to no verdicts, and the status.
@@ -102,6 +102,6 @@ fn status_of(field: &str) -> u8 {
 }
 
 #[test]
-fn what_is_refused_has_no_lines(rt: HostRuntime) {
-    each(&rt, rt.alloc(), &Refused, FAILURES, 4);
+fn what_is_refused_has_no_lines(rt: HostRuntime) -> Result<(), Wrong> {
+    each(rt.alloc(), &Refused, FAILURES, 4)
 }

@@ -5,7 +5,7 @@ use crate::{reports, rows};
 use mbe_tt::span::Edition;
 use refusing::Refusing;
 use std::alloc::{AllocError, Global};
-use test_rows::{Fields, Rows, each};
+use test_rows::{Fields, Rows, Wrong, each};
 
 /// The number of the first request that a run doesn't make, if each other one, refused alone, ends it out of memory with
 /// nothing printed, and the run without a refusal prints that with that status.
@@ -47,8 +47,8 @@ impl Rows for Unneeded {
 }
 
 #[test]
-fn a_refused_request_is_out_of_memory(rt: HostRuntime) {
-    each(&rt, rt.alloc(), &Unneeded, rows::WORKED, 13);
-    each(&rt, rt.alloc(), &Unneeded, rows::RECOVERED, 10);
-    each(&rt, rt.alloc(), &Unneeded, reports::RECOVERED, 4);
+fn a_refused_request_is_out_of_memory(rt: HostRuntime) -> Result<(), Wrong> {
+    each(rt.alloc(), &Unneeded, rows::WORKED, 13)?;
+    each(rt.alloc(), &Unneeded, rows::RECOVERED, 10)?;
+    each(rt.alloc(), &Unneeded, reports::RECOVERED, 4)
 }

@@ -2,7 +2,7 @@
 use crate::rows::{Table, all, is_row};
 use mbe_tt::span::Edition;
 use std::alloc::{AllocError, Global};
-use test_rows::{Fields, Rows, each, rows};
+use test_rows::{Fields, Rows, Wrong, each, rows};
 
 pub const RECOVERED: &str = rows![
     (
@@ -255,8 +255,8 @@ static TABLES: [Table; 6] = [
 ];
 
 #[test]
-fn a_failed_match_reports_its_first_error(rt: HostRuntime) {
-    all(&rt, rt.alloc(), &TABLES);
+fn a_failed_match_reports_its_first_error(rt: HostRuntime) -> Result<(), Wrong> {
+    all(rt.alloc(), &TABLES)
 }
 
 // A specifier, what its variable asks for, and what is written for a fragment that is missing, at each place of the variable's name as
@@ -309,6 +309,6 @@ fn trees(alloc: Global, open: usize, default: &str) -> Result<String, AllocError
 }
 
 #[test]
-fn a_missing_fragment_has_a_default(rt: HostRuntime) {
-    each(&rt, rt.alloc(), &Defaults, DEFAULTS, 14);
+fn a_missing_fragment_has_a_default(rt: HostRuntime) -> Result<(), Wrong> {
+    each(rt.alloc(), &Defaults, DEFAULTS, 14)
 }

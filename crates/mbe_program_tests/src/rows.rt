@@ -2,8 +2,7 @@
 use crate::runs::prints;
 use mbe_tt::span::Edition;
 use std::alloc::{AllocError, Global};
-use std::process::Abort;
-use test_rows::{Fields, Rows, each, rows, spelled};
+use test_rows::{Fields, Rows, Wrong, each, rows, spelled};
 
 /// Rows of a definition and an argument, the error with its place, if there is one, the arm, and the trees of the expansion.
 #[derive(Clone, Copy)]
@@ -51,11 +50,12 @@ pub fn is_row(
 /// A table of such rows, how many they are, and their edition.
 pub type Table = (Edition, &'static str, usize);
 
-/// Each row of the tables is as it says. A failure shows the first that isn't.
-pub fn all(rt: &impl Abort, alloc: Global, tables: &[Table]) {
+/// Each row of the tables is as it says.
+pub fn all(alloc: Global, tables: &[Table]) -> Result<(), Wrong> {
     for &(edition, rows, count) in tables {
-        each(rt, alloc, &Worked(edition), rows, count);
+        each(alloc, &Worked(edition), rows, count)?;
     }
+    Ok(())
 }
 
 pub const WORKED: &str = rows![
@@ -717,6 +717,6 @@ static TABLES: [Table; 8] = [
 ];
 
 #[test]
-fn rows_are_written_and_recovered(rt: HostRuntime) {
-    all(&rt, rt.alloc(), &TABLES);
+fn rows_are_written_and_recovered(rt: HostRuntime) -> Result<(), Wrong> {
+    all(rt.alloc(), &TABLES)
 }

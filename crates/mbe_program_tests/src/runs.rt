@@ -8,8 +8,7 @@ use mbe_tt::span::Edition;
 use std::alloc::{AllocError, Allocator, Global};
 use std::io;
 use std::io::Write;
-use std::test::Fail;
-use test_rows::{Fields, Rows, each, holds, none, number, rows};
+use test_rows::{Fields, Rows, Wrong, each, holds, none, number, rows};
 
 const PAIR: (&str, &str) = ("($x:ident = $t:tt;) => { pair ($t) $x }", "a = 1;");
 
@@ -117,11 +116,12 @@ SUBTREE $$ 1@0..2 1@0..2
 ];
 
 #[test]
-fn expansions_are_printed(rt: HostRuntime) {
+fn expansions_are_printed(rt: HostRuntime) -> Result<(), Wrong> {
     for &(texts, want) in &EXPANDED {
         let is_so = prints(rt.alloc(), texts, EXPANDING, (want, 0));
-        none(&rt, (!is_so).then_some(want));
+        none((!is_so).then_some(want))?;
     }
+    Ok(())
 }
 
 // Definitions without a rule of the style of the call.
@@ -132,13 +132,14 @@ static NO_RULES: [&str; 3] = [
 ];
 
 #[test]
-fn no_rule_is_of_the_style(rt: HostRuntime) {
+fn no_rule_is_of_the_style(rt: HostRuntime) -> Result<(), Wrong> {
     let want =
         "error: no rule matches input tokens at 1@0..1\narm none\nSUBTREE $$ 1@0..1 1@0..1\n";
     for &def in &NO_RULES {
         let is_so = prints(rt.alloc(), (def, "c"), EXPANDING, (want, 1));
-        none(&rt, (!is_so).then_some(def));
+        none((!is_so).then_some(def))?;
     }
+    Ok(())
 }
 
 const NAMES: Options<'static> = Options {
@@ -198,8 +199,8 @@ impl Rows for Failures {
 }
 
 #[test]
-fn failures_have_a_status_and_a_line(rt: HostRuntime) {
-    each(&rt, rt.alloc(), &Failures, FAILURES, 9);
+fn failures_have_a_status_and_a_line(rt: HostRuntime) -> Result<(), Wrong> {
+    each(rt.alloc(), &Failures, FAILURES, 9)
 }
 
 // Whether the status of a report is 3, with that line.
@@ -219,19 +220,13 @@ fn ends_in(
 }
 
 #[test]
-fn other_failures_have_a_line(rt: HostRuntime) {
+fn other_failures_have_a_line(rt: HostRuntime) -> Result<(), Wrong> {
     let usage = "usage: mbex [--lint] DEF-FILE ARG-FILE [EDITION]";
     let unread = Report::CannotRead("a.b");
-    holds(&rt, has_line(rt.alloc(), Report::Usage, usage));
-    holds(&rt, has_line(rt.alloc(), unread, "cannot read a.b"));
-    holds(
-        &rt,
-        ends_in(rt.alloc(), Outcome::CannotWrite, 3, "cannot write"),
-    );
-    holds(
-        &rt,
-        ends_in(rt.alloc(), Outcome::OutOfMemory, 5, "out of memory"),
-    );
+    holds(has_line(rt.alloc(), Report::Usage, usage))?;
+    holds(has_line(rt.alloc(), unread, "cannot read a.b"))?;
+    holds(ends_in(rt.alloc(), Outcome::CannotWrite, 3, "cannot write"))?;
+    holds(ends_in(rt.alloc(), Outcome::OutOfMemory, 5, "out of memory"))
 }
 
 const WORDS: &str = rows![
@@ -298,8 +293,8 @@ impl Rows for Named {
 }
 
 #[test]
-fn words_name_files_and_an_edition(rt: HostRuntime) {
-    each(&rt, rt.alloc(), &Named, WORDS, 15);
+fn words_name_files_and_an_edition(rt: HostRuntime) -> Result<(), Wrong> {
+    each(rt.alloc(), &Named, WORDS, 15)
 }
 
 // The words, and the status. The running program's own file isn't UTF-8.
@@ -313,11 +308,11 @@ static FILES: [(&str, u8); 6] = [
 ];
 
 #[test]
-fn files_that_cannot_be_read(rt: HostRuntime) -> Result<(), Fail> {
+fn files_that_cannot_be_read(rt: HostRuntime) -> Result<(), Wrong> {
     for &(text, status) in &FILES {
         let words = words_of(rt.alloc(), text)?;
         let is_so = started(&rt, words.as_slice()) == status;
-        none(&rt, (!is_so).then_some(text));
+        none((!is_so).then_some(text))?;
     }
     Ok(())
 }
@@ -374,9 +369,9 @@ pub fn first_unwritten(alloc: Global, texts: (&str, &str), lint: bool, want: &st
 
 // One for each of the six lines, and the flush.
 #[test]
-fn a_failed_write_is_reported(rt: HostRuntime) {
+fn a_failed_write_is_reported(rt: HostRuntime) -> Result<(), Wrong> {
     let number = first_unwritten(rt.alloc(), PAIR, false, PAIR_OUTPUT);
-    holds(&rt, Ok(number.unwrap_or(0) > 7));
+    holds(Ok(number.unwrap_or(0) > 7))
 }
 
 /// Whether a run of any texts ends as runs do.
@@ -424,6 +419,6 @@ const TEXTS: &str = rows![
 ];
 
 #[test]
-fn every_prefix_of_a_text_ends(rt: HostRuntime) {
-    each(&rt, rt.alloc(), &Prefixes, TEXTS, 3);
+fn every_prefix_of_a_text_ends(rt: HostRuntime) -> Result<(), Wrong> {
+    each(rt.alloc(), &Prefixes, TEXTS, 3)
 }

@@ -5,7 +5,7 @@ use mbe_tt::grammar::{FragmentGrammar, PrefixEntryPoint};
 use mbe_tt::span::Edition;
 use mbe_tt::span::Edition::{Edition2015, Edition2018, Edition2021, Edition2024};
 use std::alloc::{AllocError, Global};
-use test_rows::{Fields, Rows, each, holds, rows};
+use test_rows::{Fields, Rows, Wrong, each, holds, rows};
 
 // Rows as they are before an edition, and as they are from that one on: a text, and its part before and since.
 #[derive(Clone, Copy)]
@@ -86,22 +86,20 @@ static TABLES: [((Edition, Edition), PrefixEntryPoint, &str, usize); 7] = [
 ];
 
 #[test]
-fn the_edition_decides(rt: HostRuntime) {
+fn the_edition_decides(rt: HostRuntime) -> Result<(), Wrong> {
     for &(editions, entry, rows, count) in &TABLES {
-        each(&rt, rt.alloc(), &Since { editions, entry }, rows, count);
+        each(rt.alloc(), &Since { editions, entry }, rows, count)?;
     }
+    Ok(())
 }
 
 // Lexed text is of context 0, so the list decides, and the table's own edition where the list is empty.
 #[test]
-fn the_context_decides(rt: HostRuntime) {
+fn the_context_decides(rt: HostRuntime) -> Result<(), Wrong> {
     let editions = [Edition2015];
     let table = rust_rules(Edition2021, &editions);
     let entry = PrefixEntryPoint::Expr;
     let is_taken = takes_part(rt.alloc(), &table, entry, "async + a", "async + a");
-    holds(&rt, is_taken);
-    holds(
-        &rt,
-        Ok(table.is_keyword("async") && !table.is_keyword("gen")),
-    );
+    holds(is_taken)?;
+    holds(Ok(table.is_keyword("async") && !table.is_keyword("gen")))
 }

@@ -3,7 +3,7 @@ use crate::taking::Part;
 use mbe_rust::fragments::rust_rules;
 use mbe_tt::grammar::PrefixEntryPoint;
 use mbe_tt::span::Edition;
-use test_rows::{each, rows};
+use test_rows::{Wrong, each, rows};
 
 const PATHS: &str = rows![
     ("a::b::c + d", "a::b::c"),
@@ -218,9 +218,10 @@ static KINDS: [(PrefixEntryPoint, &str, usize); 10] = [
 ];
 
 #[test]
-fn fragments_of_each_kind(rt: HostRuntime) {
+fn fragments_of_each_kind(rt: HostRuntime) -> Result<(), Wrong> {
     for &(entry, rows, count) in &KINDS {
         let table = rust_rules(Edition::Edition2021, &[]);
-        each(&rt, rt.alloc(), &Part { table, entry }, rows, count);
+        each(rt.alloc(), &Part { table, entry }, rows, count)?;
     }
+    Ok(())
 }

@@ -7,8 +7,7 @@ use mbe_tt::grammar::{FragmentGrammar, PrefixEntryPoint};
 use mbe_tt::span::Edition;
 use mbe_tt::tt::DelimiterKind;
 use std::alloc::{AllocError, Global};
-use std::test::Fail;
-use test_rows::{Fields, Rows as Tested, each, holds, none, rows};
+use test_rows::{Fields, Rows as Tested, Wrong, each, holds, none, rows};
 
 // Texts, and their nodes: first those of the rules' names.
 static NODES: [(&str, &[Node<'static>]); 13] = [
@@ -142,8 +141,8 @@ fn has_nodes(alloc: Global, text: &str, nodes: &[Node<'_>]) -> bool {
 }
 
 #[test]
-fn texts_are_tables(rt: HostRuntime) {
-    none(&rt, first_unlike(rt.alloc()));
+fn texts_are_tables(rt: HostRuntime) -> Result<(), Wrong> {
+    none(first_unlike(rt.alloc()))
 }
 
 // Texts that are no grammar, with the place and the reason.
@@ -204,8 +203,8 @@ fn is_shown(alloc: Global, fault: RuleFault<'_>, want: &str) -> Result<bool, All
 }
 
 #[test]
-fn faults_have_places(rt: HostRuntime) {
-    each(&rt, rt.alloc(), &Faults, FAULTS, 25);
+fn faults_have_places(rt: HostRuntime) -> Result<(), Wrong> {
+    each(rt.alloc(), &Faults, FAULTS, 25)
 }
 
 // A grammar of sums, whose operands are names, literals and sums in parentheses.
@@ -248,11 +247,10 @@ fn has_keywords(alloc: Global, rules: &Rules<'_>) -> Result<bool, AllocError> {
 }
 
 #[test]
-fn a_grammar_of_sums(rt: HostRuntime) -> Result<(), Fail> {
+fn a_grammar_of_sums(rt: HostRuntime) -> Result<(), Wrong> {
     let Ok(rules) = Rules::read(rt.alloc(), SUMS) else {
-        return Err(Fail::from("no grammar"));
+        return Err(Wrong("no grammar"));
     };
-    none(&rt, first_wrong(rt.alloc(), &rules));
-    holds(&rt, has_keywords(rt.alloc(), &rules));
-    Ok(())
+    none(first_wrong(rt.alloc(), &rules))?;
+    holds(has_keywords(rt.alloc(), &rules))
 }

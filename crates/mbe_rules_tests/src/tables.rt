@@ -6,7 +6,7 @@ use mbe_tt::grammar::PrefixEntryPoint;
 use mbe_tt::span::Edition;
 use mbe_tt::tt::DelimiterKind;
 use std::alloc::{AllocError, Global};
-use test_rows::none;
+use test_rows::{Wrong, none};
 
 const SUM: usize = 0;
 
@@ -186,8 +186,8 @@ static TAKEN: [(usize, &str, Option<usize>); 29] = [
 ];
 
 #[test]
-fn rules_take(rt: HostRuntime) {
-    none(&rt, first_wrong(rt.alloc(), Edition::Edition2021, &TAKEN));
+fn rules_take(rt: HostRuntime) -> Result<(), Wrong> {
+    none(first_wrong(rt.alloc(), Edition::Edition2021, &TAKEN))
 }
 
 // The same in the edition of 2024.
@@ -199,11 +199,8 @@ static TAKEN_2024: [(usize, &str, Option<usize>); 4] = [
 ];
 
 #[test]
-fn rules_take_by_edition(rt: HostRuntime) {
-    none(
-        &rt,
-        first_wrong(rt.alloc(), Edition::Edition2024, &TAKEN_2024),
-    );
+fn rules_take_by_edition(rt: HostRuntime) -> Result<(), Wrong> {
+    none(first_wrong(rt.alloc(), Edition::Edition2024, &TAKEN_2024))
 }
 
 // The link, if a million of it, many more than `DEPTH`, aren't taken so by a rule.
@@ -223,16 +220,16 @@ fn wrong_link(
 }
 
 #[test]
-fn many_prefixes(rt: HostRuntime) {
-    none(&rt, wrong_link(rt.alloc(), MINUSES, "-", Some(1_000_000)));
+fn many_prefixes(rt: HostRuntime) -> Result<(), Wrong> {
+    none(wrong_link(rt.alloc(), MINUSES, "-", Some(1_000_000)))
 }
 
 #[test]
-fn many_angles(rt: HostRuntime) {
-    none(&rt, wrong_link(rt.alloc(), NESTED, "<", None));
+fn many_angles(rt: HostRuntime) -> Result<(), Wrong> {
+    none(wrong_link(rt.alloc(), NESTED, "<", None))
 }
 
 #[test]
-fn many_braces(rt: HostRuntime) {
-    none(&rt, wrong_link(rt.alloc(), ANY, "{", Some(2_000_000)));
+fn many_braces(rt: HostRuntime) -> Result<(), Wrong> {
+    none(wrong_link(rt.alloc(), ANY, "{", Some(2_000_000)))
 }

@@ -6,7 +6,7 @@ use mbe::{DeclarativeMacro, MacroCallStyle, ParseError};
 use mbe_tt::span::{Span, SyntaxContext};
 use mbe_tt::tt::TopSubtree;
 use std::alloc::{AllocError, Global};
-use test_rows::{Fields, Rows, each, rows};
+use test_rows::{Fields, Rows, Wrong, each, rows};
 
 pub const EXPANDED: &str = rows![
     ("($x:ident = $t:tt;) => { pair ($t) $x }", "a = 1;", 0, "word pair 0 25 29
@@ -104,6 +104,6 @@ fn expanded_and_marked(
 }
 
 #[test]
-fn what_a_template_writes_itself_is_marked(rt: HostRuntime) {
-    each(&rt, rt.alloc(), &Marked, MARKED, 2);
+fn what_a_template_writes_itself_is_marked(rt: HostRuntime) -> Result<(), Wrong> {
+    each(rt.alloc(), &Marked, MARKED, 2)
 }

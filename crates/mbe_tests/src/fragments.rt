@@ -8,7 +8,7 @@ use mbe::DeclarativeMacro;
 use mbe_tt::grammar::PrefixEntryPoint;
 use mbe_tt::span::Edition;
 use std::alloc::{AllocError, Global};
-use test_rows::{Fields, Rows, each, holds, number, rows};
+use test_rows::{Fields, Rows, Wrong, each, holds, number, rows};
 
 /// A grammar that takes so many flat tokens of everything.
 pub fn taking(count: usize) -> Counting {
@@ -314,10 +314,11 @@ static TABLES: [(&str, usize); 6] = [
 ];
 
 #[test]
-fn fragments_are_taken_and_written(rt: HostRuntime) {
+fn fragments_are_taken_and_written(rt: HostRuntime) -> Result<(), Wrong> {
     for &(rows, count) in &TABLES {
-        each(&rt, rt.alloc(), &Taken, rows, count);
+        each(rt.alloc(), &Taken, rows, count)?;
     }
+    Ok(())
 }
 
 // A grammar that faults after a group.
@@ -540,9 +541,9 @@ fn needs_memory(alloc: Global, definition: &str, argument: &str) -> Result<bool,
 
 // The first argument needs no grammar.
 #[test]
-fn an_expansion_needs_the_memory_of_its_grammar(rt: HostRuntime) {
+fn an_expansion_needs_the_memory_of_its_grammar(rt: HostRuntime) -> Result<(), Wrong> {
     let definition = "($x:ident) => {}; ($e:expr) => {}";
     let made = makes_of_texts(rt.alloc(), &NoMemory, (definition, "a"), EMPTY);
-    holds(&rt, made);
-    holds(&rt, needs_memory(rt.alloc(), definition, "1"));
+    holds(made)?;
+    holds(needs_memory(rt.alloc(), definition, "1"))
 }

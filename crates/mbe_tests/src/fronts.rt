@@ -13,7 +13,7 @@ use mbe_tt::tt::TokenTreesView;
 use refusing::Refusing;
 use std::alloc::{AllocError, Allocator, Global};
 use std::rc::Rc;
-use test_rows::{Fields, Rows, each, holds, rows};
+use test_rows::{Fields, Rows, Wrong, each, holds, rows};
 
 // The spans around the arguments of these tests.
 fn around() -> DelimSpan {
@@ -143,8 +143,8 @@ const COUNTED: &str = rows![
 ];
 
 #[test]
-fn fronts_by_their_count(rt: HostRuntime) {
-    each(&rt, rt.alloc(), &Fronts, COUNTED, 34);
+fn fronts_by_their_count(rt: HostRuntime) -> Result<(), Wrong> {
+    each(rt.alloc(), &Fronts, COUNTED, 34)
 }
 
 const NUMBERED: &str = rows![
@@ -161,8 +161,8 @@ const NUMBERED: &str = rows![
 ];
 
 #[test]
-fn each_entry_point_is_asked_by_itself(rt: HostRuntime) {
-    each(&rt, rt.alloc(), &Fronts, NUMBERED, 10);
+fn each_entry_point_is_asked_by_itself(rt: HostRuntime) -> Result<(), Wrong> {
+    each(rt.alloc(), &Fronts, NUMBERED, 10)
 }
 
 fn is_group_taken(alloc: Global) -> Result<bool, AllocError> {
@@ -176,8 +176,8 @@ fn is_group_taken(alloc: Global) -> Result<bool, AllocError> {
 }
 
 #[test]
-fn a_front_that_ends_in_a_group_takes_all_of_it(rt: HostRuntime) {
-    holds(&rt, is_group_taken(rt.alloc()));
+fn a_front_that_ends_in_a_group_takes_all_of_it(rt: HostRuntime) -> Result<(), Wrong> {
+    holds(is_group_taken(rt.alloc()))
 }
 
 fn moves_nothing(alloc: Global) -> Result<bool, AllocError> {
@@ -188,8 +188,8 @@ fn moves_nothing(alloc: Global) -> Result<bool, AllocError> {
 }
 
 #[test]
-fn a_grammar_without_memory_moves_nothing(rt: HostRuntime) {
-    holds(&rt, moves_nothing(rt.alloc()));
+fn a_grammar_without_memory_moves_nothing(rt: HostRuntime) -> Result<(), Wrong> {
+    holds(moves_nothing(rt.alloc()))
 }
 
 // Whether memory ran out for the error of a front that ends in a group. Then nothing has moved; nothing where something has, or nothing
@@ -218,6 +218,6 @@ fn are_refused(alloc: Global) -> bool {
 }
 
 #[test]
-fn each_request_for_an_error_refused(rt: HostRuntime) {
-    holds(&rt, Ok(are_refused(rt.alloc())));
+fn each_request_for_an_error_refused(rt: HostRuntime) -> Result<(), Wrong> {
+    holds(Ok(are_refused(rt.alloc())))
 }

@@ -6,7 +6,7 @@ use crate::trees::lexed;
 use mbe::{DeclarativeMacro, MacroCallStyle, MacroCallStyles, ParseError};
 use mbe_tt::span::Edition;
 use std::alloc::{AllocError, Global};
-use test_rows::{Fields, Rows, each, holds, number, rows};
+use test_rows::{Fields, Rows, Wrong, each, holds, number, rows};
 
 /// The macro of a body, and of arguments if there are some. Both are file 0.
 pub fn read(alloc: Global, args: Option<&str>, body: &str) -> Result<DeclarativeMacro, AllocError> {
@@ -78,8 +78,8 @@ impl Rows for Bodies {
 }
 
 #[test]
-fn semicolons_and_commas_separate_rules(rt: HostRuntime) {
-    each(&rt, rt.alloc(), &Bodies, BODIES, 12);
+fn semicolons_and_commas_separate_rules(rt: HostRuntime) -> Result<(), Wrong> {
+    each(rt.alloc(), &Bodies, BODIES, 12)
 }
 
 // Arguments, if there are some, a body, an argument of a call, and what is made of it. The rules of a body are tried in order; arguments
@@ -125,8 +125,8 @@ impl Rows for Calls {
 }
 
 #[test]
-fn calls_are_expanded(rt: HostRuntime) {
-    each(&rt, rt.alloc(), &Calls, CALLS, 2);
+fn calls_are_expanded(rt: HostRuntime) -> Result<(), Wrong> {
+    each(rt.alloc(), &Calls, CALLS, 2)
 }
 
 // Whether the macro has one rule, which no attribute calls.
@@ -139,12 +139,13 @@ fn is_one_rule(alloc: Global, rules: &DeclarativeMacro) -> Result<bool, AllocErr
 }
 
 #[test]
-fn arguments_and_a_body_are_one_rule(rt: HostRuntime) {
+fn arguments_and_a_body_are_one_rule(rt: HostRuntime) -> Result<(), Wrong> {
     if let Ok(rules) = read(rt.alloc(), Some("attr $x:ident"), "[$x] => {}") {
-        holds(&rt, is_one_rule(rt.alloc(), &rules));
+        holds(is_one_rule(rt.alloc(), &rules))?;
     } else {
-        holds(&rt, Ok(false));
+        holds(Ok(false))?;
     }
+    Ok(())
 }
 
 const ARGUMENTS: &str = rows![
@@ -187,6 +188,6 @@ impl Rows for Arguments {
 }
 
 #[test]
-fn arguments_are_read_before_the_body(rt: HostRuntime) {
-    each(&rt, rt.alloc(), &Arguments, ARGUMENTS, 6);
+fn arguments_are_read_before_the_body(rt: HostRuntime) -> Result<(), Wrong> {
+    each(rt.alloc(), &Arguments, ARGUMENTS, 6)
 }

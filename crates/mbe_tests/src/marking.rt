@@ -7,7 +7,7 @@ use mbe::{MacroCallStyle, ParseError};
 use mbe_tt::span::Span;
 use std::alloc::{AllocError, Global};
 use std::cell::Cell;
-use test_rows::{Fields, Rows, each, rows};
+use test_rows::{Fields, Rows, Wrong, each, rows};
 
 // A definition, an argument, whether there is an error, and how often the marker is called.
 const ROWS: &str = rows![
@@ -58,6 +58,6 @@ impl Rows for Marking {
 }
 
 #[test]
-fn a_marker_is_called_on_the_spans_of_the_template(rt: HostRuntime) {
-    each(&rt, rt.alloc(), &Marking, ROWS, 8);
+fn a_marker_is_called_on_the_spans_of_the_template(rt: HostRuntime) -> Result<(), Wrong> {
+    each(rt.alloc(), &Marking, ROWS, 8)
 }

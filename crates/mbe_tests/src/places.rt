@@ -8,7 +8,7 @@ use mbe::{MacroCallStyle, ParseError};
 use mbe_tt::span::{Span, SyntaxContext};
 use mbe_tt::tt::{Delimiter, DelimiterKind, TopSubtree, TopSubtreeBuilder};
 use std::alloc::{AllocError, Global};
-use test_rows::{Fields, Rows, each, number, rows};
+use test_rows::{Fields, Rows, Wrong, each, number, rows};
 
 // The file and the bytes of a span.
 type Place = (u32, u32, u32);
@@ -153,11 +153,11 @@ impl Rows for Places {
 }
 
 #[test]
-fn failed_matches_are_reported_there(rt: HostRuntime) {
-    each(&rt, rt.alloc(), &Places, MATCHES, 11);
+fn failed_matches_are_reported_there(rt: HostRuntime) -> Result<(), Wrong> {
+    each(rt.alloc(), &Places, MATCHES, 11)
 }
 
 #[test]
-fn templates_are_written_there(rt: HostRuntime) {
-    each(&rt, rt.alloc(), &Places, TEMPLATES, 11);
+fn templates_are_written_there(rt: HostRuntime) -> Result<(), Wrong> {
+    each(rt.alloc(), &Places, TEMPLATES, 11)
 }

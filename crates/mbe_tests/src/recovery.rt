@@ -3,7 +3,7 @@ use crate::grammar::grammar_of;
 use crate::runs::{defined, is_recovered, made, whole};
 use crate::trees::lexed;
 use std::alloc::{AllocError, Global};
-use test_rows::{Fields, Rows, each, rows};
+use test_rows::{Fields, Rows, Wrong, each, rows};
 
 // How many flat tokens the grammar takes and whether it faults, a definition, an argument, the rule, what is recovered, and the error with
 // its bytes.
@@ -54,6 +54,6 @@ impl Rows for Recovering {
 }
 
 #[test]
-fn what_is_recovered(rt: HostRuntime) {
-    each(&rt, rt.alloc(), &Recovering, RECOVERED, 7);
+fn what_is_recovered(rt: HostRuntime) -> Result<(), Wrong> {
+    each(rt.alloc(), &Recovering, RECOVERED, 7)
 }

@@ -3,7 +3,7 @@ use crate::definitions::{Reported, is_read};
 use crate::macro2::read;
 use mbe::MacroCallStyles;
 use std::alloc::{AllocError, Global};
-use test_rows::{none, rows};
+use test_rows::{Wrong, none, rows};
 
 // Repetitions that can read nothing are refused, those that read something pass.
 pub const REFUSED: &str = rows![
@@ -59,9 +59,10 @@ fn is_refused(
 }
 
 #[test]
-fn refused_arguments_and_bodies_of_macros(rt: HostRuntime) {
+fn refused_arguments_and_bodies_of_macros(rt: HostRuntime) -> Result<(), Wrong> {
     for row in &MACROS {
         let is_so = is_refused(rt.alloc(), row).unwrap_or(false);
-        none(&rt, (!is_so).then_some(row.1));
+        none((!is_so).then_some(row.1))?;
     }
+    Ok(())
 }

@@ -1,7 +1,7 @@
 // Repetitions of definitions: what separates their rounds, how often they go round, and their faults.
 use crate::definitions::{Reported, is_text_read};
 use std::alloc::{AllocError, Global};
-use test_rows::{Fields, Rows, each, rows};
+use test_rows::{Fields, Rows, Wrong, each, rows};
 
 const SUFFIXES: &str = rows![
     ("*"),
@@ -44,8 +44,8 @@ impl Rows for Suffixes {
 }
 
 #[test]
-fn suffixes_of_repetitions(rt: HostRuntime) {
-    each(&rt, rt.alloc(), &Suffixes, SUFFIXES, 26);
+fn suffixes_of_repetitions(rt: HostRuntime) -> Result<(), Wrong> {
+    each(rt.alloc(), &Suffixes, SUFFIXES, 26)
 }
 
 // Invalid suffixes, in a pattern and in a template.

@@ -8,7 +8,7 @@ use bitflags::Flags;
 use mbe::{DeclarativeMacro, MacroCallStyle, MacroCallStyles, ParseError};
 use mbe_tt::tt::DelimiterKind::{Brace, Parenthesis};
 use std::alloc::{AllocError, Global};
-use test_rows::{Fields, Rows, each, holds, number, rows};
+use test_rows::{Fields, Rows, Wrong, each, holds, number, rows};
 
 // A definition and whether it has a fault, the argument of a call and its style, and what is made of it.
 const CALLS: &str = rows![
@@ -51,8 +51,8 @@ impl Rows for Calls {
 }
 
 #[test]
-fn rules_of_another_style_are_passed_over(rt: HostRuntime) {
-    each(&rt, rt.alloc(), &Calls, CALLS, 8);
+fn rules_of_another_style_are_passed_over(rt: HostRuntime) -> Result<(), Wrong> {
+    each(rt.alloc(), &Calls, CALLS, 8)
 }
 
 const BITS: &str = rows![
@@ -82,8 +82,8 @@ impl Rows for Bits {
 }
 
 #[test]
-fn styles_of_a_definition_are_those_of_its_rules(rt: HostRuntime) {
-    each(&rt, rt.alloc(), &Bits, BITS, 13);
+fn styles_of_a_definition_are_those_of_its_rules(rt: HostRuntime) -> Result<(), Wrong> {
+    each(rt.alloc(), &Bits, BITS, 13)
 }
 
 pub const GROUPS: &str = rows![
@@ -123,29 +123,26 @@ fn are_counted(alloc: Global) -> Result<bool, AllocError> {
 }
 
 #[test]
-fn raw_words_count_as_well(rt: HostRuntime) {
-    holds(&rt, are_counted(rt.alloc()));
+fn raw_words_count_as_well(rt: HostRuntime) -> Result<(), Wrong> {
+    holds(are_counted(rt.alloc()))
 }
 
 // A call of the macro of an error has no rule.
 #[test]
-fn macro_of_an_error(rt: HostRuntime) {
+fn macro_of_an_error(rt: HostRuntime) -> Result<(), Wrong> {
     let rules = DeclarativeMacro::from_err(rt.alloc(), ParseError::InvalidRepeat);
     let is_so = is_read(rt.alloc(), &rules, (0, Reported::InvalidRepeat)).unwrap_or(false);
-    holds(
-        &rt,
-        Ok(is_so && rules.rule_styles() == MacroCallStyles::FN_LIKE),
-    );
+    holds(Ok(is_so && rules.rule_styles() == MacroCallStyles::FN_LIKE))?;
     let call = ("a", MacroCallStyle::FnLike);
-    holds(&rt, answers(rt.alloc(), &rules, call, None));
+    holds(answers(rt.alloc(), &rules, call, None))
 }
 
 // It has no rules, so that it can be called.
 #[test]
-fn macro_of_a_refusal_has_no_rule(rt: HostRuntime) {
+fn macro_of_a_refusal_has_no_rule(rt: HostRuntime) -> Result<(), Wrong> {
     let rules = DeclarativeMacro::from_err(rt.alloc(), ParseError::RepetitionEmptyTokenTree);
     let call = ("", MacroCallStyle::Attr);
-    holds(&rt, answers(rt.alloc(), &rules, call, None));
+    holds(answers(rt.alloc(), &rules, call, None))
 }
 
 // The set of these bits, whether they are a style's or not.
@@ -164,12 +161,12 @@ fn has_bits(styles: MacroCallStyles, style: MacroCallStyle, bits: u8) -> bool {
 }
 
 #[test]
-fn styles_have_their_bits(rt: HostRuntime) {
+fn styles_have_their_bits(rt: HostRuntime) -> Result<(), Wrong> {
     for &(styles, style, bits) in &NAMED {
-        holds(&rt, Ok(has_bits(styles, style, bits)));
+        holds(Ok(has_bits(styles, style, bits)))?;
     }
-    holds(&rt, Ok(MacroCallStyles::empty().bits() == 0));
-    holds(&rt, Ok(MacroCallStyles::all().bits() == 7));
+    holds(Ok(MacroCallStyles::empty().bits() == 0))?;
+    holds(Ok(MacroCallStyles::all().bits() == 7))
 }
 
 // Whether the set of these bits has them, and is made of them where all are of styles.
@@ -284,16 +281,16 @@ fn questions_to_sets_of_styles(rt: HostRuntime) {
 }
 
 #[test]
-fn changed_sets_of_styles(rt: HostRuntime) {
+fn changed_sets_of_styles(rt: HostRuntime) -> Result<(), Wrong> {
     let mut styles = MacroCallStyles::FN_LIKE;
     styles.insert(set(10));
-    holds(&rt, Ok(styles == set(11)));
+    holds(Ok(styles == set(11)))?;
     styles.remove(set(9));
-    holds(&rt, Ok(styles == set(2)));
+    holds(Ok(styles == set(2)))?;
     styles.toggle(set(6));
-    holds(&rt, Ok(styles == set(4)));
+    holds(Ok(styles == set(4)))?;
     styles.set(set(3), true);
-    holds(&rt, Ok(styles == set(7)));
+    holds(Ok(styles == set(7)))?;
     styles.set(set(5), false);
-    holds(&rt, Ok(styles == MacroCallStyles::ATTR));
+    holds(Ok(styles == MacroCallStyles::ATTR))
 }

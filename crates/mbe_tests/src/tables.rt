@@ -7,7 +7,7 @@ use crate::{
     definitions, expressions, first_run, fragments, matching, refusals, repetitions, rounds,
     styles, templates,
 };
-use test_rows::each;
+use test_rows::{Wrong, each};
 
 static DEFINITIONS: [(&str, usize); 8] = [
     (definitions::FIRST, 20),
@@ -21,10 +21,11 @@ static DEFINITIONS: [(&str, usize); 8] = [
 ];
 
 #[test]
-fn definitions_are_read_or_at_fault(rt: HostRuntime) {
+fn definitions_are_read_or_at_fault(rt: HostRuntime) -> Result<(), Wrong> {
     for &(rows, count) in &DEFINITIONS {
-        each(&rt, rt.alloc(), &Definitions, rows, count);
+        each(rt.alloc(), &Definitions, rows, count)?;
     }
+    Ok(())
 }
 
 // What comes before texts and what comes after them, how each such definition is read, and the texts.
@@ -112,10 +113,11 @@ static PARTS: [(Parts, &str, usize); 10] = [
 ];
 
 #[test]
-fn parts_of_rules_are_read_or_at_fault(rt: HostRuntime) {
+fn parts_of_rules_are_read_or_at_fault(rt: HostRuntime) -> Result<(), Wrong> {
     for (parts, rows, count) in &PARTS {
-        each(&rt, rt.alloc(), parts, rows, *count);
+        each(rt.alloc(), parts, rows, *count)?;
     }
+    Ok(())
 }
 
 static CALLS: [(&str, usize); 14] = [
@@ -136,10 +138,11 @@ static CALLS: [(&str, usize); 14] = [
 ];
 
 #[test]
-fn calls_expand_by_a_grammar_that_faults(rt: HostRuntime) {
+fn calls_expand_by_a_grammar_that_faults(rt: HostRuntime) -> Result<(), Wrong> {
     for &(rows, count) in &CALLS {
-        each(&rt, rt.alloc(), &Calls(NOTHING), rows, count);
+        each(rt.alloc(), &Calls(NOTHING), rows, count)?;
     }
+    Ok(())
 }
 
 // The grammar of each table: how many flat tokens it takes, and whether it faults. The last faults after a group.
@@ -197,8 +200,9 @@ static TREES: [(Counting, &str, usize); 8] = [
 ];
 
 #[test]
-fn calls_expand_by_grammars_and_of_trees_that_no_text_gives(rt: HostRuntime) {
+fn calls_expand_by_grammars_and_of_trees_that_no_text_gives(rt: HostRuntime) -> Result<(), Wrong> {
     for &(grammar, rows, count) in &TREES {
-        each(&rt, rt.alloc(), &Calls(grammar), rows, count);
+        each(rt.alloc(), &Calls(grammar), rows, count)?;
     }
+    Ok(())
 }

@@ -9,7 +9,7 @@ use mbe::{DeclarativeMacro, ParseError, Verdict};
 use mbe_tt::grammar::FragmentGrammar;
 use mbe_tt::tt::TopSubtree;
 use std::alloc::{AllocError, Allocator, Global};
-use test_rows::{Fields, Rows, each, holds, rows};
+use test_rows::{Fields, Rows, Wrong, each, holds, rows};
 
 /// The verdict of each rule on the argument, in order.
 pub fn explained<A: Allocator + Copy, G: FragmentGrammar>(
@@ -77,8 +77,8 @@ impl Rows for Verdicts {
 }
 
 #[test]
-fn each_rule_has_a_verdict(rt: HostRuntime) {
-    each(&rt, rt.alloc(), &Verdicts, VERDICTS, 9);
+fn each_rule_has_a_verdict(rt: HostRuntime) -> Result<(), Wrong> {
+    each(rt.alloc(), &Verdicts, VERDICTS, 9)
 }
 
 // Whether there are verdicts of that grammar.
@@ -88,8 +88,8 @@ fn has_verdicts<G: FragmentGrammar>(alloc: Global, grammar: &G) -> Result<bool, 
 }
 
 #[test]
-fn a_grammar_without_memory_gives_no_verdict(rt: HostRuntime) {
-    holds(&rt, has_verdicts(rt.alloc(), &NOTHING));
+fn a_grammar_without_memory_gives_no_verdict(rt: HostRuntime) -> Result<(), Wrong> {
+    holds(has_verdicts(rt.alloc(), &NOTHING))?;
     let has_none = matches!(has_verdicts(rt.alloc(), &NoMemory), Ok(false));
-    holds(&rt, Ok(has_none));
+    holds(Ok(has_none))
 }

@@ -4,7 +4,7 @@ use mbe_text::printing::print_tree;
 use mbe_tt::span::Span;
 use mbe_tt::tt::{DelimiterKind, Leaf, LitKind, Literal, Spacing, Subtree, TopSubtree, TtElement};
 use std::alloc::{AllocError, Global};
-use test_rows::{Fields, Rows, each, holds, number, rows};
+use test_rows::{Fields, Rows, Wrong, each, holds, number, rows};
 
 /// The trees of a text that isn't long.
 pub(crate) fn trees(alloc: Global, text: &str) -> Result<TopSubtree, LexError> {
@@ -25,7 +25,7 @@ fn is_printed(alloc: Global, text: &str, want: &str) -> bool {
 }
 
 #[test]
-fn printed_tokens(rt: HostRuntime) {
+fn printed_tokens(rt: HostRuntime) -> Result<(), Wrong> {
     let text = "r#é 0xFFu8 \"a\\\"\"b2 ['c' 1.5 += {";
     let want = "SUBTREE $$ 0@0..33 0@0..33
   IDENT   r#é 0@0..4
@@ -38,7 +38,7 @@ fn printed_tokens(rt: HostRuntime) {
     PUNCH   = [alone] 0@30..31
     SUBTREE {} 0@32..33 0@33..33
 ";
-    holds(&rt, Ok(is_printed(rt.alloc(), text, want)));
+    holds(Ok(is_printed(rt.alloc(), text, want)))
 }
 
 fn kind_name(kind: LitKind) -> &'static str {
@@ -342,13 +342,13 @@ impl Rows for Tokens {
 }
 
 #[test]
-fn texts_have_their_tokens(rt: HostRuntime) {
-    each(&rt, rt.alloc(), &Tokens, TOKENS, 97);
+fn texts_have_their_tokens(rt: HostRuntime) -> Result<(), Wrong> {
+    each(rt.alloc(), &Tokens, TOKENS, 97)
 }
 
 #[test]
-fn texts_are_at_fault(rt: HostRuntime) {
-    each(&rt, rt.alloc(), &Faults, FAULTS, 52);
+fn texts_are_at_fault(rt: HostRuntime) -> Result<(), Wrong> {
+    each(rt.alloc(), &Faults, FAULTS, 52)
 }
 
 // The literal is lexed with the longest suffix.
@@ -390,8 +390,8 @@ const SUFFIXED: &str = rows![
 
 // A suffix has at most 255 bytes, after each kind of literal.
 #[test]
-fn longest_suffix(rt: HostRuntime) {
-    each(&rt, rt.alloc(), &Suffixed, SUFFIXED, 4);
+fn longest_suffix(rt: HostRuntime) -> Result<(), Wrong> {
+    each(rt.alloc(), &Suffixed, SUFFIXED, 4)
 }
 
 const PUNCTS: &str = "=<>!&|~@.,;:#$?+-*/%^";
@@ -420,6 +420,6 @@ fn are_puncts(alloc: Global) -> Result<bool, AllocError> {
 }
 
 #[test]
-fn each_punct_is_one(rt: HostRuntime) {
-    holds(&rt, are_puncts(rt.alloc()));
+fn each_punct_is_one(rt: HostRuntime) -> Result<(), Wrong> {
+    holds(are_puncts(rt.alloc()))
 }

@@ -5,7 +5,7 @@ use mbe_tt::tt::TopSubtree;
 use std::alloc::{AllocError, Global};
 use std::io;
 use std::io::Write;
-use test_rows::{Fields, Rows, each, holds, rows};
+use test_rows::{Fields, Rows, Wrong, each, holds, rows};
 
 // Every other call is interrupted. The others take at most seven bytes, and fail once there is no room.
 #[derive(Drop)]
@@ -113,8 +113,8 @@ const PRINTED: &str = rows![
 ];
 
 #[test]
-fn trees_have_their_lines(rt: HostRuntime) {
-    each(&rt, rt.alloc(), &Lines, PRINTED, 6);
+fn trees_have_their_lines(rt: HostRuntime) -> Result<(), Wrong> {
+    each(rt.alloc(), &Lines, PRINTED, 6)
 }
 
 // The lines of seventy groups, each in the one before.
@@ -138,6 +138,6 @@ fn is_indented(alloc: Global) -> Result<bool, AllocError> {
 
 // Two spaces for each group around, of which seventy are more than a line has at once.
 #[test]
-fn groups_are_indented(rt: HostRuntime) {
-    holds(&rt, is_indented(rt.alloc()));
+fn groups_are_indented(rt: HostRuntime) -> Result<(), Wrong> {
+    holds(is_indented(rt.alloc()))
 }

@@ -7,7 +7,7 @@ use mbe_tt::span::Edition;
 use mbe_tt::span::Edition::{Edition2018, Edition2021, Edition2024};
 use mbe_tt::tt::{DelimiterKind, Leaf, Punct, Spacing, TopSubtree, TtElement};
 use std::alloc::{AllocError, Global};
-use test_rows::{Fields, Rows, each, rows};
+use test_rows::{Fields, Rows, Wrong, each, rows};
 
 fn push_punct(punct: &Punct, line: &mut String) -> Result<(), AllocError> {
     match punct.spacing {
@@ -175,10 +175,11 @@ static TABLES: [(Edition, &str, usize); 3] = [
 ];
 
 #[test]
-fn texts_have_the_tokens_of_rust(rt: HostRuntime) {
+fn texts_have_the_tokens_of_rust(rt: HostRuntime) -> Result<(), Wrong> {
     for &(edition, rows, count) in &TABLES {
-        each(&rt, rt.alloc(), &Texts(edition), rows, count);
+        each(rt.alloc(), &Texts(edition), rows, count)?;
     }
+    Ok(())
 }
 
 // Whether the line without its white space is that.
@@ -207,34 +208,16 @@ impl Rows for Random {
 }
 
 #[test]
-fn random_texts_of_2018(rt: HostRuntime) {
-    each(
-        &rt,
-        rt.alloc(),
-        &Random(Edition2018),
-        RANDOM_2018,
-        COUNT_2018,
-    );
+fn random_texts_of_2018(rt: HostRuntime) -> Result<(), Wrong> {
+    each(rt.alloc(), &Random(Edition2018), RANDOM_2018, COUNT_2018)
 }
 
 #[test]
-fn random_texts_of_2021(rt: HostRuntime) {
-    each(
-        &rt,
-        rt.alloc(),
-        &Random(Edition2021),
-        RANDOM_2021,
-        COUNT_2021,
-    );
+fn random_texts_of_2021(rt: HostRuntime) -> Result<(), Wrong> {
+    each(rt.alloc(), &Random(Edition2021), RANDOM_2021, COUNT_2021)
 }
 
 #[test]
-fn random_texts_of_2024(rt: HostRuntime) {
-    each(
-        &rt,
-        rt.alloc(),
-        &Random(Edition2024),
-        RANDOM_2024,
-        COUNT_2024,
-    );
+fn random_texts_of_2024(rt: HostRuntime) -> Result<(), Wrong> {
+    each(rt.alloc(), &Random(Edition2024), RANDOM_2024, COUNT_2024)
 }

@@ -5,7 +5,7 @@ use mbe_text::symbols::SymbolTable;
 use mbe_tt::tt::TopSubtree;
 use refusing::Refusing;
 use std::alloc::{AllocError, Allocator, Global};
-use test_rows::holds;
+use test_rows::{Wrong, holds};
 
 // So many texts that the slots are made anew several times.
 const COUNT: usize = 300;
@@ -42,8 +42,8 @@ fn are_apart(alloc: Global) -> bool {
 }
 
 #[test]
-fn each_text_has_a_symbol_of_its_own(rt: HostRuntime) {
-    holds(&rt, Ok(are_apart(rt.alloc())));
+fn each_text_has_a_symbol_of_its_own(rt: HostRuntime) -> Result<(), Wrong> {
+    holds(Ok(are_apart(rt.alloc())))
 }
 
 // The trees of a text that isn't long, by the table.
@@ -76,8 +76,8 @@ fn are_same(alloc: Global) -> bool {
 }
 
 #[test]
-fn one_table_for_many_texts(rt: HostRuntime) {
-    holds(&rt, Ok(are_same(rt.alloc())));
+fn one_table_for_many_texts(rt: HostRuntime) -> Result<(), Wrong> {
+    holds(Ok(are_same(rt.alloc())))
 }
 
 // Whether memory is there for the first text. Then the same text takes none, and another one does.
@@ -99,8 +99,8 @@ fn is_kept(global: Global) -> bool {
 }
 
 #[test]
-fn a_text_that_the_table_has_takes_no_memory(rt: HostRuntime) {
-    holds(&rt, Ok(is_kept(rt.alloc())));
+fn a_text_that_the_table_has_takes_no_memory(rt: HostRuntime) -> Result<(), Wrong> {
+    holds(Ok(is_kept(rt.alloc())))
 }
 
 // Asks for so many texts, each until there is memory, and says whether each symbol has its text.
@@ -150,6 +150,6 @@ fn stays_right(alloc: Global) -> bool {
 
 // Each request is refused in turn, those for more slots among them, and the table is used on.
 #[test]
-fn a_refusal_leaves_the_table_right(rt: HostRuntime) {
-    holds(&rt, Ok(stays_right(rt.alloc())));
+fn a_refusal_leaves_the_table_right(rt: HostRuntime) -> Result<(), Wrong> {
+    holds(Ok(stays_right(rt.alloc())))
 }

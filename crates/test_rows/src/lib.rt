@@ -3,7 +3,6 @@
 
 use refusing::Refusing;
 use std::alloc::{AllocError, Allocator, Global};
-use std::process::Abort;
 
 /// Rows as one text: of a `static` table a proof sees each text by itself, and costs much more. A field ends in 1, a row in 2.
 #[macro_export]
@@ -11,6 +10,16 @@ macro_rules! rows {
     ($(($($field:literal),+ $(,)?)),* $(,)?) => {
         concat!($($($field, "\u{1}",)+ "\u{2}"),*)
     };
+}
+
+/// The row that isn't as it says, by which a test fails.
+#[derive(Clone, Copy, Debug, Drop)]
+pub struct Wrong(pub &'static str);
+
+impl From<AllocError> for Wrong {
+    fn from(_error: AllocError) -> Wrong {
+        Wrong("out of memory")
+    }
 }
 
 /// The fields of a row, and empty ones.
@@ -55,9 +64,14 @@ fn first_wrong<T: Rows>(
     (left > 0).then_some("fewer rows")
 }
 
-/// There are so many rows, and each is as it says. A failure shows the first that isn't.
-pub fn each<T: Rows>(rt: &impl Abort, alloc: Global, test: &T, rows: &'static str, count: usize) {
-    none(rt, first_wrong(alloc, test, rows, count));
+/// There are so many rows, and each is as it says.
+pub fn each<T: Rows>(
+    alloc: Global,
+    test: &T,
+    rows: &'static str,
+    count: usize,
+) -> Result<(), Wrong> {
+    none(first_wrong(alloc, test, rows, count))
 }
 
 /// What is tested of each row of a table, with any allocator.
@@ -77,13 +91,12 @@ impl<T: AnyRows> Rows for OfAny<'_, T> {
 
 /// The same as `each`.
 pub fn each_of_any<T: AnyRows + Copy>(
-    rt: &impl Abort,
     alloc: Global,
     test: &T,
     rows: &'static str,
     count: usize,
-) {
-    each(rt, alloc, &OfAny(test), rows, count);
+) -> Result<(), Wrong> {
+    each(alloc, &OfAny(test), rows, count)
 }
 
 #[derive(Clone, Copy)]
@@ -122,28 +135,34 @@ impl<T: AnyRows> Refused<'_, T> {
 /// There are so many rows. Each request of one for memory is refused in turn, which leaves it out of memory, or, if it may answer then,
 /// as it says; after so many at least none is refused, and the row is as it says.
 pub fn each_refused<T: AnyRows + Copy>(
-    rt: &impl Abort,
     alloc: Global,
     test: &T,
     rows: (&'static str, usize),
     (least, may_answer): (u64, bool),
-) {
+) -> Result<(), Wrong> {
     let refused = Refused {
         test,
         least,
         may_answer,
     };
-    each(rt, alloc, &refused, rows.0, rows.1);
+    each(alloc, &refused, rows.0, rows.1)
 }
 
-/// No row is otherwise. A failure shows the first that is.
-pub fn none(rt: &impl Abort, wrong: Option<&'static str>) {
-    assert!(rt; wrong.is_none(), "{wrong:?}");
+/// No row is otherwise.
+pub fn none(wrong: Option<&'static str>) -> Result<(), Wrong> {
+    match wrong {
+        None => Ok(()),
+        Some(row) => Err(Wrong(row)),
+    }
 }
 
 /// Something is so.
-pub fn holds(rt: &impl Abort, is_so: Result<bool, AllocError>) {
-    assert!(rt; is_so.unwrap_or(false));
+pub fn holds(is_so: Result<bool, AllocError>) -> Result<(), Wrong> {
+    if is_so.unwrap_or(false) {
+        Ok(())
+    } else {
+        Err(Wrong("something isn't so"))
+    }
 }
 
 /// The number of a field.
