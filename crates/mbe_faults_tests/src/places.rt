@@ -1,6 +1,6 @@
 // Where definitions are refused.
 use mbe_errors::error::SyntaxFault;
-use mbe_faults::rules::{PartFault, RulesFault, read_one_rule, read_rules};
+use mbe_faults::rules::{PartFault, Refusal, RulesFault, read_one_rule, read_rules};
 use mbe_parser::parser::Mode;
 use mbe_text::lexer::{LexError, lex};
 use mbe_text::scanner::LexFault;
@@ -64,10 +64,11 @@ static FAULTS: [Row; 29] = [
     ),
 ];
 
-static READ: [&str; 6] = [
+static READ: [&str; 7] = [
     "",
     "() => {}",
     "() => {};",
+    "($x:vis $(),* $($x:vis a)*) => {$()*}",
     "unsafe attr(a) ($x:ident $($y:tt),*) => {$crate $x $($y)-* ${count($y)}}",
     "derive() ($) => {$}; ($true:tt) => {$true}",
     "(a [$(($x:ty)) , +]) => {..= $( $x )'a?}; (..=) => {}",
@@ -102,9 +103,38 @@ fn faults_are_placed(rt: HostRuntime) -> Result<(), LexError> {
         let found = fault(rt.alloc(), text, &[';'], SyntaxFault::ExpectedSemicolon)?;
         let is_wanted = match found {
             None => false,
-            Some(found) => { found.fault == *want && found.rule == *rule && found.place == *place }
+            Some(found) => { found.fault == Refusal::Syntax(*want) && found.rule == *rule && found.place == *place }
         };
         assert!(rt; is_wanted, "{text}");
+    }
+    Ok(())
+}
+
+// Rules with a repetition that can read nothing and has no separator; the number of the rules before it, and of the flat tokens before
+// its group.
+static EMPTY: [(&str, usize, usize); 10] = [
+    ("($()*) => {}", 0, 2),
+    ("(a $($x:vis)*) => {}", 0, 3),
+    ("($($()*)*) => {}", 0, 2),
+    ("($($(a)?)+) => {}", 0, 2),
+    ("($($()* a)*) => {}", 0, 4),
+    ("([b $()+]) => {}", 0, 4),
+    ("() => {}; ($x:ident $()*) => {}", 1, 13),
+    ("($()*) => {}; ($x) => {}", 0, 2),
+    ("($()*) => {}; ($($y:vis)*) => {}", 0, 2),
+    ("unsafe attr(a) ($(),* $()*) => {}", 0, 12),
+];
+
+#[test]
+fn empty_repetitions_are_placed(rt: HostRuntime) -> Result<(), LexError> {
+    for (text, rule, place) in &EMPTY {
+        let found = fault(rt.alloc(), text, &[';'], SyntaxFault::ExpectedSemicolon)?;
+        let want = RulesFault {
+            fault: Refusal::EmptyRepetition,
+            rule: *rule,
+            place: *place,
+        };
+        assert!(rt; found == Some(want), "{text}");
     }
     Ok(())
 }
@@ -119,7 +149,7 @@ fn a_fault_between_rules_depends_on_the_separators(rt: HostRuntime) -> Result<()
         SyntaxFault::ExpectedSeparator,
     )?;
     let want = RulesFault {
-        fault: SyntaxFault::ExpectedSeparator,
+        fault: Refusal::Syntax(SyntaxFault::ExpectedSeparator),
         rule: 2,
         place: 13,
     };
@@ -137,22 +167,29 @@ fn what_is_read_has_no_fault(rt: HostRuntime) -> Result<(), LexError> {
 }
 
 // The arguments and the body of a `macro`; the fault, where it is, and the number of flat tokens before it there.
-static PARTS: [(&str, &str, SyntaxFault, Mode, usize); 3] = [
+static PARTS: [(&str, &str, Refusal, Mode, usize); 4] = [
     (
         "$x:tt, $y",
         "$x",
-        SyntaxFault::MissingSpecifier,
+        Refusal::Syntax(SyntaxFault::MissingSpecifier),
         Mode::Pattern,
         5,
     ),
     (
         "$x:tt",
         "a {$x $-}",
-        SyntaxFault::ExpectedIdent,
+        Refusal::Syntax(SyntaxFault::ExpectedIdent),
         Mode::Template,
         4,
     ),
-    ("$$", "${x}", SyntaxFault::DollarInPattern, Mode::Pattern, 0),
+    (
+        "$$",
+        "${x}",
+        Refusal::Syntax(SyntaxFault::DollarInPattern),
+        Mode::Pattern,
+        0,
+    ),
+    ("a $()*", "a", Refusal::EmptyRepetition, Mode::Pattern, 2),
 ];
 
 // The fault of a `macro` with these arguments and this body, in edition 2024.

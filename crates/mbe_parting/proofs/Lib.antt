@@ -8,3 +8,4 @@ pub mod Marking
 pub mod Whole
 pub mod Placing
 pub mod Rounding
+pub mod GoingLemmas

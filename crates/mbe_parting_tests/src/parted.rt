@@ -31,12 +31,11 @@ pub fn parting_of<A: Allocator + Copy>(
         pattern.iter(),
         Mode::Pattern,
     ) {
-        Ok(template) => first_parting(
-            alloc,
-            &SampleGrammar,
-            &template,
-            argument.iter().remaining(),
-        ),
+        Ok(template) => {
+            let tokens = argument.iter().remaining();
+            let parting = first_parting(alloc, &SampleGrammar, &template, tokens)?;
+            Ok(parting.map(|parting| parting.place))
+        }
         Err(_error) => Err(AllocError),
     }
 }
