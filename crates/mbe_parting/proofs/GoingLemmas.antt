@@ -606,6 +606,10 @@ module _ (i : Input) (pat : Ops) (len size : ℕ) (ends : (x : Beginning) → Be
     WayBy x s (Some w) =
         (is : Items) × IsBeginningOf i len is s.0 s.1 × StepsBy i len is (place x) x s w
 
+    -- what is read from one beginning is read from another before it
+    abbrev pub Onto : ℕ → Beginning → Beginning → Type 0
+    Onto q x y = (js : Items) (w : Wanted) → GoesBy i len js q y w → GoesBy i len js q x w
+
     only_it : (start n : ℕ) → Path [] start n → n ≡ start
     only_it start n (none m f) = f
     only_it start n (along m a h r f) = absurd h
@@ -630,16 +634,13 @@ module _ (i : Input) (pat : Ops) (len size : ℕ) (ends : (x : Beginning) → Be
           come : (n : ℕ) → is_marked marks n ≡ true → Comes (place x) s.1 n
           come n k = comes (place x) (node_after size s) n s.1 z.0 (z.1 ∙ still) z.2 (r.from n k)
 
-          abbrev From : Beginning → Type 0
-          From y = (js : Items) (w : Wanted) → GoesBy i len js (place x) y w → GoesBy i len js (place x) s.1 w
-
           go : (o : Option Wanted) → found (place x) marks ≡ o → WayBy x s o
           go None f = some_found (place x) marks
               (ahead (place x) (node_after size s) marks r first.1.0 s.1 first.0 z.0 (z.1 ∙ still)
               (subst (λ v. Leads first.1.0 i len first.0 v s.1) (sym z.1) first.1.1)
               (subst (λ v. is_marked marks v ≡ true) z.2 r.started)) f
           go (Some w) f =
-              let y = found_by From (place x) marks w f
+              let y = found_by (Onto (place x) s.1) (place x) marks w f
               (λ n k. let c : Comes (place x) s.1 n = come n k in (c.to, c.begins, c.same_place, c.is, c.by)) in
               let g = goes_by y.0 w y.1 y.4 y.5 in
               let k : GoesBy i len g.0 (place x) s.1 w =

@@ -9,3 +9,4 @@ pub mod Whole
 pub mod Placing
 pub mod Rounding
 pub mod GoingLemmas
+pub mod GoingSteps
