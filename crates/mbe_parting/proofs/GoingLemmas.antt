@@ -131,16 +131,13 @@ past_last size q r n a l = let c : suc q * size ≤ r * size = mul-le-mul_right 
 from_staying : (live : List Bool) (m : ℕ) (e : Edge) (es : List Edge) → In e (staying live m es)
     → In e es × (stays live m e ≡ true)
 from_staying live m e [] h = absurd h
-from_staying live m e (x ∷ es) h = go (stays live m x) refl h
+from_staying live m e (x ∷ es) h = go (stays live m x) refl (from_staying live m e es) h
   where
-    more : In e (staying live m es) → In e (x ∷ es) × (stays live m e ≡ true)
-    more k = let r : In e es × (stays live m e ≡ true) = from_staying live m e es k in (inr r.0, r.1)
-
-    go : (b : Bool) → stays live m x ≡ b → In e (if b then x ∷ staying live m es else staying live m es)
-        → In e (x ∷ es) × (stays live m e ≡ true)
-    go true f (inl g) = (inl g, ap (stays live m) g ∙ f)
-    go true f (inr k) = more k
-    go false f k = more k
+    go : (b : Bool) → stays live m x ≡ b → (In e (staying live m es) → In e es × (stays live m e ≡ true))
+        → In e (if b then x ∷ staying live m es else staying live m es) → In e (x ∷ es) × (stays live m e ≡ true)
+    go true f more (inl g) = (inl g, ap (stays live m) g ∙ f)
+    go true f more (inr k) = let r : In e es × (stays live m e ≡ true) = more k in (inr r.0, r.1)
+    go false f more k = let r : In e es × (stays live m e ≡ true) = more k in (inr r.0, r.1)
 
 in_staying : (live : List Bool) (m : ℕ) (e : Edge) (es : List Edge) → In e es → stays live m e ≡ true
     → In e (staying live m es)
@@ -150,11 +147,11 @@ in_staying live m e (x ∷ es) (inl g) k = go (stays live m x) refl
     go : (b : Bool) → stays live m x ≡ b → In e (if b then x ∷ staying live m es else staying live m es)
     go true f = inl g
     go false f = let c : true ≡ false = sym k ∙ ap (stays live m) g ∙ f in cc
-in_staying live m e (x ∷ es) (inr h) k = go (stays live m x)
+in_staying live m e (x ∷ es) (inr h) k = go (stays live m x) (in_staying live m e es h k)
   where
-    go : (b : Bool) → In e (if b then x ∷ staying live m es else staying live m es)
-    go true = inr (in_staying live m e es h k)
-    go false = in_staying live m e es h k
+    go : (b : Bool) → In e (staying live m es) → In e (if b then x ∷ staying live m es else staying live m es)
+    go true r = inr r
+    go false r = r
 
 -- the ways that lead there
 one_of : (f : Way → ℕ) (o : Option Way × Option Way) (t : ℕ)
@@ -202,14 +199,14 @@ abbrev Next : (ℕ → Spot → Option Wanted) → List Spot → Option Wanted �
 Next f ss (Some w) = (n : ℕ) × (s : Spot) × IsSpot ss n s × (f n s ≡ Some w)
 Next f ss None = (n : ℕ) (s : Spot) → IsSpot ss n s → f n s ≡ None
 
+none_there : (s : Spot) (more front : List Spot) → front ++ (s ∷ more) ≡ [] → ⊥
+none_there s more [] e = cc
+none_there s more (x ∷ front) e = cc
+
 next_found : (i : Input) (size q : ℕ) (marks live : List Bool) (end m : ℕ) (ss : List Spot)
     → Next (λ n s. next_at marks live end m (step_at i size q n s) s) ss
     (next_there i size q marks live end m ss)
-next_found i size q marks live end m [] = λ n s a. none_there a.front a.are
-  where
-    none_there : {n : ℕ} {s : Spot} {more : List Spot} {A : Type 0} (front : List Spot) → front ++ (s ∷ more) ≡ [] → A
-    none_there [] e = cc
-    none_there (x ∷ front) e = cc
+next_found i size q marks live end m [] = λ n s a. absurd (none_there s a.more a.front a.are)
 next_found i size q marks live end m (r ∷ ss) =
     go (f (length (r ∷ ss)) r) refl (next_there i size q marks live end m ss)
     (next_found i size q marks live end m ss)
@@ -388,7 +385,7 @@ module _ (i : Input) (pat : Ops) (len size : ℕ) (ends : (x : Beginning) → Be
 
     goes_by : (x : Beginning) (w : Wanted) → Begins i pat x → wanted x ≡ Some w → goes (place x) (it x) ≡ true
         → (is : Items) × GoesBy i len is (place x) x w
-    unfolding goes it here step_at at
+    unfolding goes it here step_at at node_of final
     goes_by x w b e g = ended (either_true (at x == final)
         (is_beyond lives (most (place x)) (it x).one || is_beyond lives (most (place x)) (it x).other) g)
       where
@@ -490,7 +487,7 @@ module _ (i : Input) (pat : Ops) (len size : ℕ) (ends : (x : Beginning) → Be
     ahead q start marks r (suc n) x is b p h k =
         elim (let a : place x ≤ h.0.0 = no_less i (place x) x h.0 h.1 in
         let t : (h.0.0 ≡ place x) ⊎ (place x < h.0.0) = grind arith in t) [
-          | inl e ↦ on_here e
+          | inl e ↦ on_here e (λ c d. ahead q start marks r n h.0.1 is z.0 c rest d)
           | inr m ↦ record {
               from = x;
               begins = b;
@@ -511,8 +508,9 @@ module _ (i : Input) (pat : Ops) (len size : ℕ) (ends : (x : Beginning) → Be
         live : is_marked lives (at h.0.1) ≡ true
         live = all-live i pat len size ends size_is lives l n h.0.1 is z.0 rest
 
-        on_here : h.0.0 ≡ place x → Ahead q marks
-        on_here e =
+        on_here : h.0.0 ≡ place x → (place h.0.1 ≡ q → is_marked marks (at h.0.1) ≡ true → Ahead q marks)
+            → Ahead q marks
+        on_here e further =
             let low : node_after size h.0 ≤ node size q size =
             subst (λ v. node_after size h.0 ≤ node size v size) p (target_here x h.0 b h.1 e) in
             let t : stays lives (most q) (edge (at x) (node_after size h.0)) ≡ true =
@@ -526,7 +524,7 @@ module _ (i : Input) (pat : Ops) (len size : ℕ) (ends : (x : Beginning) → Be
             (let c : length marks ≡ node size len size + 1 = r.size in let d = z.2 in omega arith) in
             let m : is_marked marks (node_after size h.0) ≡ true =
             r.closed (edge (at x) (node_after size h.0)) in_kept k within in
-            ahead q start marks r n h.0.1 is z.0 (z.1 ∙ e ∙ p) rest (subst (λ v. is_marked marks v ≡ true) z.2 m)
+            further (z.1 ∙ e ∙ p) (subst (λ v. is_marked marks v ≡ true) z.2 m)
 
     -- ---- what is found
 
@@ -563,7 +561,7 @@ module _ (i : Input) (pat : Ops) (len size : ℕ) (ends : (x : Beginning) → Be
 
     -- one is found, if one is ahead
     some_found : (q : ℕ) (marks : List Bool) → Ahead q marks → found q marks ≡ None → ⊥
-    unfolding tells at node_of it here step_at all
+    unfolding tells at node_of it here step_at all final goes
     some_found q marks a e =
         let none_next : Next (tells q marks) (all i pat len size ends size_is) None =
         subst (Next (tells q marks) (all i pat len size ends size_is)) e (is_found q marks) in
@@ -619,7 +617,7 @@ module _ (i : Input) (pat : Ops) (len size : ℕ) (ends : (x : Beginning) → Be
       -- that stays at the place
       staying_way : AreReached (kept (place x)) (node_after size s) (node size len size + 1) marks
           → node_after size s ≤ most (place x) → (o : Option Wanted) → found (place x) marks ≡ o → WayBy x s o
-      unfolding most
+      unfolding most at node_of
       staying_way r m = go
         where
           z : Begins i pat s.1 × (place s.1 ≡ s.0) × (node_after size s ≡ at s.1)
@@ -673,6 +671,7 @@ module _ (i : Input) (pat : Ops) (len size : ℕ) (ends : (x : Beginning) → Be
 
       way_by : AreAhead (nat_lt (most (place x)) (node_after size s)) (kept (place x)) (at x) (node_after size s)
           (node size len size + 1) marks → (o : Option Wanted) → found (place x) marks ≡ o → WayBy x s o
+      unfolding most
       way_by = go (nat_lt (most (place x)) (node_after size s)) refl
         where
           go : (c : Bool) → nat_lt (most (place x)) (node_after size s) ≡ c
@@ -722,7 +721,7 @@ module _ (i : Input) (pat : Ops) (len size : ℕ) (ends : (x : Beginning) → Be
             → ◌≡◌ {A = Option Way × Option Way} (ways i (place x) (spot_of x) (number_of x - 1)) o
             → is_live lives (option_map (target size (place x)) o.0) ≡ true
             → is_live lives (option_map (target size (place x)) o.1) ≡ true → PartsBy (it x)
-        go (Some a, Some c) e m n t u f g marks more r q v w k l =
+        go (Some a, Some c) e m n = λ t u f g marks more r q v w k l.
             let s : (s : ℕ × Beginning) × In s (steps i (place x) x) × (reached (place x) a ≡ named s) =
             step-by i (place x) x a (subst (λ o. In a (listed o)) (sym e) (inl refl)) in
             let z : (s : ℕ × Beginning) × In s (steps i (place x) x) × (reached (place x) c ≡ named s) =

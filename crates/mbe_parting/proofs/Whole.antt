@@ -1,5 +1,5 @@
 -- The lists of the program.
-use Rattle.std.proofs.Common.{ℕ, ◌+◌, ◌≡◌, ◌<◌, ◌≤◌, Bool, Option, Some, None, List, map, length, sym, ◌∙◌, ap, subst, arith}
+use Rattle.std.proofs.Common.{ℕ, ◌+◌, ◌≡◌, ◌<◌, ◌≤◌, Bool, true, Option, Some, None, List, map, length, sym, ◌∙◌, ap, subst, arith}
 use Rattle.std.specs.Prelude.{nat_lt}
 use Rattle.std.proofs.lemmas.List.{length-map}
 use Rattle.mbe_semantics.specs.Syntax.Op.{Ops}
@@ -20,12 +20,13 @@ use Rattle.mbe_parting.specs.declared.graph.Graph as code
 use Rattle.mbe_parting.specs.Parting.{PartAt, IsPartingOf}
 use Rattle.mbe_parting.specs.Spots.{ending, spots}
 use Rattle.mbe_parting.specs.Code.{spot_seen}
-use Rattle.mbe_parting.specs.Graph.{AreReached, node, steps_before, edges_in, flipped, parts, first_parting}
+use Rattle.mbe_parting.specs.Graph.{AreReached, is_marked, node, steps_before, edges_in, flipped, parts, first_parting}
 use Rattle.mbe_parting.specs.Going.{staying, next_there, AreAhead, IsGraph, IsWayOn, IsParted}
 use Rattle.mbe_parting.proofs.Numbers.{some-dots}
 use Rattle.mbe_parting.proofs.Tails.{spots-length}
-use Rattle.mbe_parting.proofs.Nodes.{Found, found-first}
+use Rattle.mbe_parting.proofs.Nodes.{Found, found-first, place-below}
 use Rattle.mbe_parting.proofs.GoingLemmas.{PartSome, edges, final, most, kept, found, part-by}
+use Rattle.mbe_parting.proofs.Marking.{marked-within}
 use Rattle.mbe_parting.proofs.Right.{all, ss, last, none-part, none-before}
 
 -- how many dots there are
@@ -157,3 +158,22 @@ module _ {A : Type 0} (g : Grammar) (x : code.Graph A) (w : IsGraph g x) where
       let z : Way s.place u s.source o = way s.place m u s.source es o n l b in
       part-by i pat len size ends size_is x.live.items live_are x.reached.items reached_are s
       (subst (λ l. In s l) steps_are h) e t u f k y.marks z.marks y.ahead z.ahead v o y.is z.is
+
+  -- its place is one of the argument
+  pub step-inside : (s : Step) → In s x.steps.items → s.place ≤ flat_len (trees x.argument)
+  step-inside s h =
+      let l : s.place < flat_len (trees x.argument) + 1 =
+      place-below (input_of g (trees x.argument)) (length x.spots.items) (map spot_seen x.spots.items)
+      (flat_len (trees x.argument) + 1) s (subst (λ l. In s l) w.steps h) in
+      omega arith
+
+  -- a node that is marked is one of them
+  pub marked-inside : (marks : List Bool) (n : ℕ) → length marks ≡ x.count → is_marked marks n ≡ true → n < x.count
+  marked-inside marks n e m = subst (λ k. n < k) e (marked-within marks n m)
+
+-- both are there
+pub some-both : (i : Input) (pat : Ops) (len p : ℕ) (v w : Option Wanted) → PartSome i pat len p v w
+    → (v ≡ None → ⊥) × (w ≡ None → ⊥)
+some-both i pat len p (Some v) (Some w) h = ((λ e. cc), (λ e. cc))
+some-both i pat len p (Some v) None h = absurd h
+some-both i pat len p None w h = absurd h

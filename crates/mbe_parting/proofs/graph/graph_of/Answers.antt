@@ -42,7 +42,7 @@ returns-clause-graph g c =
     let spots_are : c.deref.result.now ≡ c.in_ok-spots.spots.items = c.deref.ensures.value in
     record {
       spots = c.in_ok-spots.ensures;
-      steps = subst (λ (v : List (declared.Spot g.A)). c.in_ok-steps.steps.items
+      steps = subst (λ (v : List (declared.Spot g.row.A.Denot)). c.in_ok-steps.steps.items
           ≡ steps_before (input_of (g.G.FragmentGrammar.grammar c.args.grammar.now) (trees c.args.argument)) (length v)
           (map spot_seen v) (flat_len (trees c.args.argument) + 1)) spots_are c.in_ok-steps.ensures;
       edges = c.in_ok-edges.ensures ∙ ap edges_in c.deref-2.ensures.value;
