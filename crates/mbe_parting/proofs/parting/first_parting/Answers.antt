@@ -13,7 +13,8 @@ returns-in_default g c =
     ∙ ap (λ v. first_parting v c.deref-2.result.now c.deref-3.result.now) c.deref.ensures.value
     ∙ ap (λ v. first_parting x.reached.items v c.deref-3.result.now) c.deref-2.ensures.value
     ∙ ap (first_parting x.reached.items x.live.items) c.deref-3.ensures.value) in
-    rw (c.in_ok-graph.ensures.argument, c.in_ok-graph.ensures.pattern) at none-parts h x w (found ∙ c.in_default.is)
+    let none = none-parts {A = g.row.A.Denot} h x w (found ∙ c.in_default.is) in
+    rw (c.in_ok-graph.ensures.argument, c.in_ok-graph.ensures.pattern) at none
 
 pub ways_on-requires : goal.ways_on-requires
 ways_on-requires g c =
@@ -25,7 +26,7 @@ ways_on-requires g c =
     ∙ ap (λ v. first_parting v c.deref-2.result.now c.deref-3.result.now) c.deref.ensures.value
     ∙ ap (λ v. first_parting x.reached.items v c.deref-3.result.now) c.deref-2.ensures.value
     ∙ ap (first_parting x.reached.items x.live.items) c.deref-3.ensures.value) in
-    first-parted h x w c.in-Some.step (found ∙ c.in-Some.is)
+    first-parted {A = g.row.A.Denot} h x w c.in-Some.step (found ∙ c.in-Some.is)
 
 pub returns : goal.returns
 returns g c =
@@ -38,6 +39,5 @@ returns g c =
     ∙ ap (λ v. first_parting x.reached.items v c.deref-3.result.now) c.deref-2.ensures.value
     ∙ ap (first_parting x.reached.items x.live.items) c.deref-3.ensures.value) in
     let two = rw (c.in_ok-graph.ensures.argument, c.in_ok-graph.ensures.pattern) at c.in_ok-one.ensures in
-    let none_before = rw (c.in_ok-graph.ensures.argument, c.in_ok-graph.ensures.pattern) at
-    none-before-first h x w c.in-Some.step (found ∙ c.in-Some.is) in
-    (two, none_before)
+    let none_before = none-before-first {A = g.row.A.Denot} h x w c.in-Some.step (found ∙ c.in-Some.is) in
+    (two, rw (c.in_ok-graph.ensures.argument, c.in_ok-graph.ensures.pattern) at none_before)

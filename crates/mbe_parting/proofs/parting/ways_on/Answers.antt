@@ -1,4 +1,4 @@
-use Rattle.std.proofs.Common.{◌≡◌, Some, None, length, ap, sym, subst, ◌∙◌, arith}
+use Rattle.std.proofs.Common.{◌≡◌, Some, length, ap, subst, ◌∙◌, arith}
 use Rattle.std.specs.Prelude.{option_map, IfSome}
 use Rattle.mbe_tt.specs.Trees.Tree.{flat_len}
 use Rattle.mbe_tt.specs.Views.View.{trees}
@@ -47,8 +47,8 @@ unreachable-requires-in_default-2 g c =
     let both = some-both (input_of h (trees x.argument)) (template_of x.pattern.now) (flat_len (trees x.argument)) s.place
     (option_map wanted_seen c.in_ok-one.one) (option_map wanted_seen c.in_ok-other.other) parted in
     elim c.in_default-2.branch [
-      | in_default-2-via-in-Some+in_default w ↦ both.1 (ap (option_map wanted_seen) w.in_default-2.is)
-      | in_default-2-via-in_default w ↦ both.0 (ap (option_map wanted_seen) w.in_default-2.is)
+      | in_default-2-via-in-Some+in_default w ↦ both.1 (ap (option_map wanted_seen) w.in_default-2.is-1)
+      | in_default-2-via-in_default w ↦ both.0 (ap (option_map wanted_seen) w.in_default-2.is-0)
     ]
 
 pub returns : goal.returns
