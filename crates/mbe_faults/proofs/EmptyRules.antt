@@ -73,8 +73,7 @@ module _ (HasEdition : SyntaxContext → Edition → Type 0) (separators : List 
       let same : reads.rule_trees ≡ w.1 = same_trees reads.rule_trees w.1 (sym reads.at ∙ w.3) in
       let at : RulesEmptyAt HasEdition separators left 0 n =
       subst (λ (i : ℕ). RulesEmptyAt HasEdition separators left 0 i) (sym w.5)
-      (in_rule left w.1 r w.2 w.3 (subst (λ (o : RuleTrees). AreParts HasEdition o r) same reads.parts) w.4) in
-      (
+      (in_rule left w.1 r w.2 w.3 (subst (λ (o : RuleTrees). AreParts HasEdition o r) same reads.parts) w.4) in (
         refuses-push rs r ∙ ap (λ b. b || is_refused r.reads) s ∙ w.0,
         refl,
         same_place whole (length rs + 0) rules (passed whole left + n) (before + n) (omega (arith, e))
@@ -95,9 +94,9 @@ module _ (HasEdition : SyntaxContext → Edition → Type 0) (separators : List 
       ∙ (following-some separators following e ∙ ap Some (sym l)) in
       let many : length (rs ++ r ∷ []) ≡ length rs + 1 = length-append rs (r ∷ []) in
       λ k n v. same_place whole (length rs + suc k) (length (rs ++ r ∷ []) + k)
-          (passed whole left + (passed left rest + n)) (passed whole rest + n) (omega arith) (omega arith)
-          (g (suc k) (passed left rest + n)
-          (separated left rest reads.rule_trees r k n reads.at reads.parts w back v))
+      (passed whole left + (passed left rest + n)) (passed whole rest + n) (omega arith) (omega arith)
+      (g (suc k) (passed left rest + n)
+      (separated left rest reads.rule_trees r k n reads.at reads.parts w back v))
 
   -- ---- why all are refused
 
@@ -105,22 +104,29 @@ module _ (HasEdition : SyntaxContext → Edition → Type 0) (separators : List 
   pub refused-by : (f : Forest) (missing : Fault) (rs : List Rule) (x : Option RulesFault) (fault : RulesFault)
       → Settled f rs x → Rules HasEdition separators missing f rs (Some (refusal_of fault.fault))
       → AreRefused HasEdition separators missing f rs (option_map (λ y. refusal_of y.fault) (refused x fault))
-  refused-by f missing rs None fault s h =
-      (Some (refusal_of fault.fault), h,
-      sym (ap (λ (b : Bool). if b then Some empty_repetition else Some (refusal_of fault.fault)) s))
-  refused-by f missing rs (Some x) fault s h =
-      (Some (refusal_of fault.fault), h,
-      ap (λ y. Some (refusal_of y)) s.1
-      ∙ sym (ap (λ (b : Bool). if b then Some empty_repetition else Some (refusal_of fault.fault)) s.0))
+  refused-by f missing rs None fault s h = (
+    Some (refusal_of fault.fault),
+    h,
+    sym (ap (λ (b : Bool). if b then Some empty_repetition else Some (refusal_of fault.fault)) s),
+  )
+  refused-by f missing rs (Some x) fault s h = (
+    Some (refusal_of fault.fault),
+    h,
+    ap (λ y. Some (refusal_of y)) s.1
+        ∙ sym (ap (λ (b : Bool). if b then Some empty_repetition else Some (refusal_of fault.fault)) s.0),
+  )
 
   pub refused-or-none : (f : Forest) (missing : Fault) (rs : List Rule) (x : Option RulesFault)
       → Settled f rs x → Rules HasEdition separators missing f rs None
       → AreRefused HasEdition separators missing f rs (option_map (λ y. refusal_of y.fault) x)
   refused-or-none f missing rs None s h =
       (None, h, sym (ap (λ (b : Bool). if b then Some empty_repetition else None) s))
-  refused-or-none f missing rs (Some x) s h =
-      (None, h, ap (λ y. Some (refusal_of y)) s.1
-      ∙ sym (ap (λ (b : Bool). if b then Some empty_repetition else None) s.0))
+  refused-or-none f missing rs (Some x) s h = (
+    None,
+    h,
+    ap (λ y. Some (refusal_of y)) s.1
+        ∙ sym (ap (λ (b : Bool). if b then Some empty_repetition else None) s.0),
+  )
 
   -- and where
   pub placed-some : (f : Forest) (missing : Fault) (rs : List Rule) (x : Option RulesFault) → Settled f rs x

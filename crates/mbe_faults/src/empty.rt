@@ -1,7 +1,7 @@
 // The first repetition of a pattern that can read nothing.
 ghost use Rattle.std.specs.Prelude.{◌≡◌, ◌≤◌, ◌+◌, ◌<◌, ◌^◌, is_some, option_map, IfOk, IfSome, IfNone};
 ghost use Rattle.mbe_tt.specs.Trees.Tree.{flat_len};
-ghost use Rattle.mbe_semantics.specs.Syntax.Op.{Ops, op};
+ghost use Rattle.mbe_semantics.specs.Syntax.Op.{Ops, op as op_before};
 ghost use Rattle.mbe_semantics.specs.Syntax.Nullable.{is_vis, may_skip, is_nullable_op, is_nullable, is_refused_op, is_refused};
 ghost use Rattle.mbe_semantics.specs.Syntax.Template.{pattern, Template};
 ghost use Rattle.mbe_semantics.specs.Laws.Marking.{MayAsk};
@@ -80,7 +80,7 @@ pub fn first_empty<A: Allocator + Copy, E: Copy + Fn(SyntaxContext) -> Edition>(
     src: TtIter<'_, A>,
 ) -> Result<Option<usize>, AllocError>
     requires answers { MayAsk (E.pre edition) }
-    requires read { Template (E.post edition) pattern src.entry (ops_of ops.now) }
+    requires read { Template (E.post edition) pattern src (ops_of ops.now) }
     ensures place { IfOk result (λ r. IfSome r (EmptyAt (E.post edition) src.entry)) }
     ensures refused { IfOk result (λ r. is_some r ≡ is_refused (ops_of ops.now)) }
     ensures within { IfOk result (λ r. IfSome r (λ n. n ≤ flat_len src.entry)) }
@@ -107,7 +107,8 @@ fn empty_at_front<A: Allocator + Copy, E: Copy + Fn(SyntaxContext) -> Edition>(
     src: &mut TtIter<'_, A>,
 ) -> Result<Option<usize>, AllocError>
     requires answers { MayAsk (E.pre edition) }
-    requires read { (os : Ops) × Template (E.post edition) pattern src.old (op (op_of op.now) os) }
+    requires read { (os : Ops) × Template (E.post edition) pattern src.old
+        (op_before (op_of op.now) os) }
     ensures place { IfOk result (λ r. IfSome r (EmptyAt (E.post edition) src.old)) }
     ensures refused { IfOk result (λ r. is_some r ≡ is_refused_op (op_of op.now)) }
     ensures past { IfOk result (λ r. PassesOp (E.post edition) (op_of op.now) src.old src.new) }
@@ -122,7 +123,9 @@ fn empty_at_front<A: Allocator + Copy, E: Copy + Fn(SyntaxContext) -> Edition>(
             Ok(further(first_empty(alloc, edition, &tokens.0, inside)?, 1))
         }
         Op::Repeat {
-            tokens, separator, ..
+            tokens,
+            separator,
+            ..
         } => {
             let Front::Repetition(body) = front else {
                 unreachable!()

@@ -103,7 +103,11 @@ fn faults_are_placed(rt: HostRuntime) -> Result<(), LexError> {
         let found = fault(rt.alloc(), text, &[';'], SyntaxFault::ExpectedSemicolon)?;
         let is_wanted = match found {
             None => false,
-            Some(found) => { found.fault == Refusal::Syntax(*want) && found.rule == *rule && found.place == *place }
+            Some(found) => {
+                found.fault == Refusal::Syntax(*want)
+                    && found.rule == *rule
+                    && found.place == *place
+            }
         };
         assert!(rt; is_wanted, "{text}");
     }

@@ -17,7 +17,9 @@ use crate::spot::Spot;
 use mbe_calls::calls::{Defined, Form};
 use mbe_errors::error::{ParseError, SyntaxFault};
 use mbe_explaining::places::span_at;
-use mbe_faults::rules::{PartFault, Refusal, RulesFault, read_one_rule, read_rules as faulty_rules};
+use mbe_faults::rules::{
+    PartFault, Refusal, RulesFault, read_one_rule, read_rules as faulty_rules,
+};
 use mbe_parser::parser::Mode;
 use mbe_parser::rules::Rule;
 use mbe_tt::span::{Edition, Span, SyntaxContext};

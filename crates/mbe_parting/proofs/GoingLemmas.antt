@@ -367,9 +367,11 @@ module _ (i : Input) (pat : Ops) (len size : ℕ) (ends : (x : Beginning) → Be
     by_target x w t b e o m k =
         let s : (s : ℕ × Beginning) × In s (steps i (place x) x) × (t ≡ node_after size s) = step_to x t o in
         let r : (is : Items) × IsBeginningOf i len is s.0.0 s.0.1 =
-        reading_after x s.0 b s.1 (subst (λ v. is_marked lives v ≡ true) s.2 k) in
-        (r.0, over x s.0 w s.1
-        (leaves_here x s.0 b s.1 (subst (λ v. node size (place x) size < v) s.2 m)) r.1 e)
+        reading_after x s.0 b s.1 (subst (λ v. is_marked lives v ≡ true) s.2 k) in (
+          r.0,
+          over x s.0 w s.1
+              (leaves_here x s.0 b s.1 (subst (λ v. node size (place x) size < v) s.2 m)) r.1 e,
+        )
 
     by_end : (x : Beginning) (w : Wanted) → Begins i pat x → wanted x ≡ Some w → at x ≡ final
         → (is : Items) × GoesBy i len is (place x) x w
@@ -379,9 +381,11 @@ module _ (i : Input) (pat : Ops) (len size : ℕ) (ends : (x : Beginning) → Be
         let n : number_of x ≤ size = few i pat len size ends size_is x b in
         let two : (place x ≡ len) × (number_of x ≡ 1) =
         node-one size (place x) len (number_of x) 1 a.0 n (omega arith) (omega arith) f in
-        let o : (is : Items) × (x ≡ dot no_ops is []) = one-dot x two.1 in
-        (o.0, subst (GoesBy i len o.0 (place x) x)
-        (same_Some _ w (sym (ap wanted o.1) ∙ e)) (at_end x two.0 o.1))
+        let o : (is : Items) × (x ≡ dot no_ops is []) = one-dot x two.1 in (
+          o.0,
+          subst (GoesBy i len o.0 (place x) x)
+              (same_Some _ w (sym (ap wanted o.1) ∙ e)) (at_end x two.0 o.1),
+        )
 
     goes_by : (x : Beginning) (w : Wanted) → Begins i pat x → wanted x ≡ Some w → goes (place x) (it x) ≡ true
         → (is : Items) × GoesBy i len is (place x) x w
@@ -489,14 +493,14 @@ module _ (i : Input) (pat : Ops) (len size : ℕ) (ends : (x : Beginning) → Be
         let t : (h.0.0 ≡ place x) ⊎ (place x < h.0.0) = grind arith in t) [
           | inl e ↦ on_here e (λ c d. ahead q start marks r n h.0.1 is z.0 c rest d)
           | inr m ↦ record {
-              from = x;
-              begins = b;
-              same_place = p;
-              marked = k;
-              on = subst (λ v. goes v (it x) ≡ true) p
-                  (goes_past x h.0 b h.1 m (subst (λ v. is_marked lives v ≡ true) (sym z.2) live));
-              some = some_next i (place x) x h.0 h.1 m;
-            }
+            from = x;
+            begins = b;
+            same_place = p;
+            marked = k;
+            on = subst (λ v. goes v (it x) ≡ true) p
+                (goes_past x h.0 b h.1 m (subst (λ v. is_marked lives v ≡ true) (sym z.2) live));
+            some = some_next i (place x) x h.0 h.1 m;
+          }
         ]
       where
         z : Begins i pat h.0.1 × (place h.0.1 ≡ h.0.0) × (node_after size h.0 ≡ at h.0.1)
@@ -544,9 +548,12 @@ module _ (i : Input) (pat : Ops) (len size : ℕ) (ends : (x : Beginning) → Be
         (few i pat len size ends size_is y b) e in
         let same : spot ≡ spot_of y =
         one-spot (spots pat ending) (number_of y) spot (spot_of y)
-        (subst (λ v. IsSpot (spots pat ending) v spot) two.1 a) (spot-there i pat y b) in
-        (two.1, same, ap (λ v. step_at i size v n spot) two.0 ∙ ap (λ v. step_at i size (place y) v spot) two.1
-        ∙ ap (step_at i size (place y) (number_of y)) same)
+        (subst (λ v. IsSpot (spots pat ending) v spot) two.1 a) (spot-there i pat y b) in (
+          two.1,
+          same,
+          ap (λ v. step_at i size v n spot) two.0 ∙ ap (λ v. step_at i size (place y) v spot) two.1
+              ∙ ap (step_at i size (place y) (number_of y)) same,
+        )
 
     unfoldable pub found : ℕ → List Bool → Option Wanted
     found q marks = next_there i size q marks lives final (most q) (all i pat len size ends size_is)
@@ -585,8 +592,7 @@ module _ (i : Input) (pat : Ops) (len size : ℕ) (ends : (x : Beginning) → Be
         subst (Next (tells q marks) (all i pat len size ends size_is)) e (is_found q marks) in
         let t = from_next marks lives final (most q) (step_at i size q f.0 f.1) f.1 w f.3 in
         let y = seen (node size q f.0) t.0 in
-        let same = is_it q f.0 f.1 y.0 y.1 y.2 f.2 y.3 in
-        (
+        let same = is_it q f.0 f.1 y.0 y.1 y.2 f.2 y.3 in (
           y.0,
           y.1,
           y.2,
@@ -642,8 +648,7 @@ module _ (i : Input) (pat : Ops) (len size : ℕ) (ends : (x : Beginning) → Be
               (λ n k. let c : Comes (place x) s.1 n = come n k in (c.to, c.begins, c.same_place, c.is, c.by)) in
               let g = goes_by y.0 w y.1 y.4 y.5 in
               let k : GoesBy i len g.0 (place x) s.1 w =
-              y.3 g.0 w (subst (λ v. GoesBy i len g.0 v y.0 w) y.2 g.1) in
-              (
+              y.3 g.0 w (subst (λ v. GoesBy i len g.0 v y.0 w) y.2 g.1) in (
                 g.0,
                 subst (λ v. IsBeginningOf i len g.0 v s.1) (sym still) (begins_so i len g.0 (place x) s.1 w k),
                 later still k,

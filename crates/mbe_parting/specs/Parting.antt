@@ -48,8 +48,8 @@ pub record PartAt (i : Input) (pattern : Ops) (len p : ℕ) : Type 0 where
 -- so after a step over none; or the argument's end.
 pub data GoesBy (i : Input) (len : ℕ) (is : Items) (p : ℕ) : Beginning → Wanted → Type 0 where
   at_end : (x : Beginning) → p ≡ len → x ≡ dot no_ops is [] → GoesBy i len is p x ending
-  over : (x : Beginning) (s : ℕ × Beginning) (w : Wanted) → In s (steps i p x) → p < s.0 → IsBeginningOf i len is s.0 s.1
-      → wanted x ≡ Some w → GoesBy i len is p x w
+  over : (x : Beginning) (s : ℕ × Beginning) (w : Wanted) → In s (steps i p x) → p < s.0
+      → IsBeginningOf i len is s.0 s.1 → wanted x ≡ Some w → GoesBy i len is p x w
   after : (x : Beginning) (s : ℕ × Beginning) (w : Wanted) → In s (steps i p x) → s.0 ≡ p → GoesBy i len is p s.1 w
       → GoesBy i len is p x w
 

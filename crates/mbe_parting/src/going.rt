@@ -66,7 +66,9 @@ fn wanted_at<'a, A: Allocator>(spot: &Spot<'a, A>) -> Option<Wanted<'a, A>>
         Spot::End => Some(Wanted::End),
         Spot::Closing => Some(Wanted::Closing),
         Spot::RoundEnd {
-            separator, kind, ..
+            separator,
+            kind,
+            ..
         } => round_next(*kind, *separator),
         Spot::Before { op, .. } => op_next(op),
     }

@@ -35,24 +35,24 @@ pub struct Parting<'a, A: Allocator = Global> {
     pub other: Wanted<'a, A>,
 }
 
-// By what a reading goes on after a step from the source to the target.
+// By what a reading goes on after a step to the target.
 fn way_on<'a, A: Allocator + Copy, G: FragmentGrammar>(
     alloc: A,
     grammar: &G,
     graph: &Graph<'a, A>,
-    place: usize,
+    step: Step,
     last: usize,
     edges: &[Edge],
-    ends: (usize, usize),
+    target: usize,
 ) -> Result<Option<Wanted<'a, A>>, AllocError>
-    requires place { place ≤ flat_len (trees graph.now.argument) }
-    requires source { ends.0 < graph.now.count }
-    requires target { ends.1 < graph.now.count }
-    ensures { IfOk result (λ w. IsWayOn (G.grammar grammar.now) graph.now place last ends.0 ends.1
-        edges.now (option_map wanted_seen w)) }
+    requires place { step.place ≤ flat_len (trees graph.now.argument) }
+    requires source { step.source < graph.now.count }
+    requires target { target < graph.now.count }
+    ensures { IfOk result (λ w. IsWayOn (G.grammar grammar.now) graph.now step.place last
+        step.source target edges.now (option_map wanted_seen w)) }
 {
-    let marks = ahead(alloc, edges, last, ends.0, ends.1, graph.count)?;
-    let source = Source::new(alloc, graph.argument).passed(place)?;
+    let marks = ahead(alloc, edges, last, step.source, target, graph.count)?;
+    let source = Source::new(alloc, graph.argument).passed(step.place)?;
     let bounds = Bounds {
         live: graph.live.as_slice(),
         end: graph.end,
@@ -80,8 +80,8 @@ fn ways_on<'a, A: Allocator + Copy, G: FragmentGrammar>(
     let size = graph.spots.len();
     let last = node(size, step.place, size).ok_or(AllocError)?;
     let edges = staying(alloc, &graph.edges, &graph.live, last)?;
-    let one = way_on(alloc, grammar, graph, step.place, last, &edges, (step.source, one))?;
-    let other = way_on(alloc, grammar, graph, step.place, last, &edges, (step.source, other))?;
+    let one = way_on(alloc, grammar, graph, step, last, &edges, one)?;
+    let other = way_on(alloc, grammar, graph, step, last, &edges, other)?;
     let (Some(one), Some(other)) = (one, other) else {
         unreachable!()
     };

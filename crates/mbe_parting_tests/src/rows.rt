@@ -1,6 +1,6 @@
 // Patterns and arguments, each with the place that the definition of a parting gives: flat tokens, where an opening is one, a
 // closing, and each char of a punct.
-use crate::parted::{parting_of, trees_of};
+use crate::parted::{goes_by, parting_of, trees_of};
 use refusing::Refusing;
 use std::alloc::{AllocError, Allocator, Global};
 use std::process::Abort;
@@ -139,6 +139,30 @@ static ONE_READING: [Row; 5] = [
 #[test]
 fn one_reading_parts_nowhere(rt: HostRuntime) -> Result<(), Fail> {
     assert_all(&rt, rt.alloc(), &ONE_READING)
+}
+
+// A pattern, an argument, and what two readings go on by where they part: into a repetition and past it, into another round and out.
+static WAYS: [(&str, &str, (&str, &str)); 6] = [
+    ("$($x:ident)? $($y:ident)?", "a", ("x", "y")),
+    ("$($x:ident)+ $($y:tt)*", "a b", ("x", "y")),
+    ("$($x:tt),* $(b)? $(, c)*", "a, c", ("another", "separator")),
+    ("$(a)? $(a)? b", "a b", ("a", "a")),
+    ("$($($x:ident)*);*", "", ("end", "end")),
+    ("[$($(a)*);*] $x:tt", "[] a", ("closing", "closing")),
+];
+
+fn is_by(alloc: Global, row: &(&str, &str, (&str, &str))) -> Result<bool, AllocError> {
+    let pattern = trees_of(alloc, 0, row.0)?;
+    let argument = trees_of(alloc, 1, row.1)?;
+    goes_by(alloc, &pattern, &argument, row.2)
+}
+
+#[test]
+fn readings_go_on_by_what_is_next(rt: HostRuntime) -> Result<(), Fail> {
+    for row in &WAYS {
+        assert!(rt; is_by(rt.alloc(), row)?, "{} on {}", row.0, row.1);
+    }
+    Ok(())
 }
 
 // Each request is refused once: out of memory, or the row's own answer.

@@ -9,4 +9,3 @@ use Rattle.mbe_faults.proofs.EmptyRules.{settled-more, goes-more, refused-by, re
 use Rattle.mbe_ops.proofs.Fragments.{rest_no_longer}
 use Rattle.mbe_tt.proofs.Places.CutLemmas.{no_true}
 use Rattle.mbe_faults.proofs.rules.read_rules.Goals as goal
-

@@ -39,12 +39,14 @@ unreachable-requires-in_default-2 g c =
     (option_map wanted_seen c.in_ok-one.one)) c.deref-3.ensures.value c.in_ok-one.ensures in
     let other = subst (λ v. IsWayOn h x s.place c.in_ok-last.last s.source c.in-Some-Some.other v
     (option_map wanted_seen c.in_ok-other.other)) c.deref-4.ensures.value c.in_ok-other.ensures in
-    let parted : PartSome (input_of h (trees x.argument)) (template_of x.pattern.now) (flat_len (trees x.argument)) s.place
+    let parted
+    : PartSome (input_of h (trees x.argument)) (template_of x.pattern.now) (flat_len (trees x.argument)) s.place
     (option_map wanted_seen c.in_ok-one.one) (option_map wanted_seen c.in_ok-other.other) =
     parted-by h x c.requires.graph s c.requires.step c.requires.parted c.in-Some-Some.one c.in-Some-Some.other
     c.in-Some-Some.is-0 c.in-Some-Some.is-1 c.in_ok-last.last last c.in_ok-edges.edges.items edges
     (option_map wanted_seen c.in_ok-one.one) (option_map wanted_seen c.in_ok-other.other) one other in
-    let both = some-both (input_of h (trees x.argument)) (template_of x.pattern.now) (flat_len (trees x.argument)) s.place
+    let both =
+    some-both (input_of h (trees x.argument)) (template_of x.pattern.now) (flat_len (trees x.argument)) s.place
     (option_map wanted_seen c.in_ok-one.one) (option_map wanted_seen c.in_ok-other.other) parted in
     elim c.in_default-2.branch [
       | in_default-2-via-in-Some+in_default w ↦ both.1 (ap (option_map wanted_seen) w.in_default-2.is-1)
@@ -68,12 +70,14 @@ returns g c =
     (option_map wanted_seen c.in_ok-one.one)) c.deref-3.ensures.value c.in_ok-one.ensures in
     let other = subst (λ v. IsWayOn h x s.place c.in_ok-last.last s.source c.in-Some-Some.other v
     (option_map wanted_seen c.in_ok-other.other)) c.deref-4.ensures.value c.in_ok-other.ensures in
-    let parted : PartSome (input_of h (trees x.argument)) (template_of x.pattern.now) (flat_len (trees x.argument)) s.place
+    let parted
+    : PartSome (input_of h (trees x.argument)) (template_of x.pattern.now) (flat_len (trees x.argument)) s.place
     (option_map wanted_seen c.in_ok-one.one) (option_map wanted_seen c.in_ok-other.other) =
     parted-by h x c.requires.graph s c.requires.step c.requires.parted c.in-Some-Some.one c.in-Some-Some.other
     c.in-Some-Some.is-0 c.in-Some-Some.is-1 c.in_ok-last.last last c.in_ok-edges.edges.items edges
     (option_map wanted_seen c.in_ok-one.one) (option_map wanted_seen c.in_ok-other.other) one other in
     subst (PartSome (input_of h (trees x.argument)) (template_of x.pattern.now) (flat_len (trees x.argument)) s.place
     (Some (wanted_seen c.in-Some-Some-2.one))) (ap (option_map wanted_seen) c.in-Some-Some-2.is-1)
-    (subst (λ v. PartSome (input_of h (trees x.argument)) (template_of x.pattern.now) (flat_len (trees x.argument)) s.place
+    (subst
+    (λ v. PartSome (input_of h (trees x.argument)) (template_of x.pattern.now) (flat_len (trees x.argument)) s.place
     v (option_map wanted_seen c.in_ok-other.other)) (ap (option_map wanted_seen) c.in-Some-Some-2.is-0) parted)
