@@ -1,15 +1,17 @@
 -- What the rules that a call names say of it.
-use Rattle.std.specs.Prelude.{◌≡◌, ◌++◌, ◌==◌, ◌&&◌, ◌+◌, ◌-◌, ◌^◌, nat_lt, min, ℕ, Bool, true, false, not, List, [], ◌∷◌, length, map, codes, Option, Some, None, option_map, IfSome}
+use Rattle.std.specs.Prelude.{◌≡◌, ◌++◌, ◌==◌, ◌&&◌, ◌+◌, ◌-◌, ◌^◌, nat_lt, min, ℕ, Bool, true, false, not, List, [], ◌∷◌, length, map, codes, slice_get, Option, Some, None, option_map, IfSome}
 use Rattle.std.specs.Fmt.{decimal}
 use Rattle.std.specs.String.{string_bytes}
 use Rattle.mbe_tt.specs.declared.span.Span.{Span}
 use Rattle.mbe_tt.specs.declared.tt.Delimiter.{Delimiter}
-use Rattle.mbe_tt.specs.Trees.Tree.{Forest}
+use Rattle.mbe_tt.specs.Trees.Tree.{Forest, flat_len}
 use Rattle.mbe_tt.specs.Fragments.Grammar.{Grammar}
 use Rattle.mbe_semantics.specs.Syntax.Definition.{Rule}
-use Rattle.mbe_semantics.specs.Readings.Verdict.{stop_of}
+use Rattle.mbe_semantics.specs.Readings.Input.{input_of}
+use Rattle.mbe_semantics.specs.Readings.Verdict.{Verdict, many_readings, stop_of}
 use Rattle.mbe_calls.specs.Fronts.{Call}
 use Rattle.mbe_matcher.specs.Wanted.{Wanted}
+use Rattle.mbe_parting.specs.Parting.{Parting, PartFirst}
 use Rattle.mbe.specs.Explaining.{Explains, WantsThere, ClashesThere}
 use Rattle.mbe_explaining.specs.Saying.{Part, Said, part_of, pair_of, said_seen, named_parts, message_text}
 use Rattle.mbe_explaining.specs.SpanAt.{span_at}
@@ -24,17 +26,32 @@ use Rattle.mbe_expanding.specs.Taking.{Taken, Takes, taken_seen}
 
 -- ---- what a rule says
 
--- The rule with this index says so of an argument: its verdict; the span where that is; the texts and places of all
--- that it wants
--- there; and of an ambiguity those of two that clash there.
+-- two readings of an argument by the rule with this index part first there, and go on by these
+abbrev pub PartsThere : Grammar → List Rule → Forest → ℕ → Parting → Type 0
+PartsThere g rules argument index p =
+    (r : Rule) × (slice_get rules index ≡ Some r) × PartFirst (input_of g argument) r.reads (flat_len argument) p
+
+-- The place of the rule's verdict, and two parts of the rule: where several readings are, the place where two of them part
+-- first, and by what they go on; else the place where the match stops, and of an ambiguity two that clash there.
+pub data PointsTo (g : Grammar) (rules : List Rule) (argument : Forest) (index : ℕ)
+    : Verdict → ℕ → Option (Wanted × Wanted) → Type 0 where
+  at_parting : (p : Parting) → PartsThere g rules argument index p
+      → PointsTo g rules argument index many_readings p.place (Some (p.one, p.other))
+  at_stop : (v : Verdict) (pair : Option (Wanted × Wanted)) → (v ≡ many_readings → ⊥)
+      → ClashesThere g rules argument index v pair
+      → PointsTo g rules argument index v (stop_of argument v) pair
+
+-- The rule with this index says so of an argument: its verdict; the span of the place of that; the texts and places of
+-- all that it wants where its match stops; and those of the two parts.
 pub record Says (g : Grammar) (rules : List Rule) (argument : Delimiter × Forest) (index : ℕ)
     (said : Said) : Type 0 where
   pub wants : List Wanted
+  pub position : ℕ
   pub pair : Option (Wanted × Wanted)
   pub explains : Explains g rules argument.1 index said.verdict
   pub are_wanted : WantsThere g rules argument.1 index said.verdict wants
-  pub clash : ClashesThere g rules argument.1 index said.verdict pair
-  pub place : said.place ≡ span_at argument.0.close argument.1 (stop_of argument.1 said.verdict)
+  pub points : PointsTo g rules argument.1 index said.verdict position pair
+  pub place : said.place ≡ span_at argument.0.close argument.1 position
   pub parts : said.wanted ≡ map part_of wants
   pub two : said.clash ≡ option_map pair_of pair
 

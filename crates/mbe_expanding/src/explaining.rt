@@ -5,8 +5,11 @@ ghost use Rattle.mbe_semantics.specs.Expansion.Macro.{IsChecked};
 ghost use Rattle.mbe.specs.MacroViews.{macro_of};
 ghost use Rattle.mbe_calls.specs.Shown.{call_shown};
 ghost use Rattle.mbe_explaining.specs.Saying.{part_seen, said_seen};
+ghost use Rattle.mbe_semantics.specs.Readings.Verdict.{many_readings};
+ghost use Rattle.mbe.specs.Explaining.{Explains};
+ghost use Rattle.mbe_parting.specs.Code.{parting_seen};
 ghost use Rattle.mbe_expanding.specs.Explained as spec;
-ghost use Rattle.mbe_expanding.specs.Explained.{NotesRules, RulesSay, Says, asks_for};
+ghost use Rattle.mbe_expanding.specs.Explained.{NotesRules, RulesSay, Says, PartsThere, asks_for};
 ghost use Rattle.mbe_expanding.specs.Explained.{note_seen, rule_seen};
 ghost use Rattle.mbe_expanding.specs.Shown.{setting_of, state_of};
 ghost use Rattle.mbe_expanding.specs.Taking.{taken_seen};
@@ -16,8 +19,10 @@ use crate::notes::{Level, Note};
 use crate::taking::{Taken, what_rule_takes};
 use mbe::DeclarativeMacro;
 use mbe_calls::calls::Call;
-use mbe_explaining::saying::{Said, message, named, says};
+use mbe_explaining::saying::{Said, message, named, says, says_parting};
 use mbe_explaining::texts::Part;
+use mbe_matcher::matching::Verdict;
+use mbe_parting::parting::{Parting, first_parting};
 use mbe_tt::grammar::FragmentGrammar;
 use mbe_tt::tt::TopSubtree;
 use std::alloc::{AllocError, Allocator, Global};
@@ -30,8 +35,31 @@ pub struct RuleSaid<A: Allocator = Global> {
     pub taken: Vec<Taken<A>, A>,
 }
 
+// Where two readings of an argument by the rule with this index part first, and by what they go on.
+fn parting_of<'a, A: Allocator + Copy, G: FragmentGrammar>(
+    alloc: A,
+    grammar: &G,
+    rules: &'a DeclarativeMacro<A>,
+    argument: &'a TopSubtree<A>,
+    index: usize,
+) -> Result<Parting<'a, A>, AllocError>
+    requires rule { index < length (macro_of rules.now).rules }
+    requires several { Explains (G.grammar grammar.now) (macro_of rules.now).rules argument.now.1
+        index many_readings }
+    ensures { IfOk result (λ p. PartsThere (G.grammar grammar.now) (macro_of rules.now).rules
+        argument.now.1 index (parting_seen p)) }
+{
+    let pattern = rules.pattern(index);
+    let tokens = argument.iter().remaining();
+    let Some(parting) = first_parting(alloc, grammar, pattern, tokens)? else {
+        unreachable!()
+    };
+    Ok(parting)
+}
+
 /// What the rule with this index says of an argument: its verdict, where that is, all that it wants there, and of an ambiguity two
-/// parts that clash. `AllocError` if out of memory.
+/// parts that clash; of several readings, where two of them part first, and two parts by which they go on. `AllocError` if out of
+/// memory.
 pub fn what_rule_says<A: Allocator + Copy, G: FragmentGrammar>(
     alloc: A,
     grammar: &G,
@@ -46,7 +74,17 @@ pub fn what_rule_says<A: Allocator + Copy, G: FragmentGrammar>(
 {
     let wants = rules.wants(alloc, grammar, argument, index)?;
     let close = argument.top_subtree().delimiter.close;
-    says(alloc, &wants, argument.iter().remaining(), close)
+    let tokens = argument.iter().remaining();
+    match wants.verdict {
+        Verdict::ManyReadings => {
+            let parting = parting_of(alloc, grammar, rules, argument, index)?;
+            let two = (parting.one, parting.other);
+            says_parting(alloc, &wants, parting.place, two, tokens, close)
+        }
+        Verdict::OneReading | Verdict::Ambiguous(_) | Verdict::Stuck(_) => {
+            says(alloc, &wants, tokens, close)
+        }
+    }
 }
 
 // How a rule is called.

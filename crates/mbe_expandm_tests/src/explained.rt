@@ -56,7 +56,8 @@ static ROWS: [Row; 18] = [
     (
         "m { ($(a)? $(a)?) => {} }",
         "m!(a);",
-        "2:5 rule 1 of `m!` reads the call in several ways; ",
+        "2:4 rule 1 of `m!` reads the call in several ways: here it goes on by `a` and by `a`; \
+            1:21 `a` in rule 1 of `m!`; 1:27 `a` in rule 1 of `m!`; ",
     ),
     (
         "m { ($(a)? $(a)? $x:ident) => {} }",

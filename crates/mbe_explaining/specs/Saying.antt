@@ -174,7 +174,9 @@ clash_text p = clash_by (is_same_part p.0 p.1) p.0.text p.1.text
 
 abbrev pub message_by : List ℕ → Verdict → List Part → Option (Part × Part) → List ℕ
 message_by rule one_reading wanted clash = rule ++ codes " fits"
-message_by rule many_readings wanted clash = rule ++ codes " reads the call in several ways"
+message_by rule many_readings wanted None = rule ++ codes " reads the call in several ways"
+message_by rule many_readings wanted (Some pair) =
+    rule ++ (codes " reads the call in several ways: here it goes on by " ++ clash_text pair)
 message_by rule (ambiguous place) wanted None = rule ++ codes " is ambiguous here"
 message_by rule (ambiguous place) wanted (Some pair) =
     rule ++ (codes " is ambiguous here: it goes on by " ++ clash_text pair)
@@ -189,7 +191,8 @@ two_once p = if is_same_part p.0 p.1 then p.0 ∷ [] else p.0 ∷ (p.1 ∷ [])
 
 abbrev pub parts_by : Verdict → List Part → Option (Part × Part) → List Part
 parts_by one_reading wanted clash = []
-parts_by many_readings wanted clash = []
+parts_by many_readings wanted None = []
+parts_by many_readings wanted (Some pair) = two_once pair
 parts_by (ambiguous place) wanted None = []
 parts_by (ambiguous place) wanted (Some pair) = two_once pair
 parts_by (stuck place) wanted clash = once [] wanted

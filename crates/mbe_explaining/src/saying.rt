@@ -1,5 +1,5 @@
 // What a rule says of a call where its match stops.
-ghost use Rattle.std.specs.Prelude.{◌≡◌, ◌++◌, [], map, option_map, codes, IfOk, OnOk};
+ghost use Rattle.std.specs.Prelude.{◌≡◌, ◌++◌, [], map, option_map, codes, IfOk, OnOk, Some};
 ghost use Rattle.std.specs.String.{string_bytes};
 ghost use Rattle.mbe_tt.specs.Views.View.{trees};
 ghost use Rattle.mbe_semantics.specs.Readings.Verdict.{stop_of};
@@ -21,11 +21,11 @@ use std::alloc::{AllocError, Allocator, Global};
 #[derive(Drop)]
 pub struct Said<A: Allocator = Global> {
     pub verdict: Verdict,
-    /// The token of the call where the match stops; its closing, where the call ends there.
+    /// The token of the call where the match stops, or where two readings part; its closing, where the call ends there.
     pub span: Span,
     /// All that the rule wants there. It may be there twice.
     pub wanted: Vec<Part<A>, A>,
-    /// Of an ambiguity, two parts that clash.
+    /// Of an ambiguity, two parts that clash; of several readings, two by which these go on.
     pub clash: Option<(Part<A>, Part<A>)>,
 }
 
@@ -66,6 +66,49 @@ fn pair<A: Allocator + Copy>(
     }
 }
 
+// What a rule says that wants this of the argument with these tokens, whose closing is there, at the position.
+fn said_at<A: Allocator + Copy>(
+    alloc: A,
+    wants: &Wants<'_, A>,
+    position: usize,
+    clash: Option<(Wanted<'_, A>, Wanted<'_, A>)>,
+    tokens: TokenTreesView<'_, A>,
+    close: Span,
+) -> Result<Said<A>, AllocError>
+    ensures verdict { IfOk result (λ s. s.verdict ≡ wants.now.verdict) }
+    ensures place { IfOk result (λ s. s.span ≡ span_at close (trees tokens.entry) position) }
+    ensures wanted { IfOk result (λ s. map part_seen s.wanted.items
+        ≡ map part_of (map wanted_seen wants.now.wanted.items)) }
+    ensures clash { IfOk result (λ s. option_map parts_seen s.clash
+        ≡ option_map pair_of (option_map pair_seen clash.entry)) }
+{
+    Ok(Said {
+        verdict: wants.verdict,
+        span: span_at(tokens, close, position),
+        wanted: parts(alloc, wants.wanted.as_slice())?,
+        clash: pair(alloc, clash)?,
+    })
+}
+
+/// What a rule says of which two readings part first at the position, and go on there by these two. `AllocError` if out of memory.
+pub fn says_parting<A: Allocator + Copy>(
+    alloc: A,
+    wants: &Wants<'_, A>,
+    position: usize,
+    two: (Wanted<'_, A>, Wanted<'_, A>),
+    tokens: TokenTreesView<'_, A>,
+    close: Span,
+) -> Result<Said<A>, AllocError>
+    ensures verdict { IfOk result (λ s. s.verdict ≡ wants.now.verdict) }
+    ensures place { IfOk result (λ s. s.span ≡ span_at close (trees tokens.entry) position) }
+    ensures wanted { IfOk result (λ s. map part_seen s.wanted.items
+        ≡ map part_of (map wanted_seen wants.now.wanted.items)) }
+    ensures two { IfOk result (λ s. option_map parts_seen s.clash
+        ≡ Some (pair_of (pair_seen two.entry))) }
+{
+    said_at(alloc, wants, position, Some(two), tokens, close)
+}
+
 /// What a rule says that wants this of the argument with these tokens, whose closing is there. `AllocError` if out of memory.
 pub fn says<A: Allocator + Copy>(
     alloc: A,
@@ -81,12 +124,8 @@ pub fn says<A: Allocator + Copy>(
     ensures clash { IfOk result (λ s. option_map parts_seen s.clash
         ≡ option_map pair_of (option_map pair_seen wants.now.clash)) }
 {
-    Ok(Said {
-        verdict: wants.verdict,
-        span: span_at(tokens, close, position_of(wants.verdict, tokens)),
-        wanted: parts(alloc, wants.wanted.as_slice())?,
-        clash: pair(alloc, wants.clash)?,
-    })
+    let position = position_of(wants.verdict, tokens);
+    said_at(alloc, wants, position, wants.clash, tokens, close)
 }
 
 // Whether both have the same text at the same place.
@@ -208,6 +247,13 @@ fn ambiguous_text<A: Allocator>(alloc: A, rule: &str, clash: &str) -> Result<Str
     format!(in alloc; "{rule} is ambiguous here: it goes on by {clash}")
 }
 
+fn parting_text<A: Allocator>(alloc: A, rule: &str, ways: &str) -> Result<String<A>, AllocError>
+    ensures { IfOk result (λ text. string_bytes text ≡ rule.now
+        ++ (codes " reads the call in several ways: here it goes on by " ++ ways.now)) }
+{
+    format!(in alloc; "{rule} reads the call in several ways: here it goes on by {ways}")
+}
+
 /// What a rule says, in words; `rule` names it. `AllocError` if out of memory.
 pub fn message<A: Allocator + Copy>(
     alloc: A,
@@ -219,7 +265,11 @@ pub fn message<A: Allocator + Copy>(
 {
     match (said.verdict, &said.clash) {
         (Verdict::OneReading, _) => format!(in alloc; "{rule} fits"),
-        (Verdict::ManyReadings, _) => format!(in alloc; "{rule} reads the call in several ways"),
+        (Verdict::ManyReadings, None) => format!(in alloc; "{rule} reads the call in several ways"),
+        (Verdict::ManyReadings, Some((one, other))) => {
+            let ways = clash_text(alloc, one, other)?;
+            parting_text(alloc, rule, ways.as_str())
+        }
         (Verdict::Ambiguous(_), None) => format!(in alloc; "{rule} is ambiguous here"),
         (Verdict::Ambiguous(_), Some((one, other))) => {
             let clash = clash_text(alloc, one, other)?;
@@ -242,8 +292,8 @@ pub fn named<'p, A: Allocator + Copy>(
 {
     let mut kept = Vec::new(alloc);
     match (said.verdict, &said.clash) {
-        (Verdict::OneReading | Verdict::ManyReadings, _) | (Verdict::Ambiguous(_), None) => {}
-        (Verdict::Ambiguous(_), Some((one, other))) => {
+        (Verdict::OneReading, _) | (Verdict::ManyReadings | Verdict::Ambiguous(_), None) => {}
+        (Verdict::ManyReadings | Verdict::Ambiguous(_), Some((one, other))) => {
             kept.push(one)?;
             if !is_same(one, other) {
                 kept.push(other)?;

@@ -1,7 +1,9 @@
-// The first places where two readings part. Patterns and arguments, each with the place that the definition of a parting gives: flat
+// The first places where two readings part, and by what they go on. Patterns and arguments, each with the place that the definition of a parting gives: flat
 // tokens, where an opening is one, a closing, and each char of a punct.
 use crate::matches::{template_of, trees_of};
 use mbe_grammar::SampleGrammar;
+use mbe_matcher::wanting::Wanted;
+use mbe_ops::ops::Op;
 use mbe_parting::parting::first_parting;
 use std::alloc::{AllocError, Allocator};
 use test_rows::{AnyRows, Fields, Wrong, each_of_any, each_refused, rows};
@@ -19,7 +21,38 @@ impl AnyRows for Partings {
         let argument = trees_of(alloc, 1, argument)?;
         let trees = argument.iter().remaining();
         let found = first_parting(alloc, &SampleGrammar, &template, trees)?;
-        Ok(found == place.parse::<usize>().ok())
+        Ok(found.map(|parting| parting.place) == place.parse::<usize>().ok())
+    }
+}
+
+// A variable's or a word's name, or what else is next.
+fn name_of<A: Allocator>(wanted: Wanted<'_, A>) -> &str {
+    match wanted {
+        Wanted::Op(Op::Var { name, .. }) => name.as_str(),
+        Wanted::Op(Op::Ident(ident)) => ident.sym.as_str(),
+        Wanted::Op(_) => "another",
+        Wanted::Separator(_) => "separator",
+        Wanted::Closing => "closing",
+        Wanted::End => "end",
+    }
+}
+
+#[derive(Clone, Copy)]
+struct Ways;
+
+impl AnyRows for Ways {
+    fn is_so<A: Allocator + Copy>(
+        &self,
+        alloc: A,
+        [pattern, argument, one, other, ..]: Fields,
+    ) -> Result<bool, AllocError> {
+        let template = template_of(alloc, &trees_of(alloc, 0, pattern)?)?;
+        let argument = trees_of(alloc, 1, argument)?;
+        let trees = argument.iter().remaining();
+        match first_parting(alloc, &SampleGrammar, &template, trees)? {
+            None => Ok(false),
+            Some(parting) => Ok(name_of(parting.one) == one && name_of(parting.other) == other),
+        }
     }
 }
 
@@ -76,6 +109,21 @@ const ONE_READING: &str = rows![
 #[test]
 fn one_reading_parts_nowhere(rt: HostRuntime) -> Result<(), Wrong> {
     each_of_any(rt.alloc(), &Partings, ONE_READING, 5)
+}
+
+// A pattern, an argument, and what two readings go on by where they part: into a repetition and past it, into another round and out.
+const WAYS: &str = rows![
+    ("$($x:ident)? $($y:ident)?", "a", "x", "y"),
+    ("$($x:ident)+ $($y:tt)*", "a b", "x", "y"),
+    ("$($x:tt),* $(b)? $(, c)*", "a, c", "another", "separator"),
+    ("$(a)? $(a)? b", "a b", "a", "a"),
+    ("$($($x:ident)*);*", "", "end", "end"),
+    ("[$($(a)*);*] $x:tt", "[] a", "closing", "closing"),
+];
+
+#[test]
+fn readings_go_on_by_what_is_next(rt: HostRuntime) -> Result<(), Wrong> {
+    each_of_any(rt.alloc(), &Ways, WAYS, 6)
 }
 
 #[test]

@@ -137,7 +137,8 @@ reading_starts : (i : Input) (pat : Ops) (len : ℕ) (is : Items) → Reading i 
 reading_starts i pat len is r = from_start i pat len is (dot no_ops is []) (tt, r.0)
     (0, ((let e : place (dot no_ops is []) ≡ len = omega (arith, r.1) in e), refl))
 
-no_steps : (i : Input) (q : ℕ) (is : Items) (x : Beginning) (s : ℕ × Beginning) → x ≡ dot no_ops is [] → In s (steps i q x)
+no_steps : (i : Input) (q : ℕ) (is : Items) (x : Beginning) (s : ℕ × Beginning) → x ≡ dot no_ops is []
+    → In s (steps i q x)
     → ⊥
 no_steps i q is x s e m = subst (λ v. In s (steps i q v)) e m
 

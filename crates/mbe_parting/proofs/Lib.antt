@@ -8,3 +8,5 @@ pub mod Marking
 pub mod Whole
 pub mod Placing
 pub mod Rounding
+pub mod GoingLemmas
+pub mod GoingSteps

@@ -16,7 +16,8 @@ unmarked-set (true ∷ ms) (suc t) l e = unmarked-set ms t (omega arith) e
 unmarked-set (false ∷ ms) (suc t) l e =
     let a : unmarked (set ms t true) < unmarked ms = unmarked-set ms t (omega arith) e in omega arith
 
-pub marked-kept : (ms : List Bool) (t n : ℕ) → t < length ms → is_marked ms n ≡ true → is_marked (set ms t true) n ≡ true
+pub marked-kept : (ms : List Bool) (t n : ℕ) → t < length ms → is_marked ms n ≡ true
+    → is_marked (set ms t true) n ≡ true
 marked-kept ms t n l e = either (let c : (n ≡ t) ⊎ ((n < t) ⊎ (t < n)) = grind arith in c)
   where
     either : ((n ≡ t) ⊎ ((n < t) ⊎ (t < n))) → is_marked (set ms t true) n ≡ true
@@ -27,7 +28,8 @@ marked-kept ms t n l e = either (let c : (n ≡ t) ⊎ ((n < t) ⊎ (t < n)) = g
 -- a marked node was marked, or is this one
 pub from-set : (es : List Edge) (start : ℕ) (ms : List Bool) (e : Edge) → In e es → is_marked ms e.source ≡ true
     → AreFrom es start ms → AreFrom es start (set ms e.target true)
-from-set es start ms e h s f n g = either (let c : (n ≡ e.target) ⊎ ((n < e.target) ⊎ (e.target < n)) = grind arith in c)
+from-set es start ms e h s f n g = either (let c : (n ≡ e.target) ⊎ ((n < e.target) ⊎ (e.target < n)) = grind arith
+    in c)
   where
     either : ((n ≡ e.target) ⊎ ((n < e.target) ⊎ (e.target < n))) → Path es start n
     either (inl k) = along n e h (f e.source s) k
@@ -71,7 +73,8 @@ pub edge-next : (es : List Edge) (k : ℕ) (d : Edge) → k < length es → drop
 edge-next es k d l = drop-cons es k d l ∙ ap (λ v. get_or es k d ∷ drop v es) (let e : suc k ≡ k + 1 = omega arith in e)
 
 pub edge-in : (es : List Edge) (k : ℕ) (d : Edge) → k < length es → In (get_or es k d) es
-edge-in es k d l = in-drop es k (get_or es k d) (subst (λ v. In (get_or es k d) v) (sym (edge-next es k d l)) (inl refl))
+edge-in es k d l = in-drop es k (get_or es k d) (subst (λ v. In (get_or es k d) v) (sym (edge-next es k d l)) (inl
+    refl))
 
 -- what a slice of a list writes back
 pub written-back : (n : ℕ) (xs ys : List Bool) → length xs ≡ length ys → n ≡ length ys
@@ -114,3 +117,9 @@ start-alone es n start ms e k h = either (let c : (k ≡ start) ⊎ ((k < start)
 
 pub start-marked : (ms : List Bool) (start : ℕ) → start < length ms → is_marked (set ms start true) start ≡ true
 start-marked ms start l = get_or-set_same ms start true false l
+
+-- a marked node is one of them
+pub marked-within : (ms : List Bool) (n : ℕ) → is_marked ms n ≡ true → n < length ms
+marked-within [] n e = cc
+marked-within (m ∷ ms) zero e = omega arith
+marked-within (m ∷ ms) (suc n) e = let l : n < length ms = marked-within ms n e in omega arith

@@ -42,8 +42,8 @@ pub record IsStep (i : Input) (size : ℕ) (all : List Spot) (len : ℕ) (s : St
   pub within : q < len
   pub is : s ≡ step_at i size q n spot
 
-spot_later : (s : Spot) (ss : List Spot) (n : ℕ) (r : Spot) → IsSpot ss n r → IsSpot (s ∷ ss) n r
-spot_later s ss n r a = record {
+pub spot-later : (s : Spot) (ss : List Spot) (n : ℕ) (r : Spot) → IsSpot ss n r → IsSpot (s ∷ ss) n r
+spot-later s ss n r a = record {
   front = s ∷ a.front;
   more = a.more;
   are = ap (λ v. s ∷ v) a.are;
@@ -63,7 +63,7 @@ from_there i size q len (r ∷ ss) s l (inl e) = record {
 }
 from_there i size q len (r ∷ ss) s l (inr h) =
     let a : IsStep i size ss len s = from_there i size q len ss s l h in
-    record { q = a.q; n = a.n; spot = a.spot; there = spot_later r ss a.n a.spot a.there; within = a.within; is = a.is }
+    record { q = a.q; n = a.n; spot = a.spot; there = spot-later r ss a.n a.spot a.there; within = a.within; is = a.is }
 
 in_there : (i : Input) (size q : ℕ) (ss front more : List Spot) (r : Spot) → front ++ (r ∷ more) ≡ ss
     → In (step_at i size q (length (r ∷ more)) r) (steps_there i size q ss)
@@ -144,7 +144,11 @@ edge_of_step s e h =
 
 pub from-edges : (ss : List Step) (e : Edge) → In e (edges_in ss) → IsEdge ss e
 from-edges [] e h = absurd h
-from-edges (s ∷ ss) e h = elim (in_either e (edges_of s) (edges_in ss) h) [ inl a ↦ this (edge_of_step s e a) | inr b ↦ later (from-edges ss e b) ]
+from-edges (s ∷ ss) e h = elim (in_either e (edges_of s) (edges_in ss) h) [
+  | inl a ↦ this (edge_of_step s e a)
+  | inr b
+      ↦ later (from-edges ss e b)
+]
   where
     this : (e.source ≡ s.source) × In e.target (option_to_list s.one ++ option_to_list s.other) → IsEdge (s ∷ ss) e
     this r = record { step = s; one_of = inl refl; source = r.0; target = r.1 }
@@ -185,10 +189,10 @@ in-flipped es e h = in-map turned e (reverse es) (in_reverse e es h)
 -- ---- the first step that parts
 
 -- what is known of what was found among steps
-abbrev pub Found : List Bool → List Bool → List Step → Option ℕ → Type 0
+abbrev pub Found : List Bool → List Bool → List Step → Option Step → Type 0
 Found reached live ss None = (r : Step) → In r ss → parts reached live r ≡ true → ⊥
-Found reached live ss (Some p) = ((s : Step) × In s ss × (parts reached live s ≡ true) × (s.place ≡ p))
-    × ((r : Step) → In r ss → parts reached live r ≡ true → p ≤ r.place)
+Found reached live ss (Some s) = In s ss × (parts reached live s ≡ true)
+    × ((r : Step) → In r ss → parts reached live r ≡ true → s.place ≤ r.place)
 
 -- by places
 abbrev Sorted : List Step → Type 0
@@ -204,20 +208,17 @@ first_found reached live (s ∷ ss) o = go (parts reached live s) refl (first_fo
     other r e (inl f) g = let k : true ≡ false = sym g ∙ ap (parts reached live) f ∙ e in cc
     other r e (inr h) g = h
 
-    later : (p : Option ℕ) → parts reached live s ≡ false → Found reached live ss p → Found reached live (s ∷ ss) p
+    later : (p : Option Step) → parts reached live s ≡ false → Found reached live ss p → Found reached live (s ∷ ss) p
     later None e f = λ r h g. f r (other r e h g) g
-    later (Some p) e f = (
-      (f.0.0, inr f.0.1, f.0.2, f.0.3),
-      λ r h g. f.1 r (other r e h g) g,
-    )
+    later (Some p) e f = (inr f.0, f.1, λ r h g. f.2 r (other r e h g) g)
 
     least : (r : Step) → In r (s ∷ ss) → s.place ≤ r.place
     least r (inl f) = let e : s.place ≡ r.place = ap (λ (v : Step). v.place) (sym f) in omega arith
     least r (inr h) = o.0 r h
 
     go : (b : Bool) → parts reached live s ≡ b → Found reached live ss (first_parting reached live ss) →
-        Found reached live (s ∷ ss) (if b then Some s.place else first_parting reached live ss)
-    go true e ih = ((s, inl refl, e, refl), λ r h f. least r h)
+        Found reached live (s ∷ ss) (if b then Some s else first_parting reached live ss)
+    go true e ih = (inl refl, e, λ r h f. least r h)
     go false e ih = later (first_parting reached live ss) e ih
 
 sorted_append : (xs ys : List Step) → Sorted xs → Sorted ys
@@ -242,10 +243,10 @@ sorted_there i size q (r ∷ ss) = (
   sorted_there i size q ss,
 )
 
-place_below : (i : Input) (size : ℕ) (all : List Spot) (len : ℕ) (s : Step) → In s (steps_before i size all len)
+pub place-below : (i : Input) (size : ℕ) (all : List Spot) (len : ℕ) (s : Step) → In s (steps_before i size all len)
     → s.place < len
 unfolding step_at
-place_below i size all len s h =
+place-below i size all len s h =
     let a : IsStep i size all len s = from-steps i size all len s h in
     let e : s.place ≡ a.q = ap (λ (v : Step). v.place) a.is in
     let l : a.q < len = a.within in
@@ -257,7 +258,7 @@ sorted_before i size all zero = tt
 sorted_before i size all (suc len) =
     sorted_append (steps_before i size all len) (steps_there i size len all) (sorted_before i size all len)
     (sorted_there i size len all)
-    (λ x y m n. let a : x.place < len = place_below i size all len x m in
+    (λ x y m n. let a : x.place < len = place-below i size all len x m in
     let b : y.place ≡ len = there_at i size len all y n in omega arith)
 
 pub found-first : (reached live : List Bool) (i : Input) (size : ℕ) (all : List Spot) (len : ℕ) →

@@ -19,24 +19,24 @@ use Rattle.mbe_parting.proofs.Nodes.{node-one, node-within, IsStep, from-steps, 
 
 -- ---- steps and ways
 
-way_of : (i : Input) (q : ℕ) (x : Beginning) (s : ℕ × Beginning) → In s (steps i q x)
+pub way-of : (i : Input) (q : ℕ) (x : Beginning) (s : ℕ × Beginning) → In s (steps i q x)
     → (w : Way) × In w (listed (ways i q (spot_of x) (number_of x - 1))) × (named s ≡ reached q w)
-way_of i q x s h = from-map (reached q) (named s) (listed (ways i q (spot_of x) (number_of x - 1)))
+way-of i q x s h = from-map (reached q) (named s) (listed (ways i q (spot_of x) (number_of x - 1)))
     (subst (λ l. In (named s) l) (steps-ways i q x) (in-map named s (steps i q x) h))
 
-step_by : (i : Input) (q : ℕ) (x : Beginning) (w : Way) → In w (listed (ways i q (spot_of x) (number_of x - 1)))
+pub step-by : (i : Input) (q : ℕ) (x : Beginning) (w : Way) → In w (listed (ways i q (spot_of x) (number_of x - 1)))
     → (s : ℕ × Beginning) × In s (steps i q x) × (reached q w ≡ named s)
-step_by i q x w h = from-map named (reached q w) (steps i q x)
+step-by i q x w h = from-map named (reached q w) (steps i q x)
     (subst (λ l. In (reached q w) l) (sym (steps-ways i q x))
     (in-map (reached q) w (listed (ways i q (spot_of x) (number_of x - 1))) h))
 
 -- the node after a step
-node_after : ℕ → ℕ × Beginning → ℕ
+unfoldable pub node_after : ℕ → ℕ × Beginning → ℕ
 node_after size s = node size s.0 (number_of s.1)
 
-same_node : (size q : ℕ) (w : Way) (s : ℕ × Beginning) → reached q w ≡ named s → target size q w ≡ node_after size s
+pub same-node : (size q : ℕ) (w : Way) (s : ℕ × Beginning) → reached q w ≡ named s → target size q w ≡ node_after size s
 unfolding node_after
-same_node size q w s e = ap (λ (v : ℕ × ℕ). node size v.1 v.0) e
+same-node size q w s e = ap (λ (v : ℕ × ℕ). node size v.1 v.0) e
 
 targets_listed : (f : Way → ℕ) (o : Option Way × Option Way) →
     option_to_list (option_map f o.0) ++ option_to_list (option_map f o.1) ≡ map f (listed o)
@@ -45,17 +45,17 @@ targets_listed f (None, Some b) = refl
 targets_listed f (Some a, None) = refl
 targets_listed f (Some a, Some b) = refl
 
-one_dot : (x : Beginning) → number_of x ≡ 1 → (is : Items) × (x ≡ dot no_ops is [])
-one_dot (dot no_ops is []) e = (is, refl)
-one_dot (dot no_ops is (inside d b rest js ∷ up)) e = let a : 0 < dots rest = some-dots rest in absurd (omega arith)
-one_dot (dot no_ops is (within b s k rest js rs ∷ up)) e =
+pub one-dot : (x : Beginning) → number_of x ≡ 1 → (is : Items) × (x ≡ dot no_ops is [])
+one-dot (dot no_ops is []) e = (is, refl)
+one-dot (dot no_ops is (inside d b rest js ∷ up)) e = let a : 0 < dots rest = some-dots rest in absurd (omega arith)
+one-dot (dot no_ops is (within b s k rest js rs ∷ up)) e =
     let a : 0 < dots rest = some-dots rest in absurd (omega arith)
-one_dot (dot (op o rest) is up) e = let a : 0 < dots rest = some-dots rest in absurd (omega arith)
+one-dot (dot (op o rest) is up) e = let a : 0 < dots rest = some-dots rest in absurd (omega arith)
 
-both_true : (a b : Bool) → (a && b) ≡ true → (a ≡ true) × (b ≡ true)
-both_true true true e = (refl, refl)
-both_true true false e = cc
-both_true false b e = cc
+pub both-true : (a b : Bool) → (a && b) ≡ true → (a ≡ true) × (b ≡ true)
+both-true true true e = (refl, refl)
+both-true true false e = cc
+both-true false b e = cc
 
 all_true : (a b c : Bool) → a ≡ true → b ≡ true → c ≡ true → (a && (b && c)) ≡ true
 all_true true true true d e f = refl
@@ -73,36 +73,37 @@ module _ (i : Input) (pat : Ops) (len size : ℕ) (ends : (x : Beginning) → Be
   unfoldable pub ss : List Step
   ss = steps_before i size all (len + 1)
 
-  node_of : Beginning → ℕ
+  unfoldable pub node_of : Beginning → ℕ
   node_of x = node size (place x) (number_of x)
 
-  here : Beginning → Step
+  unfoldable pub here : Beginning → Step
   here x = step_at i size (place x) (number_of x) (spot_of x)
 
-  few : (x : Beginning) → Begins i pat x → number_of x ≤ size
+  pub few : (x : Beginning) → Begins i pat x → number_of x ≤ size
   few x b = let a : number_of x ≤ dots pat = (number-within i pat x b).1 in omega arith
 
-  after_is : (x : Beginning) (s : ℕ × Beginning) → Begins i pat x → In s (steps i (place x) x)
+  pub after-is : (x : Beginning) (s : ℕ × Beginning) → Begins i pat x → In s (steps i (place x) x)
       → Begins i pat s.1 × (place s.1 ≡ s.0) × (node_after size s ≡ node_of s.1)
   unfolding node_after node_of
-  after_is x s b h =
+  after-is x s b h =
       let a : At i pat s.0 s.1 = step-sound i pat (place x) x s (b, refl) h in
       (a.0, a.1, ap (λ v. node size v (number_of s.1)) (sym a.1))
 
-  in_bounds : (x : Beginning) → Begins i pat x → node_of x < node size len size + 1
+  pub in-bounds : (x : Beginning) → Begins i pat x → node_of x < node size len size + 1
   unfolding node_of
-  in_bounds x b = node-within size (place x) len (number_of x) (ends x b) (few x b)
+  in-bounds x b = node-within size (place x) len (number_of x) (ends x b) (few x b)
 
   here_in : (x : Beginning) → Begins i pat x → In (here x) ss
   unfolding here ss all
   here_in x b =
       let l : place x ≤ len = ends x b in
-      in-steps i size (spots pat ending) (len + 1) (place x) (number_of x) (spot_of x) (spot-there i pat x b) (omega arith)
+      in-steps i size (spots pat ending) (len + 1) (place x) (number_of x) (spot_of x) (spot-there i pat x b) (omega
+      arith)
 
   -- a step of the node of a beginning is its own
-  is_here : (x : Beginning) (s : Step) → Begins i pat x → In s ss → s.source ≡ node_of x → s ≡ here x
+  pub is-here : (x : Beginning) (s : Step) → Begins i pat x → In s ss → s.source ≡ node_of x → s ≡ here x
   unfolding here ss all node_of step_at
-  is_here x s b h e =
+  is-here x s b h e =
       let a : IsStep i size (spots pat ending) (len + 1) s = from-steps i size (spots pat ending) (len + 1) s h in
       let source : node size a.q a.n ≡ node size (place x) (number_of x) = sym (ap (λ (v : Step). v.source) a.is) ∙ e in
       let n : length (a.spot ∷ a.there.more) ≡ a.n = a.there.number in
@@ -121,28 +122,28 @@ module _ (i : Input) (pat : Ops) (len size : ℕ) (ends : (x : Beginning) → Be
       ∙ ap (step_at i size (place x) (number_of x)) same
 
   -- a step of a beginning is an edge
-  edge_of : (x : Beginning) (s : ℕ × Beginning) → Begins i pat x → In s (steps i (place x) x)
+  pub edge-of : (x : Beginning) (s : ℕ × Beginning) → Begins i pat x → In s (steps i (place x) x)
       → In (edge (node_of x) (node_after size s)) (edges_in ss)
   unfolding here node_of step_at
-  edge_of x s b h =
+  edge-of x s b h =
       let w : (w : Way) × In w (listed (ways i (place x) (spot_of x) (number_of x - 1)))
-      × (named s ≡ reached (place x) w) = way_of i (place x) x s h in
+      × (named s ≡ reached (place x) w) = way-of i (place x) x s h in
       let t : In (target size (place x) w.0)
       (map (target size (place x)) (listed (ways i (place x) (spot_of x) (number_of x - 1)))) =
       in-map (target size (place x)) w.0 (listed (ways i (place x) (spot_of x) (number_of x - 1))) w.1 in
       subst (λ v. In (edge (node size (place x) (number_of x)) v) (edges_in ss))
-      (same_node size (place x) w.0 s (sym w.2))
+      (same-node size (place x) w.0 s (sym w.2))
       (in-edges ss (here x) (target size (place x) w.0) (here_in x b)
       (subst (λ l. In (target size (place x) w.0) l)
       (sym (targets_listed (target size (place x)) (ways i (place x) (spot_of x) (number_of x - 1)))) t))
 
   -- and an edge from its node is a step
-  step_of : (x : Beginning) (e : Edge) → Begins i pat x → In e (edges_in ss) → e.source ≡ node_of x
+  pub step-of : (x : Beginning) (e : Edge) → Begins i pat x → In e (edges_in ss) → e.source ≡ node_of x
       → (s : ℕ × Beginning) × In s (steps i (place x) x) × (e.target ≡ node_after size s)
   unfolding here step_at
-  step_of x e b h f =
+  step-of x e b h f =
       let a : IsEdge ss e = from-edges ss e h in
-      let same : a.step ≡ here x = is_here x a.step b a.one_of (sym a.source ∙ f) in
+      let same : a.step ≡ here x = is-here x a.step b a.one_of (sym a.source ∙ f) in
       let t : In e.target (option_to_list (here x).one ++ option_to_list (here x).other) =
       subst (λ (v : Step). In e.target (option_to_list v.one ++ option_to_list v.other)) same a.target in
       let m : In e.target
@@ -153,21 +154,21 @@ module _ (i : Input) (pat : Ops) (len size : ℕ) (ends : (x : Beginning) → Be
       × (e.target ≡ target size (place x) w) =
       from-map (target size (place x)) e.target (listed (ways i (place x) (spot_of x) (number_of x - 1))) m in
       let s : (s : ℕ × Beginning) × In s (steps i (place x) x) × (reached (place x) w.0 ≡ named s) =
-      step_by i (place x) x w.0 w.1 in
-      (s.0, s.1, w.2 ∙ same_node size (place x) w.0 s.0 s.2)
+      step-by i (place x) x w.0 w.1 in
+      (s.0, s.1, w.2 ∙ same-node size (place x) w.0 s.0 s.2)
 
   -- ---- what is reached
 
-  only_reached : (n : ℕ) → Path (edges_in ss) size n → (x : Beginning) × Begins i pat x × (n ≡ node_of x)
+  pub only-reached : (n : ℕ) → Path (edges_in ss) size n → (x : Beginning) × Begins i pat x × (n ≡ node_of x)
   unfolding node_of
-  only_reached n (none m e) =
+  only-reached n (none m e) =
       (start pat, (tt, refl), e ∙ size_is ∙ (let z : dots pat ≡ node size 0 (number_of (start pat)) = omega arith in z))
-  only_reached n (along m e h p f) =
-      let r : (x : Beginning) × Begins i pat x × (e.source ≡ node_of x) = only_reached e.source p in
+  only-reached n (along m e h p f) =
+      let r : (x : Beginning) × Begins i pat x × (e.source ≡ node_of x) = only-reached e.source p in
       let s : (s : ℕ × Beginning) × In s (steps i (place r.0) r.0) × (e.target ≡ node_after size s) =
-      step_of r.0 e r.1 h r.2 in
+      step-of r.0 e r.1 h r.2 in
       let a : Begins i pat s.0.1 × (place s.0.1 ≡ s.0.0) × (node_after size s.0 ≡ node_of s.0.1) =
-      after_is r.0 s.0 r.1 s.1 in
+      after-is r.0 s.0 r.1 s.1 in
       (s.0.1, a.0, f ∙ s.2 ∙ a.2)
 
   all_reached : (marks : List Bool) → AreReached (edges_in ss) size (node size len size + 1) marks
@@ -177,8 +178,8 @@ module _ (i : Input) (pat : Ops) (len size : ℕ) (ends : (x : Beginning) → Be
       (subst (λ v. is_marked marks v ≡ true)
       (let z : size ≡ node size 0 (number_of (start pat)) = omega (arith, size_is) in z) r.started)
       (λ x y a b m h.
-      r.closed (edge (node_of x) (node_of y)) (edge_of x (placed y) a h) m
-      (let l : node_of y < node size len size + 1 = in_bounds y b in
+      r.closed (edge (node_of x) (node_of y)) (edge-of x (placed y) a h) m
+      (let l : node_of y < node size len size + 1 = in-bounds y b in
       let c : length marks ≡ node size len size + 1 = r.size in omega arith))
 
   -- ---- what leads to the end
@@ -186,114 +187,48 @@ module _ (i : Input) (pat : Ops) (len size : ℕ) (ends : (x : Beginning) → Be
   unfoldable pub last : ℕ
   last = node size len 1
 
-  only_live : (n : ℕ) → Path (flipped (edges_in ss)) last n → (x : Beginning) → Begins i pat x → n ≡ node_of x
+  pub only-live : (n : ℕ) → Path (flipped (edges_in ss)) last n → (x : Beginning) → Begins i pat x → n ≡ node_of x
       → (is : Items) × IsBeginningOf i len is (place x) x
   unfolding node_of last
-  only_live n (none m e) x b f =
+  only-live n (none m e) x b f =
       let a : (0 < number_of x) × (number_of x ≤ dots pat) = number-within i pat x b in
       let l : number_of x ≤ size = few x b in
       let two : (place x ≡ len) × (number_of x ≡ 1) =
       node-one size (place x) len (number_of x) 1 a.0 l (omega arith) (omega arith) (sym f ∙ e) in
-      let o : (is : Items) × (x ≡ dot no_ops is []) = one_dot x two.1 in
+      let o : (is : Items) × (x ≡ dot no_ops is []) = one-dot x two.1 in
       (o.0, (0, (two.0, o.1)))
-  only_live n (along m e h p f) x b g =
+  only-live n (along m e h p f) x b g =
       let k : In (edge e.target e.source) (edges_in ss) = from-flipped (edges_in ss) e h in
       let s : (s : ℕ × Beginning) × In s (steps i (place x) x) × (e.source ≡ node_after size s) =
-      step_of x (edge e.target e.source) b k (sym f ∙ g) in
+      step-of x (edge e.target e.source) b k (sym f ∙ g) in
       let a : Begins i pat s.0.1 × (place s.0.1 ≡ s.0.0) × (node_after size s.0 ≡ node_of s.0.1) =
-      after_is x s.0 b s.1 in
+      after-is x s.0 b s.1 in
       let r : (is : Items) × IsBeginningOf i len is (place s.0.1) s.0.1 =
-      only_live e.source p s.0.1 a.0 (s.2 ∙ a.2) in
+      only-live e.source p s.0.1 a.0 (s.2 ∙ a.2) in
       (r.0, (suc r.1.0, (s.0, s.1, subst (λ v. Leads r.1.0 i len r.0 v s.0.1) a.1 r.1.1)))
 
-  all_live : (marks : List Bool) → AreReached (flipped (edges_in ss)) last (node size len size + 1) marks
+  pub all-live : (marks : List Bool) → AreReached (flipped (edges_in ss)) last (node size len size + 1) marks
       → (n : ℕ) (x : Beginning) (is : Items) → Begins i pat x → Leads n i len is (place x) x
       → is_marked marks (node_of x) ≡ true
   unfolding node_of last
-  all_live marks r zero x is b l =
+  all-live marks r zero x is b l =
       subst (λ v. is_marked marks v ≡ true)
       (ap (λ v. node size v 1) (sym l.0) ∙ ap (λ v. node size (place x) v) (sym (ap number_of l.1))) r.started
-  all_live marks r (suc n) x is b l =
+  all-live marks r (suc n) x is b l =
       let a : Begins i pat l.0.1 × (place l.0.1 ≡ l.0.0) × (node_after size l.0 ≡ node_of l.0.1) =
-      after_is x l.0 b l.1 in
+      after-is x l.0 b l.1 in
       let m : is_marked marks (node_of l.0.1) ≡ true =
-      all_live marks r n l.0.1 is a.0 (subst (λ v. Leads n i len is v l.0.1) (sym a.1) l.2) in
+      all-live marks r n l.0.1 is a.0 (subst (λ v. Leads n i len is v l.0.1) (sym a.1) l.2) in
       let k : In (edge (node_after size l.0) (node_of x)) (flipped (edges_in ss)) =
-      in-flipped (edges_in ss) (edge (node_of x) (node_after size l.0)) (edge_of x l.0 b l.1) in
+      in-flipped (edges_in ss) (edge (node_of x) (node_after size l.0)) (edge-of x l.0 b l.1) in
       r.closed (edge (node_after size l.0) (node_of x)) k (subst (λ v. is_marked marks v ≡ true) (sym a.2) m)
-      (let c : node_of x < node size len size + 1 = in_bounds x b in
+      (let c : node_of x < node size len size + 1 = in-bounds x b in
       let d : length marks ≡ node size len size + 1 = r.size in omega arith)
 
   -- ---- where two part
 
   module _ (reaches lives : List Bool) (r : AreReached (edges_in ss) size (node size len size + 1) reaches)
       (l : AreReached (flipped (edges_in ss)) last (node size len size + 1) lives) where
-    leads_from : (x : Beginning) (s : ℕ × Beginning) (w : Way) → Begins i pat x → In s (steps i (place x) x)
-        → reached (place x) w ≡ named s → is_marked lives (target size (place x) w) ≡ true
-        → (is : Items) × IsBeginningOf i len is s.0 s.1
-    leads_from x s w b h e m =
-        let a : Begins i pat s.1 × (place s.1 ≡ s.0) × (node_after size s ≡ node_of s.1) = after_is x s b h in
-        let k : (is : Items) × IsBeginningOf i len is (place s.1) s.1 =
-        only_live (target size (place x) w) (l.from (target size (place x) w) m) s.1 a.0
-        (same_node size (place x) w s e ∙ a.2) in
-        (k.0, subst (λ v. IsBeginningOf i len k.0 v s.1) a.1 k.1)
-
-    from_two : (x : Beginning) (a b : Way) → Begins i pat x
-        → ◌≡◌ {A = Option Way × Option Way} (ways i (place x) (spot_of x) (number_of x - 1)) (Some a, Some b)
-        → is_marked lives (target size (place x) a) ≡ true → is_marked lives (target size (place x) b) ≡ true
-        → PartAt i pat len (place x)
-    from_two x a b h e m n =
-        let s : (s : ℕ × Beginning) × In s (steps i (place x) x) × (reached (place x) a ≡ named s) =
-        step_by i (place x) x a (subst (λ o. In a (listed o)) (sym e) (inl refl)) in
-        let t : (s : ℕ × Beginning) × In s (steps i (place x) x) × (reached (place x) b ≡ named s) =
-        step_by i (place x) x b (subst (λ o. In b (listed o)) (sym e) (inr (inl refl))) in
-        let u : (is : Items) × IsBeginningOf i len is s.0.0 s.0.1 = leads_from x s.0 a h s.1 s.2 m in
-        let v : (is : Items) × IsBeginningOf i len is t.0.0 t.0.1 = leads_from x t.0 b h t.1 t.2 n in
-        record {
-          before = x;
-          here = (h, refl);
-          one = s.0;
-          other = t.0;
-          one_next = s.1;
-          other_next = t.1;
-          differ = λ f. ways-apart i (place x) x a b e
-              (ap (λ (p : ℕ × ℕ). p.0) s.2 ∙ ap number_of f ∙ sym (ap (λ (p : ℕ × ℕ). p.0) t.2));
-          reading = u.0;
-          another = v.0;
-          one_is = u.1;
-          other_is = v.1;
-        }
-
-    from_here : (x : Beginning) → Begins i pat x → is_live lives (here x).one ≡ true → is_live lives (here x).other ≡ true
-        → PartAt i pat len (place x)
-    unfolding here step_at
-    from_here x b = go (ways i (place x) (spot_of x) (number_of x - 1)) refl
-      where
-        go : (o : Option Way × Option Way)
-            → ◌≡◌ {A = Option Way × Option Way} (ways i (place x) (spot_of x) (number_of x - 1)) o
-            → is_live lives (option_map (target size (place x)) o.0) ≡ true
-            → is_live lives (option_map (target size (place x)) o.1) ≡ true → PartAt i pat len (place x)
-        go (Some a, Some c) e m n = from_two x a c b e m n
-        go (None, o) e m n = let k : false ≡ true = m in cc
-        go (Some a, None) e m n = let k : false ≡ true = n in cc
-
-    part_there : (s : Step) → In s ss → parts reaches lives s ≡ true → PartAt i pat len s.place
-    unfolding here step_at
-    part_there s h e =
-        let f : (is_marked reaches s.source ≡ true) × ((is_live lives s.one && is_live lives s.other) ≡ true) =
-        both_true (is_marked reaches s.source) (is_live lives s.one && is_live lives s.other) e in
-        let g : (is_live lives s.one ≡ true) × (is_live lives s.other ≡ true) =
-        both_true (is_live lives s.one) (is_live lives s.other) f.1 in
-        let x : (x : Beginning) × Begins i pat x × (s.source ≡ node_of x) =
-        only_reached s.source (r.from s.source f.0) in
-        let same : s ≡ here x.0 = is_here x.0 s x.1 h x.2 in
-        subst (λ (v : Step). PartAt i pat len v.place) (sym same) (seen x.0
-        (from_here x.0 x.1 (subst (λ (v : Step). is_live lives v.one ≡ true) same g.0)
-        (subst (λ (v : Step). is_live lives v.other ≡ true) same g.1)))
-      where
-        seen : (x : Beginning) → PartAt i pat len (place x) → PartAt i pat len (here x).place
-        seen x p = p
-
     -- two live steps are all steps
     live_two : (q : ℕ) (xs : List (ℕ × Beginning)) (o : Option Way × Option Way) (a b : ℕ × Beginning)
         → map named xs ≡ map (reached q) (listed o) → In a xs → In b xs → (a.1 ≡ b.1 → ⊥)
@@ -304,15 +239,15 @@ module _ (i : Input) (pat : Ops) (len size : ℕ) (ends : (x : Beginning) → Be
     live_two q (s ∷ xs) o a b e (inl h) (inl k) d m n = absurd (d (ap (λ (v : ℕ × Beginning). v.1) (h ∙ sym k)))
     live_two q (s ∷ t ∷ []) (Some u, Some v) a b e (inl h) (inr (inl k)) d m n = (
       subst (λ w. is_marked lives w ≡ true)
-          (ap (node_after size) h ∙ sym (same_node size q u s (let f : reached q u ≡ named s = cc in f))) m,
+          (ap (node_after size) h ∙ sym (same-node size q u s (let f : reached q u ≡ named s = cc in f))) m,
       subst (λ w. is_marked lives w ≡ true)
-          (ap (node_after size) k ∙ sym (same_node size q v t (let f : reached q v ≡ named t = cc in f))) n,
+          (ap (node_after size) k ∙ sym (same-node size q v t (let f : reached q v ≡ named t = cc in f))) n,
     )
     live_two q (s ∷ t ∷ []) (Some u, Some v) a b e (inr (inl h)) (inl k) d m n = (
       subst (λ w. is_marked lives w ≡ true)
-          (ap (node_after size) k ∙ sym (same_node size q u s (let f : reached q u ≡ named s = cc in f))) n,
+          (ap (node_after size) k ∙ sym (same-node size q u s (let f : reached q u ≡ named s = cc in f))) n,
       subst (λ w. is_marked lives w ≡ true)
-          (ap (node_after size) h ∙ sym (same_node size q v t (let f : reached q v ≡ named t = cc in f))) m,
+          (ap (node_after size) h ∙ sym (same-node size q v t (let f : reached q v ≡ named t = cc in f))) m,
     )
     live_two q (s ∷ t ∷ []) o a b e (inr (inl h)) (inr (inl k)) d m n =
         absurd (d (ap (λ (v : ℕ × Beginning). v.1) (h ∙ sym k)))
@@ -351,22 +286,18 @@ module _ (i : Input) (pat : Ops) (len size : ℕ) (ends : (x : Beginning) → Be
         live_after : (x : Beginning) (s : ℕ × Beginning) → Begins i pat x → In s (steps i (place x) x) → (is : Items)
             → IsBeginningOf i len is s.0 s.1 → is_marked lives (node_after size s) ≡ true
         live_after x s b h is g =
-            let a : Begins i pat s.1 × (place s.1 ≡ s.0) × (node_after size s ≡ node_of s.1) = after_is x s b h in
+            let a : Begins i pat s.1 × (place s.1 ≡ s.0) × (node_after size s ≡ node_of s.1) = after-is x s b h in
             subst (λ v. is_marked lives v ≡ true) (sym a.2)
-            (all_live lives l g.0 s.1 is a.0 (subst (λ v. Leads g.0 i len is v s.1) (sym a.1) g.1))
+            (all-live lives l g.0 s.1 is a.0 (subst (λ v. Leads g.0 i len is v s.1) (sym a.1) g.1))
 
-    as_found : (o : Option ℕ) → Found reaches lives ss o → IsPartingOf i pat len o
-    as_found None f = λ p t. let s : (s : Step) × In s ss × (parts reaches lives s ≡ true) × (s.place ≡ p) =
-        step_there p t in f s.0 s.1 s.2
-    as_found (Some p) f = (
-      subst (PartAt i pat len) f.0.3 (part_there f.0.0 f.0.1 f.0.2),
-      λ q m t. let s : (s : Step) × In s ss × (parts reaches lives s ≡ true) × (s.place ≡ q) = step_there q t in
-          let k : p ≤ s.0.place = f.1 s.0 s.1 s.2 in
-          let e : s.0.place ≡ q = s.3 in
-          omega arith,
-    )
+    -- none part where no step does, and none before the first step that does
+    pub none-part : Found reaches lives ss None → (p : ℕ) → PartAt i pat len p → ⊥
+    none-part f p t = let s : (s : Step) × In s ss × (parts reaches lives s ≡ true) × (s.place ≡ p) = step_there p t in
+        f s.0 s.1 s.2
 
-    pub parting-right : IsPartingOf i pat len (first_parting reaches lives ss)
-    unfolding ss all
-    parting-right = as_found (first_parting reaches lives ss)
-        (found-first reaches lives i size (spots pat ending) (len + 1))
+    pub none-before : (s : Step) → Found reaches lives ss (Some s) → (q : ℕ) → q < s.place → PartAt i pat len q → ⊥
+    none-before s f q m t =
+        let r : (r : Step) × In r ss × (parts reaches lives r ≡ true) × (r.place ≡ q) = step_there q t in
+        let k : s.place ≤ r.0.place = f.2 r.0 r.1 r.2 in
+        let e : r.0.place ≡ q = r.3 in
+        omega arith

@@ -22,7 +22,10 @@ pub round-none : (i : Input) (q : ℕ) (k : RepeatKind) (m n number : ℕ) (o : 
     o ≡ None → w ≡ again k (over number (between_at i q o)) → number ≡ n + m →
     ◌≡◌ {A = Option Way × Option Way} (w, Some (n, 0)) (round_ways i q o k m n)
 round-none i q k m n number o w e f d =
-    first_same (Some (n, 0)) (f ∙ ap (λ p. again k (over number (between_at i q p))) e ∙ ap (λ p. again k (Some (p, 0))) d)
+    first_same (Some (n, 0)) (f ∙ ap (λ p. again k (over number (between_at i q p))) e ∙ ap (λ p. again k (Some (
+      p,
+      0,
+    ))) d)
     ∙ ap (λ p. round_ways i q p k m n) (sym e)
 
 pub round-some : (i : Input) (q : ℕ) (k : RepeatKind) (m n number : ℕ) (o : Option Separator) (s : Separator)
@@ -30,7 +33,8 @@ pub round-some : (i : Input) (q : ℕ) (k : RepeatKind) (m n number : ℕ) (o : 
     o ≡ Some s → w ≡ again k (over number (between_at i q o)) → number ≡ n + m →
     ◌≡◌ {A = Option Way × Option Way} (Some (n, 0), w) (round_ways i q o k m n)
 round-some i q k m n number o s w e f d =
-    second_same (Some (n, 0)) (f ∙ ap (λ p. again k (over number (between_at i q p))) e ∙ ap (λ p. again k (over p (i.separator_at s q))) d)
+    second_same (Some (n, 0)) (f ∙ ap (λ p. again k (over number (between_at i q p))) e ∙ ap (λ p. again k (over p
+    (i.separator_at s q))) d)
     ∙ ap (λ p. round_ways i q p k m n) (sym e)
 
 -- one step more, of the first of the dots
@@ -53,7 +57,8 @@ step-on i size q n sps p x old new whole s l is a b d e =
     let many : length (drop (p + 1) sps) ≡ length sps - (p + 1) = length-drop (p + 1) sps in
     let same : length (map spot_seen (drop (p + 1) sps)) ≡ length (drop (p + 1) sps) =
     length-map (drop (p + 1) sps) spot_seen in
-    step-more i size q n old new whole s (map spot_seen (drop p sps)) (map spot_seen (drop (p + 1) sps)) (spot_seen x) a b
+    step-more i size q n old new whole s (map spot_seen (drop p sps)) (map spot_seen (drop (p + 1) sps)) (spot_seen
+    x) a b
     (ap (map spot_seen) (drop-cons sps p x l ∙ ap (λ v. v ∷ drop (suc p) sps) (sym is) ∙ ap (λ k. x ∷ drop k sps) next))
     d (omega arith)
 

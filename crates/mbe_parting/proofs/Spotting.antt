@@ -8,7 +8,8 @@ use Rattle.mbe_parting.specs.Spots.{Spot, before, spots_of_op, spots}
 use Rattle.mbe_parting.specs.Code.{spot_seen}
 
 -- one more, and then the others of what it begins
-pub pushed-more : {A : Type 0} (old mid : List (declared.Spot A)) (s : declared.Spot A) (x : Spot) (rest all : List Spot)
+pub pushed-more : {A : Type 0} (old mid : List (declared.Spot A)) (s : declared.Spot A) (x : Spot) (rest all : List
+    Spot)
     → mid ≡ old ++ (s ∷ []) → spot_seen s ≡ x → all ≡ x ∷ rest
     → map spot_seen mid ++ rest ≡ map spot_seen old ++ all
 pushed-more old mid s x rest all e f g =
@@ -33,7 +34,8 @@ abbrev pub IsFlat : Op → Type 0
 IsFlat o = spots_of_op o ≡ before o (op_dots o) ∷ []
 
 -- what is at the end of ops, when none is left
-pub pushed-end : {A : Type 0} (mid new : List (declared.Spot A)) (end : declared.Spot A) (old : List Spot) (os all : Ops) →
+pub pushed-end : {A : Type 0} (mid new : List (declared.Spot A)) (end : declared.Spot A) (old : List Spot) (os all :
+    Ops) →
     os ≡ no_ops → new ≡ mid ++ (end ∷ [])
     → map spot_seen mid ++ spots os (spot_seen end) ≡ old ++ spots all (spot_seen end)
     → map spot_seen new ≡ old ++ spots all (spot_seen end)

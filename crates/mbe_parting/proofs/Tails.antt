@@ -66,7 +66,8 @@ mutual
   op_length (expression e) = refl
   op_length (group d b) = let e : length (spots b closing) ≡ dots b = spots-length b closing in omega arith
   op_length (repetition b s k) =
-      let e : length (spots b (round_end s k (dots b))) ≡ dots b = spots-length b (round_end s k (dots b)) in omega arith
+      let e : length (spots b (round_end s k (dots b))) ≡ dots b = spots-length b (round_end s k (dots b)) in omega
+      arith
 
   pub spots-length : (os : Ops) (e : Spot) → length (spots os e) ≡ dots os
   spots-length no_ops e = refl

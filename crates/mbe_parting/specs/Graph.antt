@@ -98,6 +98,7 @@ is_live live (Some n) = is_marked live n
 abbrev pub parts : List Bool → List Bool → Step → Bool
 parts reached live s = is_marked reached s.source && (is_live live s.one && is_live live s.other)
 
-abbrev pub first_parting : List Bool → List Bool → List Step → Option ℕ
+-- the first step that does
+abbrev pub first_parting : List Bool → List Bool → List Step → Option Step
 first_parting reached live [] = None
-first_parting reached live (s ∷ ss) = if parts reached live s then Some s.place else first_parting reached live ss
+first_parting reached live (s ∷ ss) = if parts reached live s then Some s else first_parting reached live ss

@@ -2,3 +2,4 @@ pub mod Parting
 pub mod Spots
 pub mod Graph
 pub mod Code
+pub mod Going

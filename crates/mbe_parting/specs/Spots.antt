@@ -20,7 +20,7 @@ pub data Spot : Type 0 where
   -- an op, in which there are so many dots
   before : Op → ℕ → Spot
 
--- What is at all dots of ops, in order, where this is at their end; and of one op, at the dot before it and those in it.
+-- What is at all dots of ops, in order, where this is at their end; and of one op, before it and in it.
 abbrev mutual
   pub spots_of_op : Op → List Spot
   spots_of_op (token t) = before (token t) 0 ∷ []

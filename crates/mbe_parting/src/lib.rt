@@ -4,9 +4,12 @@
 mod eat;
 mod edges;
 mod fronts;
+mod going;
+mod graph;
 pub mod laws;
 mod marks;
 pub mod parting;
 mod spot;
 mod spots;
+mod steps;
 mod ways;

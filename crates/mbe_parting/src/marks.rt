@@ -5,7 +5,7 @@ ghost use Rattle.mbe_parting.specs.Graph.{is_marked, AreFrom, AreClosed, AreReac
 use crate::edges::{Edge, Step};
 use std::alloc::{AllocError, Allocator};
 
-fn is_marked(marks: &[bool], node: usize) -> bool
+pub(crate) fn is_marked(marks: &[bool], node: usize) -> bool
     ensures { result ≡ is_marked marks.now node }
 {
     node < marks.len() && marks[node]
@@ -124,13 +124,13 @@ fn parts(reached: &[bool], live: &[bool], step: &Step) -> bool
     is_marked(reached, step.source) && is_live(live, step.one) && is_live(live, step.other)
 }
 
-// The place of the first step that does.
-pub(crate) fn first_parting(reached: &[bool], live: &[bool], steps: &[Step]) -> Option<usize>
+// The first step that does.
+pub(crate) fn first_parting(reached: &[bool], live: &[bool], steps: &[Step]) -> Option<Step>
     ensures { result ≡ first_parting reached.now live.now steps.now }
 {
     for step in steps {
         if parts(reached, live, step) {
-            return Some(step.place);
+            return Some(*step);
         }
     }
     None

@@ -3,4 +3,5 @@ use Rattle.mbe_parting.specs.Graph.{first_parting}
 use Rattle.mbe_parting.proofs.marks.first_parting.Given as goal
 
 abbrev pub invariant-loop-step : goal.invariant-loop-step
-invariant-loop-step l = first_parting l.reached l.live l.steps ≡ first_parting l.reached l.live (drop l.step-index l.steps)
+invariant-loop-step l = first_parting l.reached l.live l.steps ≡ first_parting l.reached l.live (drop l.step-index
+    l.steps)

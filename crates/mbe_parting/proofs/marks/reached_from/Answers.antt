@@ -9,7 +9,8 @@ pub sweeps-init : goal.sweeps-init
 sweeps-init g c =
     let items : c.in_ok-marks.marks.items ≡ replicate c.args.count false =
     c.in_ok-marks.ensures.items_if_clones_equal (λ y h. search rules) in
-    let size : length c.in_ok-marks.marks.items ≡ c.args.count = ap length items ∙ length-replicate c.args.count false in
+    let size : length c.in_ok-marks.marks.items ≡ c.args.count = ap length items ∙ length-replicate c.args.count
+    false in
     let within = c.requires in
     record {
       size = set-length c.in_ok-marks.marks.items c.args.start ∙ size;
@@ -55,7 +56,8 @@ returns g c =
     subst (λ v. AreReached c.args.edges.now c.args.start c.args.count v) (sym back)
     (record {
       size = size ∙ inv.size;
-      started = c.sweep.ensures.kept c.args.start (subst (λ v. is_marked v c.args.start ≡ true) (sym value) inv.started);
+      started = c.sweep.ensures.kept c.args.start (subst (λ v. is_marked v c.args.start ≡ true) (sym value)
+          inv.started);
       from = c.sweep.ensures.from c.args.start
           (subst (λ v. AreFrom c.args.edges.now c.args.start v) (sym value) inv.from);
       closed = c.sweep.ensures.closed c.sweeps-test.false;

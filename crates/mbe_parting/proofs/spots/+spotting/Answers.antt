@@ -74,7 +74,8 @@ push_op-returns-in-Subtree g t c =
     ap op_of c.in-Subtree.is ∙ view-subtree _ c.in-Subtree.delimiter
     ∙ ap (λ xs. group c.in-Subtree.delimiter (ops_of xs)) (sym c.deref.ensures.value) in
     subst (λ v. OnOk c.push_spots.result (map spot_seen c.push_spots.new.all.items ≡ v))
-    (pushed-more c.args.all.now.items c.push.new.self.items _ (before (op_of c.args.op.now) (op_dots (op_of c.args.op.now)))
+    (pushed-more c.args.all.now.items c.push.new.self.items _ (before (op_of c.args.op.now) (op_dots (op_of
+    c.args.op.now)))
     (spots (ops_of c.deref.result.now) closing) (spots_of_op (op_of c.args.op.now)) c.in_ok-push.ensures.items
     (ap (before (op_of c.args.op.now)) count)
     (subst (λ o. spots_of_op o ≡ before o (op_dots o) ∷ spots (ops_of c.deref.result.now) closing) (sym seen) refl))
@@ -97,9 +98,11 @@ push_op-returns-in-Repeat g t c =
     (round_end (option_map (λ v. separator_seen v.now) c.as_ref.result) c.in-Repeat.kind
     (op_dots (op_of c.args.op.now))) =
     subst (λ o. spots_of_op o ≡ before o (op_dots o) ∷ spots (ops_of c.deref-in-Repeat.result.now)
-    (round_end (option_map (λ v. separator_seen v.now) c.as_ref.result) c.in-Repeat.kind (op_dots o))) (sym seen) refl in
+    (round_end (option_map (λ v. separator_seen v.now) c.as_ref.result) c.in-Repeat.kind (op_dots o))) (sym seen)
+    refl in
     subst (λ v. OnOk c.push_spots-in-Repeat.result (map spot_seen c.push_spots-in-Repeat.new.all.items ≡ v))
-    (pushed-more c.args.all.now.items c.push.new.self.items _ (before (op_of c.args.op.now) (op_dots (op_of c.args.op.now)))
+    (pushed-more c.args.all.now.items c.push.new.self.items _ (before (op_of c.args.op.now) (op_dots (op_of
+    c.args.op.now)))
     _ (spots_of_op (op_of c.args.op.now)) c.in_ok-push.ensures.items
     (ap (before (op_of c.args.op.now)) count)
     (all ∙ ap (λ n. before (op_of c.args.op.now) (op_dots (op_of c.args.op.now))
@@ -118,7 +121,8 @@ push_op-returns-in-Var g t c =
       | inr (inr (inl w)) ↦ subst IsFlat (sym (ap op_of w.1 ∙ view-ident w.0)) refl
       | inr (inr (inr w)) ↦ subst IsFlat (sym (ap op_of w.1 ∙ view-punct _ w.0)) refl
     ] in
-    pushed-one c.args.all.now.items c.push.new.self.items _ (before (op_of c.args.op.now) (op_dots (op_of c.args.op.now)))
+    pushed-one c.args.all.now.items c.push.new.self.items _ (before (op_of c.args.op.now) (op_dots (op_of
+    c.args.op.now)))
     (spots_of_op (op_of c.args.op.now)) c.in_ok-push.ensures.items (ap (before (op_of c.args.op.now)) count) flat
 
 pub push_op-returns-in-Var-2 : goal.push_op-returns-in-Var-2
@@ -132,7 +136,8 @@ push_op-returns-in-Var-2 g t c =
       | inr (inr (inl w)) ↦ subst IsFlat (sym (ap op_of w.1 ∙ view-ident w.0)) refl
       | inr (inr (inr w)) ↦ subst IsFlat (sym (ap op_of w.1 ∙ view-punct _ w.0)) refl
     ] in
-    pushed-one c.args.all.now.items c.push.new.self.items _ (before (op_of c.args.op.now) (op_dots (op_of c.args.op.now)))
+    pushed-one c.args.all.now.items c.push.new.self.items _ (before (op_of c.args.op.now) (op_dots (op_of
+    c.args.op.now)))
     (spots_of_op (op_of c.args.op.now)) c.in_ok-push.ensures.items (ap (before (op_of c.args.op.now)) count) flat
 
 pub push_op-returns-in-Var-3 : goal.push_op-returns-in-Var-3
@@ -146,7 +151,8 @@ push_op-returns-in-Var-3 g t c =
       | inr (inr (inl w)) ↦ subst IsFlat (sym (ap op_of w.1 ∙ view-ident w.0)) refl
       | inr (inr (inr w)) ↦ subst IsFlat (sym (ap op_of w.1 ∙ view-punct _ w.0)) refl
     ] in
-    pushed-one c.args.all.now.items c.push.new.self.items _ (before (op_of c.args.op.now) (op_dots (op_of c.args.op.now)))
+    pushed-one c.args.all.now.items c.push.new.self.items _ (before (op_of c.args.op.now) (op_dots (op_of
+    c.args.op.now)))
     (spots_of_op (op_of c.args.op.now)) c.in_ok-push.ensures.items (ap (before (op_of c.args.op.now)) count) flat
 
 pub push_op-returns-in-Var-4 : goal.push_op-returns-in-Var-4
@@ -160,7 +166,8 @@ push_op-returns-in-Var-4 g t c =
       | inr (inr (inl w)) ↦ subst IsFlat (sym (ap op_of w.1 ∙ view-ident w.0)) refl
       | inr (inr (inr w)) ↦ subst IsFlat (sym (ap op_of w.1 ∙ view-punct _ w.0)) refl
     ] in
-    pushed-one c.args.all.now.items c.push.new.self.items _ (before (op_of c.args.op.now) (op_dots (op_of c.args.op.now)))
+    pushed-one c.args.all.now.items c.push.new.self.items _ (before (op_of c.args.op.now) (op_dots (op_of
+    c.args.op.now)))
     (spots_of_op (op_of c.args.op.now)) c.in_ok-push.ensures.items (ap (before (op_of c.args.op.now)) count) flat
 
 pub push_op-returns-in-Ignore : goal.push_op-returns-in-Ignore
@@ -175,7 +182,8 @@ push_op-returns-in-Ignore g t c =
       | inr (inr (inr (inl w))) ↦ subst IsFlat (sym (ap op_of w.2 ∙ view-count _ w.0 w.1)) refl
       | inr (inr (inr (inr w))) ↦ subst IsFlat (sym (ap op_of w.2 ∙ view-concat w.0 w.1)) refl
     ] in
-    pushed-one c.args.all.now.items c.push.new.self.items _ (before (op_of c.args.op.now) (op_dots (op_of c.args.op.now)))
+    pushed-one c.args.all.now.items c.push.new.self.items _ (before (op_of c.args.op.now) (op_dots (op_of
+    c.args.op.now)))
     (spots_of_op (op_of c.args.op.now)) c.in_ok-push.ensures.items (ap (before (op_of c.args.op.now)) count) flat
 
 pub push_op-returns-in-Ignore-2 : goal.push_op-returns-in-Ignore-2
@@ -190,7 +198,8 @@ push_op-returns-in-Ignore-2 g t c =
       | inr (inr (inr (inl w))) ↦ subst IsFlat (sym (ap op_of w.2 ∙ view-count _ w.0 w.1)) refl
       | inr (inr (inr (inr w))) ↦ subst IsFlat (sym (ap op_of w.2 ∙ view-concat w.0 w.1)) refl
     ] in
-    pushed-one c.args.all.now.items c.push.new.self.items _ (before (op_of c.args.op.now) (op_dots (op_of c.args.op.now)))
+    pushed-one c.args.all.now.items c.push.new.self.items _ (before (op_of c.args.op.now) (op_dots (op_of
+    c.args.op.now)))
     (spots_of_op (op_of c.args.op.now)) c.in_ok-push.ensures.items (ap (before (op_of c.args.op.now)) count) flat
 
 pub push_op-returns-in-Ignore-3 : goal.push_op-returns-in-Ignore-3
@@ -205,7 +214,8 @@ push_op-returns-in-Ignore-3 g t c =
       | inr (inr (inr (inl w))) ↦ subst IsFlat (sym (ap op_of w.2 ∙ view-count _ w.0 w.1)) refl
       | inr (inr (inr (inr w))) ↦ subst IsFlat (sym (ap op_of w.2 ∙ view-concat w.0 w.1)) refl
     ] in
-    pushed-one c.args.all.now.items c.push.new.self.items _ (before (op_of c.args.op.now) (op_dots (op_of c.args.op.now)))
+    pushed-one c.args.all.now.items c.push.new.self.items _ (before (op_of c.args.op.now) (op_dots (op_of
+    c.args.op.now)))
     (spots_of_op (op_of c.args.op.now)) c.in_ok-push.ensures.items (ap (before (op_of c.args.op.now)) count) flat
 
 pub push_op-returns-in-Ignore-4 : goal.push_op-returns-in-Ignore-4
@@ -220,7 +230,8 @@ push_op-returns-in-Ignore-4 g t c =
       | inr (inr (inr (inl w))) ↦ subst IsFlat (sym (ap op_of w.2 ∙ view-count _ w.0 w.1)) refl
       | inr (inr (inr (inr w))) ↦ subst IsFlat (sym (ap op_of w.2 ∙ view-concat w.0 w.1)) refl
     ] in
-    pushed-one c.args.all.now.items c.push.new.self.items _ (before (op_of c.args.op.now) (op_dots (op_of c.args.op.now)))
+    pushed-one c.args.all.now.items c.push.new.self.items _ (before (op_of c.args.op.now) (op_dots (op_of
+    c.args.op.now)))
     (spots_of_op (op_of c.args.op.now)) c.in_ok-push.ensures.items (ap (before (op_of c.args.op.now)) count) flat
 
 pub push_op-returns-in-Ignore-5 : goal.push_op-returns-in-Ignore-5
@@ -235,7 +246,8 @@ push_op-returns-in-Ignore-5 g t c =
       | inr (inr (inr (inl w))) ↦ subst IsFlat (sym (ap op_of w.2 ∙ view-count _ w.0 w.1)) refl
       | inr (inr (inr (inr w))) ↦ subst IsFlat (sym (ap op_of w.2 ∙ view-concat w.0 w.1)) refl
     ] in
-    pushed-one c.args.all.now.items c.push.new.self.items _ (before (op_of c.args.op.now) (op_dots (op_of c.args.op.now)))
+    pushed-one c.args.all.now.items c.push.new.self.items _ (before (op_of c.args.op.now) (op_dots (op_of
+    c.args.op.now)))
     (spots_of_op (op_of c.args.op.now)) c.in_ok-push.ensures.items (ap (before (op_of c.args.op.now)) count) flat
 
 pub push_spots-returns : goal.push_spots-returns

@@ -3,7 +3,7 @@ use Rattle.mbe_tt.specs.Views.View.{trees}
 use Rattle.mbe_semantics.specs.Readings.Input.{input_of}
 use Rattle.mbe_parting.specs.Graph.{steps_there}
 use Rattle.mbe_parting.specs.Code.{spot_seen}
-use Rattle.mbe_parting.proofs.parting.push_steps.Given as goal
+use Rattle.mbe_parting.proofs.steps.push_steps.Given as goal
 
 abbrev pub invariant-loop-passed : goal.invariant-loop-passed
 invariant-loop-passed g l =

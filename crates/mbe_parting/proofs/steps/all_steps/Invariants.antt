@@ -4,7 +4,7 @@ use Rattle.mbe_tt.specs.Views.View.{trees}
 use Rattle.mbe_semantics.specs.Readings.Input.{input_of}
 use Rattle.mbe_parting.specs.Graph.{steps_before}
 use Rattle.mbe_parting.specs.Code.{spot_seen}
-use Rattle.mbe_parting.proofs.parting.all_steps.Given as goal
+use Rattle.mbe_parting.proofs.steps.all_steps.Given as goal
 
 abbrev pub invariant-loop-source : goal.invariant-loop-source
 invariant-loop-source g l = record {

@@ -1,6 +1,6 @@
 use Rattle.std.proofs.Common.{◌-◌, length, arith}
 use Rattle.mbe_parting.proofs.Rounding.{step-on, steps-end}
-use Rattle.mbe_parting.proofs.parting.push_steps.Goals as goal
+use Rattle.mbe_parting.proofs.steps.push_steps.Goals as goal
 
 pub loop-passed-preserved : goal.loop-passed-preserved
 loop-passed-preserved g c =

@@ -3,7 +3,7 @@ use Rattle.mbe_tt.specs.Trees.Tree.{flat_len}
 use Rattle.mbe_tt.specs.Views.View.{trees}
 use Rattle.mbe_parting.specs.Code.{spot_seen}
 use Rattle.mbe_parting.proofs.Placing.{steps-first, steps-next}
-use Rattle.mbe_parting.proofs.parting.all_steps.Goals as goal
+use Rattle.mbe_parting.proofs.steps.all_steps.Goals as goal
 
 pub loop-source-init : goal.loop-source-init
 loop-source-init g c = record {
