@@ -104,7 +104,7 @@ fn fault(
 fn named(alloc: Global, refusal: Refusal) -> Result<String, AllocError> {
     match refusal {
         Refusal::Syntax(fault) => format!(in alloc; "{fault:?}"),
-        Refusal::EmptyRepetition => String::from(alloc, "EmptyRepetition"),
+        Refusal::EmptyRepetition => String::from_str(alloc, "EmptyRepetition"),
     }
 }
 
