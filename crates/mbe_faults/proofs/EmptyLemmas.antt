@@ -9,7 +9,7 @@ use Rattle.mbe_tt.specs.declared.tt.Punct.{Punct}
 use Rattle.mbe_tt.specs.declared.tt.Delimiter.{Delimiter}
 use Rattle.mbe_tt.specs.declared.tt.DelimiterKind.{DelimiterKind}
 use Rattle.mbe_tt.specs.declared.tt.DelimiterKind.TheVariants as delimiters
-use Rattle.mbe_tt.specs.Trees.Leaf.{literal, ident, punct, is_text, is_underscore, is_truth}
+use Rattle.mbe_tt.specs.Trees.Leaf.{Ident, literal, ident, punct}
 use Rattle.mbe_tt.specs.Trees.Tree.{Forest, none, leaf, group, flat_len, passed}
 use Rattle.mbe_semantics.specs.declared.kinds.RepeatKind.{RepeatKind}
 use Rattle.mbe_semantics.specs.Syntax.Op as ops
@@ -81,21 +81,33 @@ plain_head (leaf (punct p) rest) = plain_if _ _ _ (plain_dollar p rest) tt
 
 -- ---- what a front shows
 
-one_left : {A : Type 0} (o : Op) (rest left : Forest) (front : code.Front A) → Shows (Ok (one o rest)) front left
-    → rest ≡ left
-one_left o rest left code.TheVariants.Ended s = absurd s
-one_left o rest left code.TheVariants.Whole s = s
-one_left o rest left (code.TheVariants.Group body) s = absurd s
-one_left o rest left (code.TheVariants.Repetition body) s = absurd s
-one_left o rest left (code.TheVariants.Refused fault) s = absurd s
+-- the front is whole, and these trees are left
+abbrev pub IsWhole : {A : Type 0} → code.Front A → Forest → Forest → Type 0
+IsWhole code.TheVariants.Whole rest left = rest ≡ left
+IsWhole _ rest left = ⊥
 
-typed_left : {A : Type 0} (name : Name) (span : Span) (i : ops.Ident) (rest left : Forest) (front : code.Front A)
-    → Shows (Ok (typed name span i rest)) front left → rest ≡ left
-typed_left name span i rest left code.TheVariants.Ended s = absurd s
+one_left : {A : Type 0} (o : Op) (rest left : Forest) (front : code.Front A) → Shows (Ok (one o rest)) front left
+    → IsWhole front rest left
+one_left o rest left code.TheVariants.Ended s = s
+one_left o rest left code.TheVariants.Whole s = s
+one_left o rest left (code.TheVariants.Group body) s = s
+one_left o rest left (code.TheVariants.Repetition body) s = s
+one_left o rest left (code.TheVariants.Refused fault) s = s
+
+typed_left : {A : Type 0} (name : Name) (span : Span) (i : Ident) (rest left : Forest) (front : code.Front A)
+    → Shows (Ok (typed name span i rest)) front left → IsWhole front rest left
+typed_left name span i rest left code.TheVariants.Ended s = s
 typed_left name span i rest left code.TheVariants.Whole s = s
-typed_left name span i rest left (code.TheVariants.Group body) s = absurd s
-typed_left name span i rest left (code.TheVariants.Repetition body) s = absurd s
-typed_left name span i rest left (code.TheVariants.Refused fault) s = absurd s
+typed_left name span i rest left (code.TheVariants.Group body) s = s
+typed_left name span i rest left (code.TheVariants.Repetition body) s = s
+typed_left name span i rest left (code.TheVariants.Refused fault) s = s
+
+whole_left : {A : Type 0} (rest left : Forest) (front : code.Front A) → IsWhole front rest left → rest ≡ left
+whole_left rest left code.TheVariants.Ended s = absurd s
+whole_left rest left code.TheVariants.Whole s = s
+whole_left rest left (code.TheVariants.Group body) s = absurd s
+whole_left rest left (code.TheVariants.Repetition body) s = absurd s
+whole_left rest left (code.TheVariants.Refused fault) s = absurd s
 
 -- the body of a group, or of a repetition
 abbrev pub IsGroup : {A : Type 0} → code.Front A → Forest → Forest → Forest → Type 0
@@ -133,7 +145,7 @@ module _ (A : Type 0) (HasEdition : SyntaxContext → Edition → Type 0) where
   abbrev Simple : Ops → Forest → Type 0
   Simple os f = (rest : Forest) × Template HasEdition pattern rest os
       × ((n : ℕ) → EmptyAt HasEdition rest n → EmptyAt HasEdition f (passed f rest + n))
-      × ((front : code.Front A) (left : Forest) → Shows (head pattern f) front left → rest ≡ left)
+      × ((front : code.Front A) (left : Forest) → Shows (head pattern f) front left → IsWhole front rest left)
 
   abbrev Read : Op → Ops → Forest → Type 0
   Read (ops.group d b) os f = (inside : Forest) × (rest : Forest) × (head pattern f ≡ Ok (opens_group d inside rest))
@@ -187,10 +199,10 @@ module _ (A : Type 0) (HasEdition : SyntaxContext → Edition → Type 0) where
     pub plain_past : (o : Op) → IsPlain o → Template HasEdition pattern f (op o os) → PassesOp HasEdition o f left
     plain_past o p t =
         let r : Simple os f = is_simple o os f p (read t) in
-        let same : r.0 ≡ left = r.3 front left shows in
+        let same : r.0 ≡ left = whole_left r.0 left front (r.3 front left shows) in
         record {
           reads = λ more h. let k : Simple more f = is_simple o more f p (read h) in
-              subst (λ (g : Forest). Template HasEdition pattern g more) (k.3 front left shows) k.1;
+              subst (λ (g : Forest). Template HasEdition pattern g more) (whole_left k.0 left front (k.3 front left shows)) k.1;
           at = λ e n w. subst (λ (g : Forest). EmptyAt HasEdition f (passed f g + n)) same
               (r.2 n (subst (λ (g : Forest). EmptyAt HasEdition g n) (sym same) w));
         }
