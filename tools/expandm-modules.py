@@ -41,6 +41,9 @@ CRATES = {
     "twice": ("// main.rs\n#[macro_use] mod m;\n#[path = \"c.rs\"] mod a;\n#[path = \"c.rs\"] mod b;\nfn main() { println!(\"{} {}\", a::f(), b::f()); }\n// m.rs\nmacro_rules! x1 { ($e:expr) => { $e - 1 } }\n// c.rs\npub fn f() -> u8 { x1!(9) }", 0),
     "returns": (f"// main.rs\n{M1}mod a;\r\nfn main() {{ println!(\"{{}}\", a::f()); }}\r\n// a.rs\npub fn f() -> u8 {{\r\n    x1!() // x1!()\r\n}}\r\n", 1),
     "standard": ("// main.rs\n#[macro_use] mod a;\nmod b;\nfn main() { println!(\"{} {:?}\", x1!(), b::f()); }\n// a.rs\nmacro_rules! x1 { () => { 6u8 } }\n// b.rs\npub fn f() -> Vec<u8> { vec![x1!(), x1!()] }", 0),
+    "own_in_module": ("// main.rs\nmod a;\nfn main() { println!(\"{:?} {}\", vec![1u8, 2], a::f()); }\n// a.rs\nmacro_rules! vec { ($($t:tt)*) => { 7 } }\npub fn f() -> u8 { vec![1] }", 0),
+    "by_another_path": ("// main.rs\nmacro_rules! vec { ($($e:expr),*) => { std::vec![$($e + 1),*] } }\nmod a;\nfn main() { println!(\"{:?} {:?}\", vec![1u8], a::f()); }\n// a.rs\npub fn f() -> Vec<u8> { ::std::vec![5] }", 0),
+    "used_in_braces": (f"// main.rs\nmod a;\nfn main() {{ println!(\"{{}} {{}}\", a::x1!(), self::a::x2!()); }}\n// a.rs\n{M1}macro_rules! x2 {{ () => {{ 2 }} }}\npub(crate) use {{x1 as x3, x1, x2}};\n", 0),
     "doc": (f"// main.rs\n//! A crate.\n{M1}/// Says.\nmod a;\nfn main() {{ println!(\"{{}}\", a::f()); }}\n// a.rs\n//! Says more.\n\n/// One.\npub fn f() -> u8 {{ x1!() }}", 0),
 }
 
