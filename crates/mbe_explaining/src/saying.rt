@@ -173,6 +173,19 @@ fn keep<'p, A: Allocator + Copy>(
     }
 }
 
+// The parts, each once.
+fn once<'p, A: Allocator + Copy>(
+    alloc: A,
+    parts: &'p [Part<A>],
+) -> Result<Vec<&'p Part<A>, A>, AllocError>
+    ensures { IfOk result (λ v. map (λ p. part_seen p.now) v.items
+        ≡ spec.once [] (map part_seen parts.now)) }
+{
+    let mut kept = Vec::new(alloc);
+    keep(&mut kept, parts)?;
+    Ok(kept)
+}
+
 // Adds their texts to a list.
 fn list<A: Allocator>(text: &mut String<A>, parts: &[&Part<A>]) -> Result<(), AllocError>
     ensures { OnOk result (string_bytes text.new
@@ -226,8 +239,7 @@ fn list_text<A: Allocator + Copy>(alloc: A, parts: &[Part<A>]) -> Result<String<
     ensures { IfOk result (λ text. string_bytes text
         ≡ spec.listed (spec.once [] (map part_seen parts.now))) }
 {
-    let mut kept = Vec::new(alloc);
-    keep(&mut kept, parts)?;
+    let kept = once(alloc, parts)?;
     let mut text = String::new(alloc);
     list(&mut text, kept.as_slice())?;
     Ok(text)
@@ -282,6 +294,23 @@ pub fn message<A: Allocator + Copy>(
     }
 }
 
+// Both of two parts, or one where they are the same.
+fn two_once<'p, A: Allocator + Copy>(
+    alloc: A,
+    one: &'p Part<A>,
+    other: &'p Part<A>,
+) -> Result<Vec<&'p Part<A>, A>, AllocError>
+    ensures { IfOk result (λ v. map (λ p. part_seen p.now) v.items
+        ≡ spec.two_once (part_seen one.now, part_seen other.now)) }
+{
+    let mut kept = Vec::new(alloc);
+    kept.push(one)?;
+    if !is_same(one, other) {
+        kept.push(other)?;
+    }
+    Ok(kept)
+}
+
 /// The parts of the rule that its message names, each once. `AllocError` if out of memory.
 pub fn named<'p, A: Allocator + Copy>(
     alloc: A,
@@ -290,16 +319,12 @@ pub fn named<'p, A: Allocator + Copy>(
     ensures { IfOk result (λ v. map (λ p. part_seen p.now) v.items
         ≡ spec.named_parts (said_seen said.now)) }
 {
-    let mut kept = Vec::new(alloc);
     match (said.verdict, &said.clash) {
-        (Verdict::OneReading, _) | (Verdict::ManyReadings | Verdict::Ambiguous(_), None) => {}
-        (Verdict::ManyReadings | Verdict::Ambiguous(_), Some((one, other))) => {
-            kept.push(one)?;
-            if !is_same(one, other) {
-                kept.push(other)?;
-            }
-        }
-        (Verdict::Stuck(_), _) => keep(&mut kept, said.wanted.as_slice())?,
+        (Verdict::OneReading, _) => Ok(Vec::new(alloc)),
+        (Verdict::ManyReadings, None) => Ok(Vec::new(alloc)),
+        (Verdict::ManyReadings, Some((one, other))) => two_once(alloc, one, other),
+        (Verdict::Ambiguous(_), None) => Ok(Vec::new(alloc)),
+        (Verdict::Ambiguous(_), Some((one, other))) => two_once(alloc, one, other),
+        (Verdict::Stuck(_), _) => once(alloc, said.wanted.as_slice()),
     }
-    Ok(kept)
 }
