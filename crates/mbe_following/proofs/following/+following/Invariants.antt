@@ -12,6 +12,15 @@ decreases-follow_trees g l = 6 * l.levels + 5
 abbrev pub decreases-follow_front : goal.decreases-follow_front
 decreases-follow_front g l = 6 * l.levels + 4
 
+abbrev pub decreases-follow_tree : goal.decreases-follow_tree
+decreases-follow_tree g l = 6 * l.levels + 3
+
+abbrev pub decreases-follow_included : goal.decreases-follow_included
+decreases-follow_included g l = 6 * l.levels + 2
+
+abbrev pub decreases-follow_taken : goal.decreases-follow_taken
+decreases-follow_taken g l = 6 * l.levels + 1
+
 abbrev pub decreases-follow_outside : goal.decreases-follow_outside
 decreases-follow_outside g l = 6 * l.levels + 3
 
