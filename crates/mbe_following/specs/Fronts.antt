@@ -146,8 +146,10 @@ pub record Included : Type 0 where
   pub at : Span
   pub path : List ℕ
 
-abbrev pub text_of : Literal → Option Included
-text_of l = option_map (λ t. record { at = l.span; path = t }) (plain_text l)
+abbrev pub text_of : Leaf → Option Included
+text_of (literal l) = option_map (λ t. record { at = l.span; path = t }) (plain_text l)
+text_of (punct p) = None
+text_of (ident i) = None
 
 -- no trees, or a comma
 abbrev pub is_end_by : Forest → Option Forest → Bool

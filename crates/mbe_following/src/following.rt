@@ -73,7 +73,8 @@ fn note<A: Allocator + Copy>(
         name,
         candidates,
         wrong,
-    })
+    })?;
+    Ok(())
 }
 
 // These numbers, and one more.

@@ -316,13 +316,16 @@ fn path_after<'t, A: Allocator>(
 }
 
 // The text of a string, and where it is.
-fn text_of<'t, A: Allocator>(literal: &'t Literal<A>) -> Option<Included<'t>>
-    ensures { option_map included_shown result ≡ spec.text_of (literal_of literal.now) }
+fn text_of<'t, A: Allocator>(leaf: &'t Leaf<A>) -> Option<Included<'t>>
+    ensures { option_map included_shown result ≡ spec.text_of (leaf_of leaf.now) }
 {
-    Some(Included {
-        at: literal.span,
-        path: plain_text(literal)?,
-    })
+    match leaf {
+        Leaf::Literal(literal) => Some(Included {
+            at: literal.span,
+            path: plain_text(literal)?,
+        }),
+        Leaf::Punct(_) | Leaf::Ident(_) => None,
+    }
 }
 
 // Whether these are no trees, or a comma.

@@ -2,4 +2,6 @@
 #![tactic(auto)]
 
 #[cfg(test)]
+mod including;
+#[cfg(test)]
 mod rows;

@@ -48,6 +48,7 @@ fn place_of(alloc: Global, folder: &str, own: &str) -> Result<Place, AllocError>
         Some(String::from_str(alloc, own)?)
     };
     Ok(Place {
+        home: String::new(alloc),
         folder: String::from_str(alloc, folder)?,
         own,
     })
@@ -56,7 +57,7 @@ fn place_of(alloc: Global, folder: &str, own: &str) -> Result<Place, AllocError>
 fn shown(alloc: Global, place: &Place, module: &str) -> Result<String, AllocError> {
     let (name, path) = parts(module);
     match place.candidates(alloc, name, path)? {
-        Candidates::Given(path) => Ok(path),
+        Candidates::Included(path) | Candidates::Given(path) => Ok(path),
         Candidates::Usual(beside, nested) => format!(in alloc; "{beside} {nested}"),
     }
 }
