@@ -393,7 +393,7 @@ fn include_after<'t, A: Allocator>(
     rest: TokenTreesView<'t, A>,
 ) -> Option<Included<'t>>
     ensures { option_map included_shown result ≡ spec.include_after
-        (option_map included_shown included) (element_tree tree.now) (trees rest.entry) }
+        (option_map included_shown included.entry) (element_tree tree.now) (trees rest.entry) }
 {
     match included {
         Some(included) => Some(included),

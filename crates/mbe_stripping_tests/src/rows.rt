@@ -19,7 +19,7 @@ static GIVEN: [Cfg<'static>; 1] = [Cfg {
 }];
 
 // A text, and what stays of it.
-static ROWS: [(&str, &str); 36] = [
+static ROWS: [(&str, &str); 38] = [
     ("#[cfg(yes)] fn f() {} m!();", "#[cfg(yes)] fn f() {} m!();"),
     ("#[cfg(no)] fn f() { a!(); } m!();", "m!();"),
     ("#[cfg(no)] use a::{b, c}; m!();", "m!();"),
@@ -97,9 +97,14 @@ static ROWS: [(&str, &str); 36] = [
         "macro_rules! m { (#[cfg($a:meta)] $b:item) => { #[cfg(no)] $b } }",
     ),
     ("#[cfg_attr(yes, cfg(no))] fn f() {} m!();", "m!();"),
+    ("#[cfg_attr(no, cfg(no))] m!();", "m!();"),
     (
-        "#[cfg_attr(no, cfg(no))] m!();",
-        "#[cfg_attr(no, cfg(no))] m!();",
+        "#![cfg_attr(no, a)] #[cfg_attr(no, b)] #[c] #[cfg_attr(yes, d)] m!();",
+        "#[c] #[cfg_attr(yes, d)] m!();",
+    ),
+    (
+        "fn f(#[cfg_attr(no, a)] b: B) { #[cfg_attr(no, c)] { m!() } } #[cfg_attr]",
+        "fn f(b: B) { { m!() } } #[cfg_attr]",
     ),
 ];
 
