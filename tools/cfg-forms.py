@@ -1,5 +1,5 @@
 #!/usr/bin/env python3
-"""Asks rustc of the attributes in crates/mbe_cfg_tests/src/rows.rt: which hold, and what is wrong in which.
+"""Asks rustc of the attributes in crates/mbe_expanding_tests/src/cfg.rt: which hold, and what is wrong in which.
 
     tools/cfg-forms.py          prints each row on which rustc differs; nothing, and status 0, if there is none
 """
@@ -9,7 +9,7 @@ import subprocess
 import sys
 import tempfile
 
-ROWS = pathlib.Path(__file__).resolve().parent.parent / "crates/mbe_cfg_tests/src/rows.rt"
+ROWS = pathlib.Path(__file__).resolve().parent.parent / "crates/mbe_expanding_tests/src/cfg.rt"
 
 OPTIONS = ["--cfg", "yes", "--cfg", 'mode="fast"', "--cfg", 'feature="std"', "--target", "x86_64-unknown-linux-gnu"]
 
@@ -50,7 +50,7 @@ def messages(lines):
 def main():
     text = ROWS.read_text()
     hold = [(text_of(a), b == "true") for a, b in re.findall(rf"\(\s*{STRING},\s*(true|false),?\s*\)", text)]
-    faults = [(text_of(a), w) for a, w in re.findall(rf"\(\s*{STRING},\s*\d+,\s*Wrong::(\w+),?\s*\)", text)]
+    faults = [(text_of(a), w) for a, w in re.findall(rf"\(\s*{STRING},\s*\d+,\s*\"(\w+)\",?\s*\)", text)]
     differs = False
     said = messages(
         [f'mod m{i} {{ {a} compile_error!("held"); }}' if a.startswith("#!") else f'{a} compile_error!("held");' for i, (a, _) in enumerate(hold)]

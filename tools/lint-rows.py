@@ -3,7 +3,7 @@
 
     python3 tools/lint-rows.py [RUSTC]
 
-First in those of `crates/mbe_linting_tests/src/following.rt`.
+First in those of `crates/mbe_matcher_tests/src/following.rt`.
 
 Each row is a definition, and what is found of it: `followed NAME A B`, `twice NAME A B` or `unknown NAME A`, with byte offsets of names and of what
 follows. rustc has to report each of these at its last place, and nothing else; it counts the `$` of a variable, which is one byte before its
@@ -25,7 +25,7 @@ KINDS = (("followed", "followed"), ("duplicate", "twice"), ("invalid fragment", 
 
 
 def rows():
-    with open(f"{TOP}/crates/mbe_linting_tests/src/following.rt", encoding="utf-8") as it:
+    with open(f"{TOP}/crates/mbe_matcher_tests/src/following.rt", encoding="utf-8") as it:
         text = it.read()
     text = re.sub(r"\\\n\s*", "", text)
     return [tuple(part.encode().decode("unicode_escape") for part in row.groups()) for row in ROW.finditer(text)]

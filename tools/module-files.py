@@ -1,5 +1,5 @@
 #!/usr/bin/env python3
-"""Asks rustc of the rows in crates/mbe_modules_tests/src/rows.rt: which file `mod x;` names.
+"""Asks rustc of the rows in crates/mbe_expanding_tests/src/modules.rt: which file `mod x;` names.
 
     tools/module-files.py       prints each row on which rustc differs; nothing, and status 0, if there is none
 
@@ -11,7 +11,7 @@ import subprocess
 import sys
 import tempfile
 
-ROWS = pathlib.Path(__file__).resolve().parent.parent / "crates/mbe_modules_tests/src/rows.rt"
+ROWS = pathlib.Path(__file__).resolve().parent.parent / "crates/mbe_expanding_tests/src/modules.rt"
 
 STRING = r'"([^"]*)"'
 
@@ -56,7 +56,8 @@ def wrong(row):
 
 
 def main():
-    rows = re.findall(rf"\(\s*{STRING},\s*{STRING},\s*{STRING},\s*{STRING},\s*{STRING},?\s*\)", ROWS.read_text())
+    text = ROWS.read_text().partition("const IN_FILES")[0]
+    rows = re.findall(rf"\(\s*{STRING},\s*{STRING},\s*{STRING},\s*{STRING},\s*{STRING},?\s*\)", text)
     differs = False
     for row in rows:
         for what in wrong(row):

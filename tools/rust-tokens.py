@@ -116,11 +116,13 @@ def main():
     with ThreadPoolExecutor(3) as pool:
         wants = list(pool.map(judged, texts))
     print("// Random texts of an edition, each with what rustc makes of it, from `tools/rust-tokens.py`.")
+    print("use test_rows::rows;")
     for edition in EDITIONS:
-        print(f"\npub(crate) static RANDOM_{edition}: &[&str] = &[")
-        for (text, of), want in zip(texts, wants):
-            if of == edition and want:
-                print(f"    {quoted(text)}, {quoted(want)},")
+        rows = [(text, want) for (text, of), want in zip(texts, wants) if of == edition and want]
+        print(f"\npub(crate) const COUNT_{edition}: usize = {len(rows)};")
+        print(f"\npub(crate) const RANDOM_{edition}: &str = rows![")
+        for text, want in rows:
+            print(f"    ({quoted(text)}, {quoted(want)}),")
         print("];")
 
 

@@ -28,6 +28,8 @@ mod texts;
 #[cfg(test)]
 mod theorem;
 #[cfg(test)]
+mod viewing;
+#[cfg(test)]
 mod walks;
 #[cfg(test)]
 mod writing;

@@ -2,7 +2,8 @@
 use crate::reading::read;
 use mbe::DeclarativeMacro;
 use mbe_text::lexer::LexError;
-use std::alloc::Global;
+use std::alloc::{AllocError, Global};
+use test_rows::{Fields, Rows, each, nth, rows};
 
 // The macros of two definitions are equal.
 fn are_equal(alloc: Global, one: &str, two: &str) -> Result<bool, LexError> {
@@ -11,43 +12,46 @@ fn are_equal(alloc: Global, one: &str, two: &str) -> Result<bool, LexError> {
 }
 
 // Definitions whose macros differ from one another. All but the last two are at the same places.
-static DIFFERENT: [&str; 13] = [
-    "($($x:ident),*) => {}",
-    "($($x:ident);*) => {}",
-    "($($x:ident),+) => {}",
-    "($($y:ident),*) => {}",
-    "($($x:foo00),*) => {}",
-    "($($x:ident)a*) => {}",
-    "($($x:ident)1*) => {}",
-    "($($x:ident),*) => {a}",
-    "($($x:ident),*) => {}; x",
-    "($($x:ident),*) => {}; () => {}",
-    "",
-    "attr() ($($x:ident),*) => {}",
-    "( $($x:ident),*) => {}",
+const DIFFERENT: &str = rows![
+    ("($($x:ident),*) => {}"),
+    ("($($x:ident);*) => {}"),
+    ("($($x:ident),+) => {}"),
+    ("($($y:ident),*) => {}"),
+    ("($($x:foo00),*) => {}"),
+    ("($($x:ident)a*) => {}"),
+    ("($($x:ident)1*) => {}"),
+    ("($($x:ident),*) => {a}"),
+    ("($($x:ident),*) => {}; x"),
+    ("($($x:ident),*) => {}; () => {}"),
+    (""),
+    ("attr() ($($x:ident),*) => {}"),
+    ("( $($x:ident),*) => {}"),
 ];
 
-// The first text whose macro equals that of the text of that number though it is another, or doesn't equal it.
-fn first_alike(alloc: Global, number: usize, text: &str) -> Result<Option<usize>, LexError> {
-    for (other_number, &other) in DIFFERENT.iter().enumerate() {
-        if are_equal(alloc, text, other)? != (number == other_number) {
-            return Ok(Some(other_number));
+// The macro of a text equals its own, and that of no other text.
+#[derive(Clone, Copy)]
+struct Different;
+
+impl Rows for Different {
+    fn is_so(&self, alloc: Global, [text, ..]: Fields) -> Result<bool, AllocError> {
+        for number in 0..13u64 {
+            let other = nth(DIFFERENT, number);
+            match are_equal(alloc, text, other) {
+                Ok(is_equal) if is_equal == (text == other) => {}
+                _ => return Ok(false),
+            }
         }
+        Ok(true)
     }
-    Ok(None)
 }
 
 #[test]
-fn macros_of_other_rules_differ(rt: HostRuntime) -> Result<(), LexError> {
-    for (number, &text) in DIFFERENT.iter().enumerate() {
-        let alike = first_alike(rt.alloc(), number, text)?;
-        assert!(rt; alike.is_none(), "{text} and text {alike:?}");
-    }
-    Ok(())
+fn macros_of_other_rules_differ(rt: HostRuntime) {
+    each(&rt, rt.alloc(), &Different, DIFFERENT, 13);
 }
 
 // Pairs whose separators are at different places.
-static SAME: [(&str, &str); 5] = [
+const SAME: &str = rows![
     ("($($x:ident),*) => {}", "($($x:ident) ,*) => {}"),
     ("($($x:ident)=>*) => {}", "($($x:ident) =>*) => {}"),
     ("($($x:ident)a*) => {}", "($($x:ident) a*) => {}"),
@@ -55,25 +59,28 @@ static SAME: [(&str, &str); 5] = [
     ("($($x:ident)'a*) => {}", "($($x:ident) 'a*) => {}"),
 ];
 
-#[test]
-fn separators_count_by_their_texts(rt: HostRuntime) -> Result<(), LexError> {
-    for (one, two) in &SAME {
-        assert!(rt; are_equal(rt.alloc(), one, two)?, "{one} {two}");
+#[derive(Clone, Copy)]
+struct Same;
+
+impl Rows for Same {
+    fn is_so(&self, alloc: Global, [one, two, ..]: Fields) -> Result<bool, AllocError> {
+        Ok(are_equal(alloc, one, two).unwrap_or(false))
     }
-    Ok(())
 }
 
-const EVERY_FORM: &str =
-    "unsafe attr(x) ($a:ident $b:literal [c] 1 + $($d:expr),* $($e:ty)'f + $($g:tt)1? $(h)=>* \
-    $(i)* $(k)and* $crate) => {$a $j [c] 1 + $($d $e);* $($g)? ${ignore($a)} ${index()} ${len(1)} ${count($d)} ${count($e, 1)} \
-    ${concat(a, $a, 1)} $$ $crate $}; () => {}; x";
+#[test]
+fn separators_count_by_their_texts(rt: HostRuntime) {
+    each(&rt, rt.alloc(), &Same, SAME, 5);
+}
 
 // With a fault, without rules, with a refusal, and with rules alone.
-static COPIED: [&str; 4] = [
-    EVERY_FORM,
-    "",
-    "($()*) => {}; ($x) => {}",
-    "attr(x) ($a:ident) => {$a}; ($($b:tt),*) => {[$($b)*]}",
+const COPIED: &str = rows![
+    ("unsafe attr(x) ($a:ident $b:literal [c] 1 + $($d:expr),* $($e:ty)'f + $($g:tt)1? $(h)=>* \
+    $(i)* $(k)and* $crate) => {$a $j [c] 1 + $($d $e);* $($g)? ${ignore($a)} ${index()} ${len(1)} ${count($d)} ${count($e, 1)} \
+    ${concat(a, $a, 1)} $$ $crate $}; () => {}; x"),
+    (""),
+    ("($()*) => {}; ($x) => {}"),
+    ("attr(x) ($a:ident) => {$a}; ($($b:tt),*) => {[$($b)*]}"),
 ];
 
 fn are_alike(one: &DeclarativeMacro, two: &DeclarativeMacro) -> bool {
@@ -89,10 +96,16 @@ fn is_copied(alloc: Global, text: &str) -> Result<bool, LexError> {
     Ok(are_alike(&copy, &rules))
 }
 
-#[test]
-fn a_copy_is_equal(rt: HostRuntime) -> Result<(), LexError> {
-    for text in &COPIED {
-        assert!(rt; is_copied(rt.alloc(), text)?, "{text}");
+#[derive(Clone, Copy)]
+struct Copies;
+
+impl Rows for Copies {
+    fn is_so(&self, alloc: Global, [text, ..]: Fields) -> Result<bool, AllocError> {
+        Ok(is_copied(alloc, text).unwrap_or(false))
     }
-    Ok(())
+}
+
+#[test]
+fn a_copy_is_equal(rt: HostRuntime) {
+    each(&rt, rt.alloc(), &Copies, COPIED, 4);
 }

@@ -6,6 +6,7 @@ use std::alloc::{AllocError, Global};
 use std::error::Error;
 use std::hash::{DefaultHasher, Hash, Hasher};
 use std::rc::Rc;
+use test_rows::holds;
 
 const KINDS: usize = 8;
 
@@ -59,12 +60,11 @@ fn first_miscompared(alloc: Global, one: usize) -> Result<Option<usize>, AllocEr
 }
 
 #[test]
-fn kinds_are_compared_and_copied(rt: HostRuntime) -> Result<(), AllocError> {
+fn kinds_are_compared_and_copied(rt: HostRuntime) {
     for one in 0..KINDS {
-        let two = first_miscompared(rt.alloc(), one)?;
-        assert!(rt; two.is_none(), "{one} and {two:?}");
+        let two = first_miscompared(rt.alloc(), one);
+        assert!(rt; matches!(two, Ok(None)), "{one} and {two:?}");
     }
-    Ok(())
 }
 
 fn at(start: u32) -> Span {
@@ -106,11 +106,13 @@ fn are_kept_apart(alloc: Global, first: &ExpandError) -> Result<bool, AllocError
     )
 }
 
+fn are_errors_kept_apart(alloc: Global) -> Result<bool, AllocError> {
+    are_kept_apart(alloc, &error(alloc, 1, 0)?)
+}
+
 #[test]
-fn errors_are_compared_by_place_and_kind(rt: HostRuntime) -> Result<(), AllocError> {
-    let first = error(rt.alloc(), 1, 0)?;
-    assert!(rt; are_kept_apart(rt.alloc(), &first)?);
-    Ok(())
+fn errors_are_compared_by_place_and_kind(rt: HostRuntime) {
+    holds(&rt, are_errors_kept_apart(rt.alloc()));
 }
 
 fn is_shown<E: Error>(alloc: Global, error: &E, want: &str) -> bool {
@@ -126,12 +128,12 @@ fn is_error_shown(alloc: Global, number: usize, want: &str) -> Result<bool, Allo
 }
 
 #[test]
-fn each_error_is_one(rt: HostRuntime) -> Result<(), AllocError> {
+fn each_error_is_one(rt: HostRuntime) {
     let alloc = rt.alloc();
-    assert!(rt; is_shown(alloc, &CountError::Misplaced, "${count} misplaced"));
-    assert!(rt; is_kind_shown(alloc, 4, "leftover tokens")?);
-    assert!(rt; is_error_shown(alloc, 5, "Expand exceed limit")?);
+    let is_shown_so = is_shown(alloc, &CountError::Misplaced, "${count} misplaced");
+    holds(&rt, Ok(is_shown_so));
+    holds(&rt, is_kind_shown(alloc, 4, "leftover tokens"));
+    holds(&rt, is_error_shown(alloc, 5, "Expand exceed limit"));
     let parse: ParseError = ParseError::InvalidRepeat;
-    assert!(rt; is_shown(alloc, &parse, "invalid repeat"));
-    Ok(())
+    holds(&rt, Ok(is_shown(alloc, &parse, "invalid repeat")));
 }

@@ -2,6 +2,7 @@
 use mbe::CountError::{Misplaced, OutOfBounds};
 use mbe::{CountError, ValueResult};
 use std::alloc::AllocError;
+use test_rows::holds;
 
 type Counted = ValueResult<u32, CountError>;
 
@@ -35,14 +36,17 @@ fn results_are_made(rt: HostRuntime) {
         (3, None),
         (0, Some(Misplaced)),
     ];
-    assert!(rt; are(&made, &wanted));
+    holds(&rt, Ok(are(&made, &wanted)));
 }
 
 #[test]
 fn a_result_is_the_error_where_there_is_one(rt: HostRuntime) {
     let failed: Counted = ValueResult::new(3, Misplaced);
     let fine: Counted = ValueResult::ok(3);
-    assert!(rt; failed.result() == Err(Misplaced) && fine.result() == Ok(3));
+    holds(
+        &rt,
+        Ok(failed.result() == Err(Misplaced) && fine.result() == Ok(3)),
+    );
 }
 
 fn mapped(answer: Counted) -> Counted {
@@ -56,7 +60,10 @@ fn moved(answer: Counted) -> Counted {
 #[test]
 fn values_and_errors_are_paired_and_mapped(rt: HostRuntime) {
     let paired = Counted::new(3, Misplaced).zip_val(true);
-    assert!(rt; paired.value == (3, true) && paired.err == Some(Misplaced));
+    holds(
+        &rt,
+        Ok(paired.value == (3, true) && paired.err == Some(Misplaced)),
+    );
     let made = [
         mapped(Counted::new(3, Misplaced)),
         mapped(Counted::ok(3)),
@@ -69,7 +76,7 @@ fn values_and_errors_are_paired_and_mapped(rt: HostRuntime) {
         (3, Some(OutOfBounds)),
         (3, None),
     ];
-    assert!(rt; are(&made, &wanted));
+    holds(&rt, Ok(are(&made, &wanted)));
 }
 
 // Whether a copy is equal, and what is lent is both parts.
@@ -80,16 +87,18 @@ fn is_copied(answer: &Counted) -> Result<bool, AllocError> {
 }
 
 #[test]
-fn results_are_lent_and_copied(rt: HostRuntime) -> Result<(), AllocError> {
-    assert!(rt; is_copied(&Counted::new(3, Misplaced))?);
-    assert!(rt; is_copied(&Counted::ok(4))?);
-    Ok(())
+fn results_are_lent_and_copied(rt: HostRuntime) {
+    holds(&rt, is_copied(&Counted::new(3, Misplaced)));
+    holds(&rt, is_copied(&Counted::ok(4)));
 }
 
 #[test]
 fn results_are_equal_by_both_parts(rt: HostRuntime) {
     let answer: Counted = ValueResult::new(3, Misplaced);
-    assert!(rt; answer == ValueResult::new(3, Misplaced));
-    assert!(rt; answer != Counted::new(4, Misplaced));
-    assert!(rt; answer != Counted::new(3, OutOfBounds) && answer != Counted::ok(3));
+    holds(&rt, Ok(answer == ValueResult::new(3, Misplaced)));
+    holds(&rt, Ok(answer != Counted::new(4, Misplaced)));
+    holds(
+        &rt,
+        Ok(answer != Counted::new(3, OutOfBounds) && answer != Counted::ok(3)),
+    );
 }

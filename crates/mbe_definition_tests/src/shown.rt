@@ -14,6 +14,7 @@ use mbe_tt::tt::{
 use std::alloc::{AllocError, Global};
 use std::fmt::Debug;
 use std::rc::Rc;
+use test_rows::holds;
 
 fn has_parts(text: &str, parts: &[&str]) -> bool {
     for part in parts {
@@ -50,11 +51,23 @@ fn spans_and_fronts_are_shown(rt: HostRuntime) {
         count: 5,
         fault: true,
     };
-    assert!(rt; shows(alloc, &SPAN, &[SPAN_TEXT]));
-    assert!(rt; shows(alloc, &pair, &["DelimSpan { opening: Span {"]));
-    assert!(rt; shows(alloc, &front, &["Front { count: 5, fault: true }"]));
-    assert!(rt; shows(alloc, &Edition::Edition2021, &["Edition2021"]));
-    assert!(rt; shows(alloc, &PrefixEntryPoint::PatTop, &["PatTop"]));
+    holds(&rt, Ok(shows(alloc, &SPAN, &[SPAN_TEXT])));
+    holds(
+        &rt,
+        Ok(shows(alloc, &pair, &["DelimSpan { opening: Span {"])),
+    );
+    holds(
+        &rt,
+        Ok(shows(alloc, &front, &["Front { count: 5, fault: true }"])),
+    );
+    holds(
+        &rt,
+        Ok(shows(alloc, &Edition::Edition2021, &["Edition2021"])),
+    );
+    holds(
+        &rt,
+        Ok(shows(alloc, &PrefixEntryPoint::PatTop, &["PatTop"])),
+    );
 }
 
 static LEAVES: [&str; 4] = [
@@ -78,7 +91,10 @@ fn are_borrows_shown(alloc: Global, tree: &TopSubtree) -> bool {
 #[test]
 fn trees_are_shown(rt: HostRuntime) -> Result<(), LexError> {
     let tree = lex(rt.alloc(), "(a 1 +)", 0)?;
-    assert!(rt; shows(rt.alloc(), &tree, &LEAVES) && are_borrows_shown(rt.alloc(), &tree));
+    holds(
+        &rt,
+        Ok(shows(rt.alloc(), &tree, &LEAVES) && are_borrows_shown(rt.alloc(), &tree)),
+    );
     Ok(())
 }
 
@@ -94,9 +110,12 @@ fn groups_and_builders_are_shown(rt: HostRuntime) -> Result<(), AllocError> {
         "Subtree { delimiter: Delimiter { opening: Span {",
         "kind: Brace",
     ];
-    assert!(rt; shows(rt.alloc(), &subtree, &parts));
+    holds(&rt, Ok(shows(rt.alloc(), &subtree, &parts)));
     let builder = TopSubtreeBuilder::new(rt.alloc(), subtree.delimiter)?;
-    assert!(rt; shows(rt.alloc(), &builder, &["TopSubtreeBuilder {"]));
+    holds(
+        &rt,
+        Ok(shows(rt.alloc(), &builder, &["TopSubtreeBuilder {"])),
+    );
     Ok(())
 }
 
@@ -113,26 +132,33 @@ fn is_binding_error_shown(alloc: Global) -> Result<bool, AllocError> {
 fn errors_and_results_are_shown(rt: HostRuntime) -> Result<(), AllocError> {
     let alloc = rt.alloc();
     let result: ValueResult<u32, CountError> = ValueResult::new(6, CountError::Misplaced);
-    assert!(rt;
-        shows(
+    holds(
+        &rt,
+        Ok(shows(
             alloc,
             &result,
-            &["ValueResult { value: 6, err: Some(Misplaced) }"]
-        )
+            &["ValueResult { value: 6, err: Some(Misplaced) }"],
+        )),
     );
-    assert!(rt; is_binding_error_shown(alloc)?);
+    holds(&rt, is_binding_error_shown(alloc));
     let parse: ParseError = ParseError::Expected(String::from_str(alloc, "b")?);
-    assert!(rt; shows(alloc, &parse, &["Expected(\"b\")"]));
+    holds(&rt, Ok(shows(alloc, &parse, &["Expected(\"b\")"])));
     Ok(())
 }
 
 #[test]
 fn macros_and_styles_are_shown(rt: HostRuntime) -> Result<(), LexError> {
     let alloc = rt.alloc();
-    assert!(rt; shows(alloc, &MacroCallStyle::Derive, &["Derive"]));
-    assert!(rt; shows(alloc, &MacroCallStyles::ATTR, &["MacroCallStyles(2)"]));
+    holds(&rt, Ok(shows(alloc, &MacroCallStyle::Derive, &["Derive"])));
+    holds(
+        &rt,
+        Ok(shows(alloc, &MacroCallStyles::ATTR, &["MacroCallStyles(2)"])),
+    );
     let rules = read(alloc, "attr() ($(a),*) => {}")?;
-    assert!(rt; shows(alloc, &rules, &["DeclarativeMacro {", "style: Attr"]));
+    holds(
+        &rt,
+        Ok(shows(alloc, &rules, &["DeclarativeMacro {", "style: Attr"])),
+    );
     Ok(())
 }
 
@@ -166,9 +192,9 @@ fn is_bound_shown(
 #[test]
 fn bindings_are_shown(rt: HostRuntime) -> Result<(), LexError> {
     let alloc = rt.alloc();
-    assert!(rt; is_missing_shown(alloc));
+    holds(&rt, Ok(is_missing_shown(alloc)));
     let name = Symbol::intern(alloc, "x")?;
     let tree = lex(alloc, "d", 0)?;
-    assert!(rt; is_bound_shown(alloc, &name, tree.view())?);
+    holds(&rt, is_bound_shown(alloc, &name, tree.view()));
     Ok(())
 }

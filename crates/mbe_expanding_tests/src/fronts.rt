@@ -1,19 +1,11 @@
 // What is at the front of trees.
+use crate::texts::read;
 use mbe_calls::calls::{Form, Front, attribute_at, binds, front_of, is_standard};
-use mbe_text::lexer::lex;
+use mbe_text::dialect::Dialect;
 use std::alloc::{AllocError, Global};
-use std::process::Abort;
-use std::test::Fail;
+use test_rows::{Fields, Rows, each, holds, rows};
 
 // What is at the front: a word for it, the macro's name and the number of flat tokens after it.
-fn seen(rt: &impl Abort, alloc: Global, text: &str) -> Result<String, Fail> {
-    assert!(rt; text.len() < 100_000_000);
-    let Ok(tree) = lex(alloc, text, 0) else {
-        return Err(Fail::from("not lexed"));
-    };
-    Ok(shown(alloc, front_of(tree.iter().remaining()))?)
-}
-
 fn shown(alloc: Global, front: Front<'_>) -> Result<String, AllocError> {
     match front {
         Front::End => String::from_str(alloc, "end"),
@@ -38,7 +30,7 @@ fn shown(alloc: Global, front: Front<'_>) -> Result<String, AllocError> {
 }
 
 // A text, and what is at its front, as the Rust Reference says ("Macro Invocation", "Macros By Example").
-static ROWS: [(&str, &str); 24] = [
+const ROWS: &str = rows![
     ("", "end"),
     ("a b", "tree 1"),
     ("a!(b c) d", "call a 2 1"),
@@ -65,17 +57,23 @@ static ROWS: [(&str, &str); 24] = [
     ("r#macro a { }", "tree 3"),
 ];
 
-#[test]
-fn fronts(rt: HostRuntime) -> Result<(), Fail> {
-    for (text, want) in &ROWS {
-        let front = seen(&rt, rt.alloc(), text)?;
-        assert_eq!(rt; front.as_str(), *want, "{text:.99}");
+#[derive(Clone, Copy)]
+struct Fronts;
+
+impl Rows for Fronts {
+    fn is_so(&self, alloc: Global, [text, want, ..]: Fields) -> Result<bool, AllocError> {
+        let tree = read(alloc, Dialect::Sample, text, 0)?;
+        Ok(shown(alloc, front_of(tree.iter().remaining()))?.as_str() == want)
     }
-    Ok(())
+}
+
+#[test]
+fn what_is_at_the_front(rt: HostRuntime) {
+    each(&rt, rt.alloc(), &Fronts, ROWS, 24);
 }
 
 // A text, the name of the attribute at its front, and whether an operator is there.
-static BESIDE: [(&str, &str, bool); 10] = [
+const BESIDE: &str = rows![
     ("#[macro_use] mod a", "macro_use", false),
     ("#[derive(A)]", "derive", false),
     ("#![macro_use]", "", false),
@@ -88,24 +86,29 @@ static BESIDE: [(&str, &str, bool); 10] = [
     ("", "", false),
 ];
 
-#[test]
-fn attributes_and_operators(rt: HostRuntime) -> Result<(), Fail> {
-    for (text, attribute, is_operator) in &BESIDE {
-        assert!(rt; text.len() < 100_000_000);
-        let Ok(tree) = lex(rt.alloc(), text, 0) else {
-            return Err(Fail::from("not lexed"));
-        };
+#[derive(Clone, Copy)]
+struct Beside;
+
+impl Rows for Beside {
+    fn is_so(
+        &self,
+        alloc: Global,
+        [text, attribute, is_operator, ..]: Fields,
+    ) -> Result<bool, AllocError> {
+        let tree = read(alloc, Dialect::Sample, text, 0)?;
         let trees = tree.iter().remaining();
-        assert_eq!(rt; attribute_at(trees).unwrap_or(""), *attribute, "{text:.99}");
-        assert_eq!(rt; binds(trees), *is_operator, "{text:.99}");
+        let is_attribute = attribute_at(trees).unwrap_or("") == attribute;
+        Ok(is_attribute && binds(trees) == (is_operator == "true"))
     }
-    Ok(())
+}
+
+#[test]
+fn attributes_and_operators(rt: HostRuntime) {
+    each(&rt, rt.alloc(), &Beside, BESIDE, 10);
 }
 
 #[test]
 fn standard_macros(rt: HostRuntime) {
-    assert!(rt; is_standard("vec"));
-    assert!(rt; is_standard("assert_eq"));
-    assert!(rt; !is_standard("stringify"));
-    assert!(rt; !is_standard(""));
+    holds(&rt, Ok(is_standard("vec") && is_standard("assert_eq")));
+    holds(&rt, Ok(!is_standard("stringify") && !is_standard("")));
 }

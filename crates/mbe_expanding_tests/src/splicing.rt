@@ -1,7 +1,7 @@
 // Texts with some of their parts replaced.
 use mbe_calls::splicing::{Replacement, splice};
 use std::alloc::{AllocError, Global};
-use std::test::Fail;
+use test_rows::none;
 
 // What the parts `start..end` become, in a text of nine bytes.
 fn spliced(alloc: Global, parts: &[(usize, usize, &str)]) -> Result<String, AllocError> {
@@ -31,11 +31,18 @@ static ROWS: [(&[(usize, usize, &str)], &str); 9] = [
     (&[(0, 2, "x"), (6, 7, "c")], "x b! é!"),
 ];
 
-#[test]
-fn parts_are_replaced(rt: HostRuntime) -> Result<(), Fail> {
+// The first text that is given otherwise.
+fn first_wrong(alloc: Global) -> Option<&'static str> {
     for (parts, want) in &ROWS {
-        let text = spliced(rt.alloc(), parts)?;
-        assert_eq!(rt; text.as_str(), *want);
+        match spliced(alloc, parts) {
+            Ok(text) if text.as_str() == *want => {}
+            _ => return Some(want),
+        }
     }
-    Ok(())
+    None
+}
+
+#[test]
+fn parts_are_replaced(rt: HostRuntime) {
+    none(&rt, first_wrong(rt.alloc()));
 }

@@ -1,33 +1,27 @@
 // Trees as Rust text.
+use crate::texts::{RUST, read, written};
 use mbe_rust_text::writing::Writer;
 use mbe_text::dialect::Dialect;
-use mbe_text::lexer::{lex, lex_as};
 use mbe_text::scanner::file_span;
-use mbe_tt::span::Edition;
 use mbe_tt::symbol::Symbol;
 use mbe_tt::tt::{
     Delimiter, DelimiterKind, Ident, IdentIsRaw, Leaf, LitKind, Literal, Punct, Spacing,
     TopSubtree, TopSubtreeBuilder,
 };
 use std::alloc::{AllocError, Global};
-use std::process::Abort;
-use std::test::Fail;
+use test_rows::{Fields, Rows, each, holds, rows, spelled};
 
 // Writes the trees of these texts, with a `~` between two, each as one of a file of its own.
 fn write(
-    rt: &impl Abort,
     alloc: Global,
     writer: &mut Writer,
     dialect: Dialect,
     files: u32,
     texts: &str,
-) -> Result<(), Fail> {
+) -> Result<(), AllocError> {
     let mut file = files;
     for text in texts.split('~') {
-        assert!(rt; text.len() < 100_000_000);
-        let Ok(tree) = lex_as(alloc, dialect, text, file) else {
-            return Err(Fail::from("not lexed"));
-        };
+        let tree = read(alloc, dialect, text, file)?;
         writer.trees(tree.iter().remaining())?;
         file = file.wrapping_add(1);
     }
@@ -36,7 +30,7 @@ fn write(
 
 // Texts of several files, with a `~` between two, and what their trees are as one text. Tokens that are side by side in a file are so
 // here; any other two that would be read as one, or as others, are kept apart.
-static ROWS: [(&str, &str); 32] = [
+const ROWS: &str = rows![
     ("", ""),
     ("a::b(c)[0].d!", "a::b(c)[0].d!"),
     ("a~b", "a b"),
@@ -73,7 +67,7 @@ static ROWS: [(&str, &str); 32] = [
 
 // Doc comments stay, those of several lines as blocks; an attribute that somebody wrote is one, and a block's text that is of one line is
 // written in one.
-static COMMENTS: [(&str, &str); 32] = [
+const COMMENTS: &str = rows![
     ("/// a", "/// a\n"),
     ("///\nb", "///\nb"),
     ("/// a\nb", "/// a\nb"),
@@ -115,7 +109,7 @@ static COMMENTS: [(&str, &str); 32] = [
 ];
 
 // Dots beside numbers and other literals, where a number could go on, and lifetimes beside puncts. In 2021.
-static DOTS: [(&str, &str); 20] = [
+const DOTS: &str = rows![
     ("1 .a", "1 .a"),
     ("1. a", "1. a"),
     ("1..2", "1..2"),
@@ -138,60 +132,64 @@ static DOTS: [(&str, &str); 20] = [
     ("&'r#a", "&'r#a"),
 ];
 
-// Each row's texts as one text.
-fn are_written(
-    rt: &impl Abort,
+// Whether that is the text of these texts, from a level of indentation on.
+fn is_text(
     alloc: Global,
-    dialect: Dialect,
-    rows: &[(&str, &str)],
-) -> Result<(), Fail> {
-    for (texts, want) in rows {
-        let mut writer = Writer::new(alloc, 0);
-        write(rt, alloc, &mut writer, dialect, 0, texts)?;
-        let text = writer.into_text();
-        assert_eq!(rt; text.as_str(), *want, "{texts:.99}");
+    (dialect, level): (Dialect, usize),
+    texts: &str,
+    want: &str,
+) -> Result<bool, AllocError> {
+    let mut writer = Writer::new(alloc, level);
+    write(alloc, &mut writer, dialect, 0, texts)?;
+    Ok(writer.into_text().as_str() == want)
+}
+
+#[derive(Clone, Copy)]
+struct Written(Dialect);
+
+impl Rows for Written {
+    fn is_so(&self, alloc: Global, [texts, want, ..]: Fields) -> Result<bool, AllocError> {
+        is_text(alloc, (self.0, 0), texts, want)
     }
-    Ok(())
 }
 
 #[test]
-fn tokens_are_kept_apart(rt: HostRuntime) -> Result<(), Fail> {
-    are_written(&rt, rt.alloc(), Dialect::Sample, &ROWS)
+fn tokens_are_kept_apart(rt: HostRuntime) {
+    each(&rt, rt.alloc(), &Written(Dialect::Sample), ROWS, 32);
 }
 
 #[test]
-fn comments_are_comments(rt: HostRuntime) -> Result<(), Fail> {
-    are_written(
-        &rt,
-        rt.alloc(),
-        Dialect::Rust(Edition::Edition2021),
-        &COMMENTS,
-    )
+fn comments_are_comments(rt: HostRuntime) {
+    each(&rt, rt.alloc(), &Written(RUST), COMMENTS, 32);
 }
 
-// How many `#` follow a `"`; no raw string holds so many as the last two.
-static HASHES: [usize; 5] = [0, 1, 254, 255, 300];
+// Texts with a `"` before many `#`; no raw string holds so many as the last two.
+const HASHES: &str = rows![
+    ("/*! \"\n*/\n/** a \"\n */\n/// \"\nb"),
+    ("/*! \"#\n*/\n/** a \"#\n */\n/// \"#\nb"),
+    ("/*! \"«254 #»\n*/\n/** a \"«254 #»\n */\n/// \"«254 #»\nb"),
+    ("/*! \"«255 #»\n*/\n/** a \"«255 #»\n */\n/// \"«255 #»\nb"),
+    ("/*! \"«300 #»\n*/\n/** a \"«300 #»\n */\n/// \"«300 #»\nb"),
+];
+
+#[derive(Clone, Copy)]
+struct Same;
+
+impl Rows for Same {
+    fn is_so(&self, alloc: Global, [text, ..]: Fields) -> Result<bool, AllocError> {
+        let text = spelled(alloc, text)?;
+        is_text(alloc, (RUST, 0), text.as_str(), text.as_str())
+    }
+}
 
 // What is written is the text that was lexed.
 #[test]
-fn a_comment_has_any_text(rt: HostRuntime) -> Result<(), Fail> {
-    for count in HASHES {
-        let hashes = "#".repeat(rt.alloc(), count)?;
-        let hashes = hashes.as_str();
-        let text = format!(in rt.alloc();
-            "/*! \"{hashes}\n*/\n/** a \"{hashes}\n */\n/// \"{hashes}\nb"
-        )?;
-        let mut writer = Writer::new(rt.alloc(), 0);
-        let dialect = Dialect::Rust(Edition::Edition2021);
-        write(&rt, rt.alloc(), &mut writer, dialect, 0, text.as_str())?;
-        let written = writer.into_text();
-        assert_eq!(rt; written.as_str(), text.as_str(), "{count}");
-    }
-    Ok(())
+fn a_comment_has_any_text(rt: HostRuntime) {
+    each(&rt, rt.alloc(), &Same, HASHES, 5);
 }
 
 // Texts of which the lexer makes no doc comment of several lines, but for the first two.
-static TEXTS: [(&str, &str); 10] = [
+const TEXTS: &str = rows![
     ("a\n", "/**a\n*/\n"),
     ("a\n*", "/**a\n**/\n"),
     ("a\n*/", "#[doc = r\"a\n*/\"]"),
@@ -235,54 +233,49 @@ fn doc_of(alloc: Global, text: &str) -> Result<TopSubtree, AllocError> {
     Ok(builder.build())
 }
 
-#[test]
-fn a_text_of_no_comment_is_an_attribute(rt: HostRuntime) -> Result<(), Fail> {
-    for (text, want) in &TEXTS {
-        let tree = doc_of(rt.alloc(), text)?;
-        let mut writer = Writer::new(rt.alloc(), 0);
-        writer.trees(tree.iter().remaining())?;
-        let written = writer.into_text();
-        assert_eq!(rt; written.as_str(), *want, "{text:.99}");
+#[derive(Clone, Copy)]
+struct Docs;
+
+impl Rows for Docs {
+    fn is_so(&self, alloc: Global, [text, want, ..]: Fields) -> Result<bool, AllocError> {
+        Ok(written(alloc, &doc_of(alloc, text)?)?.as_str() == want)
     }
-    Ok(())
 }
 
 #[test]
-fn dots_stay(rt: HostRuntime) -> Result<(), Fail> {
-    are_written(&rt, rt.alloc(), Dialect::Rust(Edition::Edition2021), &DOTS)
+fn a_text_of_no_comment_is_an_attribute(rt: HostRuntime) {
+    each(&rt, rt.alloc(), &Docs, TEXTS, 10);
+}
+
+#[test]
+fn dots_stay(rt: HostRuntime) {
+    each(&rt, rt.alloc(), &Written(RUST), DOTS, 20);
 }
 
 // `1.a` is three tokens, of which the first two, before a group of another file, would be the number `1.`.
-#[test]
-fn a_number_before_a_dot(rt: HostRuntime) -> Result<(), Fail> {
-    let Ok(tree) = lex(rt.alloc(), "1.a", 0) else {
-        return Err(Fail::from("not lexed"));
-    };
-    let mut writer = Writer::new(rt.alloc(), 0);
+fn is_number_and_dot(alloc: Global) -> Result<bool, AllocError> {
+    let tree = read(alloc, Dialect::Sample, "1.a", 0)?;
+    let mut writer = Writer::new(alloc, 0);
     let mut iter = tree.iter();
     for _ in 0..2 {
         if let Some(tree) = iter.next_as_view() {
             writer.trees(tree)?;
         }
     }
-    write(&rt, rt.alloc(), &mut writer, Dialect::Sample, 1, "(2)")?;
-    let text = writer.into_text();
-    assert_eq!(rt; text.as_str(), "1 .(2)");
-    Ok(())
+    write(alloc, &mut writer, Dialect::Sample, 1, "(2)")?;
+    Ok(writer.into_text().as_str() == "1 .(2)")
 }
 
 #[test]
-fn lines_are_indented(rt: HostRuntime) -> Result<(), Fail> {
-    let mut writer = Writer::new(rt.alloc(), 1);
-    write(
+fn a_number_before_a_dot(rt: HostRuntime) {
+    holds(&rt, is_number_and_dot(rt.alloc()));
+}
+
+#[test]
+fn lines_are_indented(rt: HostRuntime) {
+    let want = "a;\n    {\n        b;\n        c\n    }";
+    holds(
         &rt,
-        rt.alloc(),
-        &mut writer,
-        Dialect::Sample,
-        0,
-        "a;~{b; c}",
-    )?;
-    let text = writer.into_text();
-    assert_eq!(rt; text.as_str(), "a;\n    {\n        b;\n        c\n    }");
-    Ok(())
+        is_text(rt.alloc(), (Dialect::Sample, 1), "a;~{b; c}", want),
+    );
 }

@@ -14,6 +14,7 @@ use mbe_tt::span::Edition;
 use mbe_tt::symbol::Symbol;
 use mbe_tt::tt::{Leaf, TokenTreesView, TopSubtree, TtElement};
 use std::alloc::{AllocError, Allocator, Global};
+use test_rows::number;
 
 /// What becomes of a match: the verdict, how many trees are left where it stopped, how many names are bound, and what one
 /// name is bound to.
@@ -34,24 +35,67 @@ pub fn trees_of<A: Allocator + Copy>(
     if text.len() > 100_000_000 {
         return Err(AllocError);
     }
-    lex(alloc, text, file).map_err(|_error| AllocError)
+    match lex(alloc, text, file) {
+        Ok(tree) => Ok(tree),
+        Err(_) => Err(AllocError),
+    }
 }
 
-// The rule of a pattern. No pattern of a test has a fault.
-fn rule_of<A: Allocator + Copy>(alloc: A, pattern: &TopSubtree<A>) -> Result<Rule<A>, AllocError> {
+/// The match of texts.
+pub fn matched_texts<A: Allocator + Copy>(
+    alloc: A,
+    pattern: &str,
+    argument: &str,
+    name: &str,
+) -> Result<Option<Outcome<A>>, AllocError> {
+    let pattern = trees_of(alloc, 0, pattern)?;
+    let argument = trees_of(alloc, 1, argument)?;
+    matched(alloc, &pattern, &argument, name)
+}
+
+// A verdict, as `one`, `many`, `stuck 1` and `ambiguous 0`.
+fn verdict_of(want: &str) -> Verdict {
+    match want.split_once(' ') {
+        Some(("stuck", place)) => Verdict::Stuck(number(place)),
+        Some((_ambiguous, place)) => Verdict::Ambiguous(number(place)),
+        None if want == "one" => Verdict::OneReading,
+        None => Verdict::ManyReadings,
+    }
+}
+
+/// Whether a match comes to that verdict, with so many trees left where it stopped.
+pub fn comes_to<A: Allocator>(outcome: Option<Outcome<A>>, verdict: &str, left: &str) -> bool {
+    match outcome {
+        Some(outcome) => {
+            outcome.verdict == verdict_of(verdict) && outcome.unmatched == number(left)
+        }
+        None => false,
+    }
+}
+
+/// A pattern. No pattern of a test has a fault.
+pub fn template_of<A: Allocator + Copy>(
+    alloc: A,
+    pattern: &TopSubtree<A>,
+) -> Result<MetaTemplate<A>, AllocError> {
     match parse_template(
         alloc,
         |_| Edition::Edition2024,
         pattern.iter(),
         Mode::Pattern,
     ) {
-        Ok(lhs) => Ok(Rule {
-            style: MacroCallStyle::FnLike,
-            lhs,
-            rhs: MetaTemplate(Vec::new(alloc)),
-        }),
+        Ok(template) => Ok(template),
         Err(_error) => Err(AllocError),
     }
+}
+
+// The rule of a pattern.
+fn rule_of<A: Allocator + Copy>(alloc: A, pattern: &TopSubtree<A>) -> Result<Rule<A>, AllocError> {
+    Ok(Rule {
+        style: MacroCallStyle::FnLike,
+        lhs: template_of(alloc, pattern)?,
+        rhs: MetaTemplate(Vec::new(alloc)),
+    })
 }
 
 /// The match of an argument against a pattern, and what it binds the name to. `None` if the pattern is refused.

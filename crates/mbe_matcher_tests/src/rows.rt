@@ -1,258 +1,126 @@
 // Patterns and arguments, each with the verdict that the definition of a match gives.
-use crate::matches::{Outcome, matched, trees_of};
+use crate::matches::{comes_to, matched_texts};
 use mbe_matcher::matching::Verdict;
-use refusing::Refusing;
-use std::alloc::{AllocError, Allocator, Global};
-use std::process::Abort;
-use std::test::Fail;
+use std::alloc::{AllocError, Allocator};
+use test_rows::{AnyRows, Fields, each_of_any, each_refused, number, rows};
 
-/// What becomes of a match.
-enum Want {
-    /// The verdict, and how many trees are left where the match stops.
-    Stops(Verdict, usize),
-    /// There is one reading, which binds so many names, and this one to that.
-    Binds(usize, &'static str, &'static str),
-    /// There is no only reading, and what is reported binds this name to that.
-    Reports(&'static str, &'static str),
-}
+// The verdict, and how many trees are left where the match stops.
+#[derive(Clone, Copy)]
+struct Stops;
 
-impl Want {
-    // The name that is asked for.
-    fn name(&self) -> &'static str {
-        match *self {
-            Want::Stops(_, _) => "",
-            Want::Binds(_, name, _) | Want::Reports(name, _) => name,
-        }
-    }
-
-    fn is_met<A: Allocator>(&self, outcome: &Outcome<A>) -> bool {
-        match *self {
-            Want::Stops(verdict, unmatched) => {
-                outcome.verdict == verdict && outcome.unmatched == unmatched
-            }
-            Want::Binds(names, _, bound) => {
-                outcome.verdict == Verdict::OneReading
-                    && outcome.names == names
-                    && outcome.bound.as_str() == bound
-            }
-            Want::Reports(_, bound) => {
-                outcome.verdict != Verdict::OneReading && outcome.bound.as_str() == bound
-            }
-        }
+impl AnyRows for Stops {
+    fn is_so<A: Allocator + Copy>(
+        &self,
+        alloc: A,
+        [pattern, argument, verdict, left, ..]: Fields,
+    ) -> Result<bool, AllocError> {
+        Ok(comes_to(matched_texts(alloc, pattern, argument, "")?, verdict, left))
     }
 }
 
-/// A pattern and an argument.
-struct Row {
-    texts: (&'static str, &'static str),
-    want: Want,
-}
+// A name that is bound, and to what. Where there is one reading, how many names are bound; nothing where there is no only reading, and
+// this is what is reported.
+#[derive(Clone, Copy)]
+struct Binds;
 
-impl Row {
-    fn is_right<A: Allocator + Copy>(&self, alloc: A) -> Result<bool, AllocError> {
-        let pattern = trees_of(alloc, 0, self.texts.0)?;
-        let argument = trees_of(alloc, 1, self.texts.1)?;
-        match matched(alloc, &pattern, &argument, self.want.name())? {
-            Some(outcome) => Ok(self.want.is_met(&outcome)),
-            None => Ok(false),
-        }
+impl AnyRows for Binds {
+    fn is_so<A: Allocator + Copy>(
+        &self,
+        alloc: A,
+        [pattern, argument, name, bound, names, ..]: Fields,
+    ) -> Result<bool, AllocError> {
+        let Some(outcome) = matched_texts(alloc, pattern, argument, name)? else {
+            return Ok(false);
+        };
+        let is_one = outcome.verdict == Verdict::OneReading;
+        let is_wanted = if names.is_empty() {
+            !is_one
+        } else {
+            is_one && outcome.names == number(names)
+        };
+        Ok(is_wanted && outcome.bound.as_str() == bound)
     }
 }
 
-fn assert_all(rt: &impl Abort, alloc: Global, rows: &[Row]) -> Result<(), Fail> {
-    for row in rows {
-        assert!(rt; row.is_right(alloc)?, "{} on {}", row.texts.0, row.texts.1);
-    }
-    Ok(())
-}
-
-static REPETITIONS: [Row; 13] = [
-    Row {
-        texts: ("$( b $(x)? )x*", "b x b"),
-        want: Want::Stops(Verdict::OneReading, 0),
-    },
-    Row {
-        texts: ("$(a)+*", "a *"),
-        want: Want::Stops(Verdict::OneReading, 0),
-    },
-    Row {
-        texts: ("$(a),?", "a"),
-        want: Want::Stops(Verdict::OneReading, 0),
-    },
-    Row {
-        texts: ("$(a),?", "a,"),
-        want: Want::Stops(Verdict::Stuck(1), 1),
-    },
-    Row {
-        texts: ("$(a);;*", "a"),
-        want: Want::Stops(Verdict::OneReading, 0),
-    },
-    Row {
-        texts: ("$(a);;*", "a;;a"),
-        want: Want::Stops(Verdict::Stuck(1), 3),
-    },
-    Row {
-        texts: ("$(a)+", ""),
-        want: Want::Stops(Verdict::Stuck(0), 0),
-    },
-    Row {
-        texts: ("$(a),*", "a,"),
-        want: Want::Stops(Verdict::Stuck(2), 0),
-    },
-    Row {
-        texts: ("$(a)? $(a)?", "a"),
-        want: Want::Stops(Verdict::ManyReadings, 0),
-    },
-    Row {
-        texts: ("$($v:vis),*", ""),
-        want: Want::Stops(Verdict::ManyReadings, 0),
-    },
-    Row {
-        texts: ("$(),*", ""),
-        want: Want::Stops(Verdict::ManyReadings, 0),
-    },
-    Row {
-        texts: ("$(),*", ","),
-        want: Want::Stops(Verdict::OneReading, 0),
-    },
-    Row {
-        texts: ("($(a)*) b", "(a a) c"),
-        want: Want::Stops(Verdict::Stuck(4), 1),
-    },
+const REPETITIONS: &str = rows![
+    ("$( b $(x)? )x*", "b x b", "one", 0),
+    ("$(a)+*", "a *", "one", 0),
+    ("$(a),?", "a", "one", 0),
+    ("$(a),?", "a,", "stuck 1", 1),
+    ("$(a);;*", "a", "one", 0),
+    ("$(a);;*", "a;;a", "stuck 1", 3),
+    ("$(a)+", "", "stuck 0", 0),
+    ("$(a),*", "a,", "stuck 2", 0),
+    ("$(a)? $(a)?", "a", "many", 0),
+    ("$($v:vis),*", "", "many", 0),
+    ("$(),*", "", "many", 0),
+    ("$(),*", ",", "one", 0),
+    ("($(a)*) b", "(a a) c", "stuck 4", 1),
 ];
 
 #[test]
-fn repetitions_have_the_readings_of_their_definition(rt: HostRuntime) -> Result<(), Fail> {
-    assert_all(&rt, rt.alloc(), &REPETITIONS)
+fn repetitions_have_the_readings_of_their_definition(rt: HostRuntime) {
+    each_of_any(&rt, rt.alloc(), &Stops, REPETITIONS, 13);
 }
 
-static AMBIGUITIES: [Row; 2] = [
-    Row {
-        texts: ("$($t:ident),* as $ty:ident", "as u32"),
-        want: Want::Stops(Verdict::Ambiguous(0), 2),
-    },
-    Row {
-        texts: ("$($a:ident)* $b:ident", "x"),
-        want: Want::Stops(Verdict::Ambiguous(0), 1),
-    },
+const AMBIGUITIES: &str = rows![
+    ("$($t:ident),* as $ty:ident", "as u32", "ambiguous 0", 2),
+    ("$($a:ident)* $b:ident", "x", "ambiguous 0", 1),
 ];
 
 #[test]
-fn two_ways_to_go_on_by_a_fragment_are_ambiguous(rt: HostRuntime) -> Result<(), Fail> {
-    assert_all(&rt, rt.alloc(), &AMBIGUITIES)
+fn two_ways_to_go_on_by_a_fragment_are_ambiguous(rt: HostRuntime) {
+    each_of_any(&rt, rt.alloc(), &Stops, AMBIGUITIES, 2);
 }
 
 // Three positions or more meet before each of the repetitions. At the pattern's end the first of
 // them is reported, and where `a` fails the last.
-static REPORTS: [Row; 4] = [
-    Row {
-        texts: ("$(a)* $(a $(: $x:ident)?)* c", "a a a a c d"),
-        want: Want::Reports("x", "[----]"),
-    },
-    Row {
-        texts: ("$(a)* $(a $(: $x:ident)?)* c", "a a a"),
-        want: Want::Reports("x", "[--]"),
-    },
-    Row {
-        texts: ("$(a $(: $x:ident)?)* $(a)* c", "a a : p a a a c d"),
-        want: Want::Reports("x", "[-[p]-]"),
-    },
-    Row {
-        texts: ("$(a $(: $x:ident)?)* $(a)* c", "a a a"),
-        want: Want::Reports("x", "[-]"),
-    },
+const REPORTS: &str = rows![
+    ("$(a)* $(a $(: $x:ident)?)* c", "a a a a c d", "x", "[----]"),
+    ("$(a)* $(a $(: $x:ident)?)* c", "a a a", "x", "[--]"),
+    (
+        "$(a $(: $x:ident)?)* $(a)* c",
+        "a a : p a a a c d",
+        "x",
+        "[-[p]-]"
+    ),
+    ("$(a $(: $x:ident)?)* $(a)* c", "a a a", "x", "[-]"),
 ];
 
 #[test]
-fn where_positions_meet_the_first_or_the_last_is_reported(rt: HostRuntime) -> Result<(), Fail> {
-    assert_all(&rt, rt.alloc(), &REPORTS)
+fn where_positions_meet_the_first_or_the_last_is_reported(rt: HostRuntime) {
+    each_of_any(&rt, rt.alloc(), &Binds, REPORTS, 4);
 }
 
-static BINDINGS: [Row; 8] = [
-    Row {
-        texts: ("$($x:ident),* ; $y:tt", "a, b ; c"),
-        want: Want::Binds(2, "y", "c"),
-    },
-    Row {
-        texts: ("$($x:ident),* ; $y:tt", "a, b ; c"),
-        want: Want::Binds(2, "x", "[ab]"),
-    },
-    Row {
-        texts: ("$x:ident $($x:ident)*", "a b c"),
-        want: Want::Binds(1, "x", "a"),
-    },
-    Row {
-        texts: ("$($x:ident)* ; $x:ident", "a b ; c"),
-        want: Want::Binds(1, "x", "c"),
-    },
-    Row {
-        texts: ("$($x:ident),* ; $($x:ident),*", "a ; b, c"),
-        want: Want::Binds(1, "x", "[abc]"),
-    },
-    Row {
-        texts: ("$($x:ident),* ; $($x:ident),*", "; b"),
-        want: Want::Binds(1, "x", "-"),
-    },
-    Row {
-        texts: ("$($($x:ident)+);*", "a b; c"),
-        want: Want::Binds(1, "x", "[[ab][c]]"),
-    },
-    Row {
-        texts: ("$($($x:tt),*);*", "a, b; c"),
-        want: Want::Binds(1, "x", "[[ab][c]]"),
-    },
+const BINDINGS: &str = rows![
+    ("$($x:ident),* ; $y:tt", "a, b ; c", "y", "c", 2),
+    ("$($x:ident),* ; $y:tt", "a, b ; c", "x", "[ab]", 2),
+    ("$x:ident $($x:ident)*", "a b c", "x", "a", 1),
+    ("$($x:ident)* ; $x:ident", "a b ; c", "x", "c", 1),
+    ("$($x:ident),* ; $($x:ident),*", "a ; b, c", "x", "[abc]", 1),
+    ("$($x:ident),* ; $($x:ident),*", "; b", "x", "-", 1),
+    ("$($($x:ident)+);*", "a b; c", "x", "[[ab][c]]", 1),
+    ("$($($x:tt),*);*", "a, b; c", "x", "[[ab][c]]", 1),
 ];
 
 #[test]
-fn rounds_bind_in_order(rt: HostRuntime) -> Result<(), Fail> {
-    assert_all(&rt, rt.alloc(), &BINDINGS)
+fn rounds_bind_in_order(rt: HostRuntime) {
+    each_of_any(&rt, rt.alloc(), &Binds, BINDINGS, 8);
 }
 
-static REFUSED: [Row; 5] = [
-    Row {
-        texts: ("$( b $(x)? )x*", "b x b"),
-        want: Want::Stops(Verdict::OneReading, 0),
-    },
-    Row {
-        texts: ("$(a)? $(a)?", "a"),
-        want: Want::Stops(Verdict::ManyReadings, 0),
-    },
-    Row {
-        texts: ("$($a:ident)* $b:ident", "x"),
-        want: Want::Stops(Verdict::Ambiguous(0), 1),
-    },
-    Row {
-        texts: ("$($x:ident),* ; $y:tt", "a, b ; c"),
-        want: Want::Binds(2, "x", "[ab]"),
-    },
-    Row {
-        texts: ("$($x:ident),* ; $($x:ident),*", "; b"),
-        want: Want::Binds(1, "x", "-"),
-    },
+const REFUSED: &str = rows![
+    ("$( b $(x)? )x*", "b x b", "one", 0),
+    ("$(a)? $(a)?", "a", "many", 0),
+    ("$($a:ident)* $b:ident", "x", "ambiguous 0", 1),
 ];
 
-// Each request is refused once: out of memory, or the row's own answer.
-fn assert_each_refused(rt: &impl Abort, alloc: Global, row: &Row) -> Result<(), Fail> {
-    for request in 1..10_000u64 {
-        let alloc = Refusing::new(alloc, request);
-        match row.is_right(&alloc) {
-            Ok(is_right) => {
-                assert!(rt;
-                    is_right && !alloc.has_refused() && request > 10,
-                    "at {request}"
-                );
-                return Ok(());
-            }
-            Err(AllocError) => assert!(rt; alloc.has_refused(), "at {request}"),
-        }
-    }
-    Err(Fail::from("it goes on"))
-}
+const REFUSED_BINDINGS: &str = rows![
+    ("$($x:ident),* ; $y:tt", "a, b ; c", "x", "[ab]", 2),
+    ("$($x:ident),* ; $($x:ident),*", "; b", "x", "-", 1),
+];
 
 #[test]
-fn each_request_for_memory_refused(rt: HostRuntime) -> Result<(), Fail> {
-    for row in &REFUSED {
-        assert_each_refused(&rt, rt.alloc(), row)?;
-    }
-    Ok(())
+fn each_request_for_memory_refused(rt: HostRuntime) {
+    each_refused(&rt, rt.alloc(), &Stops, (REFUSED, 3), (10, false));
+    each_refused(&rt, rt.alloc(), &Binds, (REFUSED_BINDINGS, 2), (10, false));
 }

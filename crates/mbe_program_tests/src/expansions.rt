@@ -1,5 +1,5 @@
 // Fragments that the program's grammar finds, through a whole run and through `expect_fragment`.
-use crate::rows::is_row;
+use crate::rows::Worked;
 use mbe::{ExpandError, ExpandErrorKind, expect_fragment};
 use mbe_grammar::SampleGrammar;
 use mbe_text::lexer::lex;
@@ -7,41 +7,84 @@ use mbe_tt::grammar::PrefixEntryPoint;
 use mbe_tt::span::{DelimSpan, Edition, Span, SyntaxContext};
 use std::alloc::{AllocError, Global};
 use std::rc::Rc;
+use test_rows::{each, none, rows};
 
-const SIGNS: &str =
-    "\n(-1) => {-1};\n(- 2) => {- 2};\n(- 3.0) => {- 3.0};\n(@$lit:literal) => {$lit}\n";
-
-const ONE: &str = "  PUNCH   - [alone] 0@10..11\n  LITERAL Integer 1 0@11..12\n";
-
-const TWO: &str = "  PUNCH   - [alone] 0@25..26\n  LITERAL Integer 2 0@27..28\n";
-
-const THREE: &str = "  PUNCH   - [alone] 0@43..44\n  LITERAL Float 3.0 0@45..48\n";
-
-// A definition and an argument, the arm, and what is written: a sign belongs to its literal, and a type is written as it is.
-static WRITTEN: [(&str, &str, u32, &str); 11] = [
-    (SIGNS, "-1", 0, ONE),
-    (SIGNS, "- 1", 0, ONE),
-    (SIGNS, "-2", 1, TWO),
-    (SIGNS, "- 2", 1, TWO),
-    (SIGNS, "-3.0", 2, THREE),
-    (SIGNS, "- 3.0", 2, THREE),
-    (SIGNS, "@1", 3, "  LITERAL Integer 1 1@1..2\n"),
-    (SIGNS, "@1.0", 3, "  LITERAL Float 1.0 1@1..4\n"),
+// Rows as `Worked` takes them: a sign belongs to its literal, and a type is written as it is.
+const WRITTEN: &str = rows![
     (
-        SIGNS,
+        "\n(-1) => {-1};\n(- 2) => {- 2};\n(- 3.0) => {- 3.0};\n(@$lit:literal) => {$lit}\n",
+        "-1",
+        "",
+        0,
+        "  PUNCH   - [alone] 0@10..11\n  LITERAL Integer 1 0@11..12\n"
+    ),
+    (
+        "\n(-1) => {-1};\n(- 2) => {- 2};\n(- 3.0) => {- 3.0};\n(@$lit:literal) => {$lit}\n",
+        "- 1",
+        "",
+        0,
+        "  PUNCH   - [alone] 0@10..11\n  LITERAL Integer 1 0@11..12\n"
+    ),
+    (
+        "\n(-1) => {-1};\n(- 2) => {- 2};\n(- 3.0) => {- 3.0};\n(@$lit:literal) => {$lit}\n",
+        "-2",
+        "",
+        1,
+        "  PUNCH   - [alone] 0@25..26\n  LITERAL Integer 2 0@27..28\n"
+    ),
+    (
+        "\n(-1) => {-1};\n(- 2) => {- 2};\n(- 3.0) => {- 3.0};\n(@$lit:literal) => {$lit}\n",
+        "- 2",
+        "",
+        1,
+        "  PUNCH   - [alone] 0@25..26\n  LITERAL Integer 2 0@27..28\n"
+    ),
+    (
+        "\n(-1) => {-1};\n(- 2) => {- 2};\n(- 3.0) => {- 3.0};\n(@$lit:literal) => {$lit}\n",
+        "-3.0",
+        "",
+        2,
+        "  PUNCH   - [alone] 0@43..44\n  LITERAL Float 3.0 0@45..48\n"
+    ),
+    (
+        "\n(-1) => {-1};\n(- 2) => {- 2};\n(- 3.0) => {- 3.0};\n(@$lit:literal) => {$lit}\n",
+        "- 3.0",
+        "",
+        2,
+        "  PUNCH   - [alone] 0@43..44\n  LITERAL Float 3.0 0@45..48\n"
+    ),
+    (
+        "\n(-1) => {-1};\n(- 2) => {- 2};\n(- 3.0) => {- 3.0};\n(@$lit:literal) => {$lit}\n",
+        "@1",
+        "",
+        3,
+        "  LITERAL Integer 1 1@1..2\n"
+    ),
+    (
+        "\n(-1) => {-1};\n(- 2) => {- 2};\n(- 3.0) => {- 3.0};\n(@$lit:literal) => {$lit}\n",
+        "@1.0",
+        "",
+        3,
+        "  LITERAL Float 1.0 1@1..4\n"
+    ),
+    (
+        "\n(-1) => {-1};\n(- 2) => {- 2};\n(- 3.0) => {- 3.0};\n(@$lit:literal) => {$lit}\n",
         "@-1",
+        "",
         3,
         "  PUNCH   - [alone] 1@1..2\n  LITERAL Integer 1 1@2..3\n",
     ),
     (
-        SIGNS,
+        "\n(-1) => {-1};\n(- 2) => {- 2};\n(- 3.0) => {- 3.0};\n(@$lit:literal) => {$lit}\n",
         "@-1.0",
+        "",
         3,
         "  PUNCH   - [alone] 1@1..2\n  LITERAL Float 1.0 1@2..5\n",
     ),
     (
         "($t:ty) => {$t}",
         "&'a [u8]",
+        "",
         0,
         "  PUNCH   & [alone] 1@0..1
   PUNCH   ' [joint] 1@1..2
@@ -52,24 +95,9 @@ static WRITTEN: [(&str, &str, u32, &str); 11] = [
     ),
 ];
 
-fn is_written(
-    alloc: Global,
-    &(definition, argument, arm, trees): &(&str, &str, u32, &str),
-) -> Result<bool, AllocError> {
-    let texts = (definition, argument);
-    is_row(alloc, Edition::Edition2024, texts, ("", arm, trees))
-}
-
 #[test]
 fn fragments_are_written(rt: HostRuntime) {
-    for row in &WRITTEN {
-        assert!(rt;
-            is_written(rt.alloc(), row).unwrap_or(false),
-            "{} on {}",
-            row.0,
-            row.1
-        );
-    }
+    each(&rt, rt.alloc(), &Worked(Edition::Edition2024), WRITTEN, 11);
 }
 
 fn at(start: u32, end: u32) -> Span {
@@ -131,6 +159,7 @@ fn error(alloc: Global, reported: Option<&str>) -> Result<Option<ExpandError>, A
 #[test]
 fn fronts_of_the_grammar(rt: HostRuntime) {
     for row in &FRONTS {
-        assert!(rt; is_front(rt.alloc(), row).unwrap_or(false), "{}", row.1);
+        let is_so = is_front(rt.alloc(), row).unwrap_or(false);
+        none(&rt, (!is_so).then_some(row.1));
     }
 }

@@ -1,98 +1,107 @@
 // How each rule of a definition reads an argument, as the program writes it.
 use crate::memory::first_unneeded;
-use crate::reports::SIGNS;
-use crate::rows::LIST;
 use crate::runs::{first_unwritten, prints};
 use mbe_tt::span::Edition;
+use std::alloc::{AllocError, Global};
+use test_rows::{Fields, Rows, each, number, rows};
 
-/// A definition and an argument, and the lines.
-type Lint = ((&'static str, &'static str), &'static str);
-
-static LINTS: [Lint; 14] = [
+// A definition and an argument, and the lines.
+const LINTS: &str = rows![
     // A further name and the word `as` both go on at the start.
     (
-        ("($($t:ident),* as $ty:ident) => {}", "as u32"),
+        "($($t:ident),* as $ty:ident) => {}", "as u32",
         "rule 0: ambiguous at 0\n",
     ),
-    (("($(a)? $(a)?) => {}", "a"), "rule 0: several readings\n"),
+    ("($(a)? $(a)?) => {}", "a", "rule 0: several readings\n"),
     (
-        (LIST, "\n    _,\n    const { 1 },\n"),
+        "\n($($e:expr),* $(,)?) => {\n    $($e);* ;\n};\n", "\n    _,\n    const { 1 },\n",
         "rule 0: one reading\n",
     ),
     // No round, and one empty round.
-    (("($($v:vis),*) => {}", ""), "rule 0: several readings\n"),
+    ("($($v:vis),*) => {}", "", "rule 0: several readings\n"),
     // A fault of the template is no matter of matching.
     (
-        ("($x:ident) => {$($x)*}; ($x:ident) => {$x}", "a"),
+        "($x:ident) => {$($x)*}; ($x:ident) => {$x}", "a",
         "rule 0: one reading\nrule 1: one reading\n",
     ),
     (
-        ("($x:ident = $t:tt;) => { pair ($t) $x }", "a = 1"),
+        "($x:ident = $t:tt;) => { pair ($t) $x }", "a = 1",
         "rule 0: stuck at 3\n",
     ),
     (
-        ("($x:foo) => {}; ($($t:tt)*) => {}", "a"),
+        "($x:foo) => {}; ($($t:tt)*) => {}", "a",
         "rule 0: stuck at 0\nrule 1: one reading\n",
     ),
     (
-        (SIGNS, "@--1.0"),
+        "\n(-1) => {-1};\n(- 2) => {- 2};\n(- 3.0) => {- 3.0};\n(@$lit:literal) => {$lit}\n", "@--1.0",
         "rule 0: stuck at 0\nrule 1: stuck at 0\nrule 2: stuck at 0\nrule 3: stuck at 1\n",
     ),
     // The opening counts as a token.
-    (("((a b)) => {}", "(a c)"), "rule 0: stuck at 2\n"),
+    ("((a b)) => {}", "(a c)", "rule 0: stuck at 2\n"),
     (
-        ("($($a:ident)* $b:ident) => {}", "x"),
+        "($($a:ident)* $b:ident) => {}", "x",
         "rule 0: ambiguous at 0\n",
     ),
     // Rules of all styles, and none.
     (
-        ("attr() (a) => {}; derive() (b) => {}; (c) => {}", "b"),
+        "attr() (a) => {}; derive() (b) => {}; (c) => {}", "b",
         "rule 0: stuck at 0\nrule 1: one reading\nrule 2: stuck at 0\n",
     ),
-    (("", "a"), ""),
+    ("", "a", ""),
     // The first of two ambiguous positions, in two digits.
     (
-        (
+        
             "(a a a a a a a a a a $($x:ident)* b $($y:ident)* c) => {}",
-            "a a a a a a a a a a b c",
-        ),
+            "a a a a a a a a a a b c"
+        ,
         "rule 0: ambiguous at 10\n",
     ),
     // So does the closing.
-    (("([$x:ident] b) => {}", "[x] c"), "rule 0: stuck at 3\n"),
+    ("([$x:ident] b) => {}", "[x] c", "rule 0: stuck at 3\n"),
 ];
 
 // Each request of a run is refused once, and each write fails once.
-#[test]
-fn lints_are_printed(rt: HostRuntime) {
-    for &(texts, want) in &LINTS {
-        let is_so = prints(rt.alloc(), texts, (Edition::Edition2024, true), (want, 0));
-        assert!(rt; is_so, "{}", texts.0);
-        let request = first_unneeded(rt.alloc(), texts, true, (want, 0));
-        let write = first_unwritten(rt.alloc(), texts, true, want);
-        assert!(rt;
-            request.unwrap_or(0) > 1 && write.unwrap_or(0) > 1,
-            "{}",
-            texts.0
-        );
+#[derive(Clone, Copy)]
+struct Lints;
+
+impl Rows for Lints {
+    fn is_so(&self, alloc: Global, [def, arg, want, ..]: Fields) -> Result<bool, AllocError> {
+        let texts = (def, arg);
+        let request = first_unneeded(alloc, texts, true, (want, 0));
+        let write = first_unwritten(alloc, texts, true, want);
+        let is_so = prints(alloc, texts, (Edition::Edition2024, true), (want, 0));
+        Ok(is_so && request.unwrap_or(0) > 1 && write.unwrap_or(0) > 1)
     }
 }
 
+#[test]
+fn lints_are_printed(rt: HostRuntime) {
+    each(&rt, rt.alloc(), &Lints, LINTS, 14);
+}
+
 // Texts that come to no verdicts, and the status.
-static FAILURES: [(&str, &str, u8); 4] = [
+const FAILURES: &str = rows![
     ("() => {} x", "", 2),
     ("($()*) => {}", "", 2),
     ("(a ` b) => {}", "'", 4),
     ("", "'", 4),
 ];
 
+#[derive(Clone, Copy)]
+struct Refused;
+
+impl Rows for Refused {
+    fn is_so(&self, alloc: Global, [def, arg, status, ..]: Fields) -> Result<bool, AllocError> {
+        let mode = (Edition::Edition2024, true);
+        Ok(prints(alloc, (def, arg), mode, ("", status_of(status))))
+    }
+}
+
+fn status_of(field: &str) -> u8 {
+    u8::try_from(number(field)).unwrap_or(u8::MAX)
+}
+
 #[test]
 fn what_is_refused_has_no_lines(rt: HostRuntime) {
-    for &(def, arg, status) in &FAILURES {
-        let how = (Edition::Edition2024, true);
-        assert!(rt;
-            prints(rt.alloc(), (def, arg), how, ("", status)),
-            "{def} on {arg}"
-        );
-    }
+    each(&rt, rt.alloc(), &Refused, FAILURES, 4);
 }

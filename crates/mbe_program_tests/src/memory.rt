@@ -1,10 +1,11 @@
 // What is done where a request for memory is refused.
-use crate::rows::{Row, none, printed};
+use crate::rows::printed;
 use crate::runs::ran;
 use crate::{reports, rows};
 use mbe_tt::span::Edition;
 use refusing::Refusing;
 use std::alloc::{AllocError, Global};
+use test_rows::{Fields, Rows, each};
 
 /// The number of the first request that a run doesn't make, if each other one, refused alone, ends it out of memory with
 /// nothing printed, and the run without a refusal prints that with that status.
@@ -29,29 +30,25 @@ pub fn first_unneeded(
     None
 }
 
-// Whether that is so of a row, after ten requests at least.
-fn is_refused(alloc: Global, &(texts, error, arm, trees): &Row) -> Result<bool, AllocError> {
-    let (want, status) = printed(alloc, texts.1, (error, arm, trees))?;
-    let number = first_unneeded(alloc, texts, false, (want.as_str(), status));
-    Ok(number.unwrap_or(0) > 10)
-}
+// That is so of each row, after ten requests at least.
+#[derive(Clone, Copy)]
+struct Unneeded;
 
-// The texts of the first row of which it isn't so.
-fn first_unrefused(
-    alloc: Global,
-    rows: &[Row],
-) -> Result<Option<(&'static str, &'static str)>, AllocError> {
-    for row in rows {
-        if !is_refused(alloc, row)? {
-            return Ok(Some(row.0));
-        }
+impl Rows for Unneeded {
+    fn is_so(
+        &self,
+        alloc: Global,
+        [def, arg, error, arm, trees, ..]: Fields,
+    ) -> Result<bool, AllocError> {
+        let (want, status) = printed(alloc, arg, (error, arm, trees))?;
+        let number = first_unneeded(alloc, (def, arg), false, (want.as_str(), status));
+        Ok(number.unwrap_or(0) > 10)
     }
-    Ok(None)
 }
 
 #[test]
 fn a_refused_request_is_out_of_memory(rt: HostRuntime) {
-    none(&rt, first_unrefused(rt.alloc(), rows::worked()));
-    none(&rt, first_unrefused(rt.alloc(), rows::recovered()));
-    none(&rt, first_unrefused(rt.alloc(), reports::recovered()));
+    each(&rt, rt.alloc(), &Unneeded, rows::WORKED, 13);
+    each(&rt, rt.alloc(), &Unneeded, rows::RECOVERED, 10);
+    each(&rt, rt.alloc(), &Unneeded, reports::RECOVERED, 4);
 }

@@ -1,111 +1,112 @@
 // Runs on random texts, and on random rules with repetitions.
 ghost use Rattle.std.specs.Prelude.{◌<◌};
 
-use crate::rows::none;
 use crate::runs::ends;
 use mbe_grammar::SampleGrammar;
 use mbe_text::lexer::lex;
 use mbe_tt::grammar::{FragmentGrammar, PrefixEntryPoint};
 use std::alloc::{AllocError, Global};
+use std::process::Abort;
 use std::time::{CpuClock, Duration};
+use test_rows::{nth, rows};
 
-const PIECES: [&str; 96] = [
-    "(",
-    ")",
-    "[",
-    "]",
-    "{",
-    "}",
-    "$",
-    "$x:ident",
-    "$t:tt",
-    "$x",
-    "$t",
-    ":",
-    "=>",
-    ";",
-    ",",
-    "x",
-    "r#x",
-    "crate ",
-    "_",
-    "1",
-    "1.0",
-    "0x",
-    "\"",
-    "'",
-    "\\",
-    "//",
-    "/*",
-    "*/",
-    "\n",
-    " ",
-    "é",
-    "\u{0}",
-    "$e:expr",
-    "$t:ty",
-    "$p:pat",
-    "$p:path",
-    "$s:stmt",
-    "$b:block",
-    "$m:meta",
-    "$i:item",
-    "$v:vis",
-    "$l:lifetime",
-    "$l:literal",
-    "$(",
-    "),*",
-    ")?",
-    "let ",
-    "mut ",
-    "ref ",
-    "pub ",
-    "self ",
-    "in ",
-    "const ",
-    "unsafe ",
-    "break ",
-    "return ",
-    "true ",
-    "use ",
-    "static ",
-    "fn ",
-    "struct ",
-    "impl ",
-    "'a ",
-    "'b'",
-    "'\\n'",
-    "1.5",
-    "1e5",
-    "2u8",
-    "\"s\"",
-    "&",
-    "*",
-    "<",
-    ">",
-    "::",
-    "->",
-    "!",
-    "?",
-    ".",
-    "..",
-    "=",
-    "==",
-    "+",
-    "-",
-    "|",
-    "&&",
-    "<<=",
-    "{ }",
-    "( )",
-    "[ ]",
-    "(x, y)",
-    "{ x }",
-    "::<x>",
-    "x::y",
-    "x.y()",
-    "x + 1",
-    ": u8",
+const PIECES: &str = rows![
+    ("("),
+    (")"),
+    ("["),
+    ("]"),
+    ("{"),
+    ("}"),
+    ("$"),
+    ("$x:ident"),
+    ("$t:tt"),
+    ("$x"),
+    ("$t"),
+    (":"),
+    ("=>"),
+    (";"),
+    (","),
+    ("x"),
+    ("r#x"),
+    ("crate "),
+    ("_"),
+    ("1"),
+    ("1.0"),
+    ("0x"),
+    ("\""),
+    ("'"),
+    ("\\"),
+    ("//"),
+    ("/*"),
+    ("*/"),
+    ("\n"),
+    (" "),
+    ("é"),
+    ("\u{0}"),
+    ("$e:expr"),
+    ("$t:ty"),
+    ("$p:pat"),
+    ("$p:path"),
+    ("$s:stmt"),
+    ("$b:block"),
+    ("$m:meta"),
+    ("$i:item"),
+    ("$v:vis"),
+    ("$l:lifetime"),
+    ("$l:literal"),
+    ("$("),
+    ("),*"),
+    (")?"),
+    ("let "),
+    ("mut "),
+    ("ref "),
+    ("pub "),
+    ("self "),
+    ("in "),
+    ("const "),
+    ("unsafe "),
+    ("break "),
+    ("return "),
+    ("true "),
+    ("use "),
+    ("static "),
+    ("fn "),
+    ("struct "),
+    ("impl "),
+    ("'a "),
+    ("'b'"),
+    ("'\\n'"),
+    ("1.5"),
+    ("1e5"),
+    ("2u8"),
+    ("\"s\""),
+    ("&"),
+    ("*"),
+    ("<"),
+    (">"),
+    ("::"),
+    ("->"),
+    ("!"),
+    ("?"),
+    ("."),
+    (".."),
+    ("="),
+    ("=="),
+    ("+"),
+    ("-"),
+    ("|"),
+    ("&&"),
+    ("<<="),
+    ("{ }"),
+    ("( )"),
+    ("[ ]"),
+    ("(x, y)"),
+    ("{ x }"),
+    ("::<x>"),
+    ("x::y"),
+    ("x.y()"),
+    ("x + 1"),
+    (": u8"),
 ];
 
 /// Numbers that look random, from a seed.
@@ -129,7 +130,7 @@ impl Numbers {
         let mut text = String::new(alloc);
         for _ in 0..self.below(12) {
             if is_of_pieces {
-                text.push_str(PIECES[self.below(96) as usize])?;
+                text.push_str(nth(PIECES, self.below(96)))?;
             } else if let Some(char) = char::from_u32(self.below(0x11_0000) as u32) {
                 text.push(char)?;
             }
@@ -190,6 +191,10 @@ fn unended(
     Ok(Some(format!(in alloc; "{rule} on {arg}")?))
 }
 
+fn none(rt: &impl Abort, wrong: Result<Option<String>, AllocError>) {
+    assert!(rt; matches!(wrong, Ok(None)), "{wrong:?}");
+}
+
 #[test]
 fn random_texts_end(rt: HostRuntime) {
     let mut numbers = Numbers(1);
@@ -198,68 +203,104 @@ fn random_texts_end(rt: HostRuntime) {
     }
 }
 
-const OPS: [&str; 24] = [
-    "a ",
-    "b ",
-    "1 ",
-    ", ",
-    "; ",
-    "=> ",
-    "'a ",
-    "(a) ",
-    "[$x:ident] ",
-    "($y:tt) ",
-    "$x:ident ",
-    "$x:ident ",
-    "$y:ident ",
-    "$y:tt ",
-    "$z:literal ",
-    "$z:lifetime ",
-    "$v:vis ",
-    "$e:expr ",
-    "$e:expr_2021 ",
-    "$t:ty ",
-    "$p:path ",
-    "$q:pat ",
-    "$b:block ",
-    "$u:unknown ",
+const OPS: &str = rows![
+    ("a "),
+    ("b "),
+    ("1 "),
+    (", "),
+    ("; "),
+    ("=> "),
+    ("'a "),
+    ("(a) "),
+    ("[$x:ident] "),
+    ("($y:tt) "),
+    ("$x:ident "),
+    ("$x:ident "),
+    ("$y:ident "),
+    ("$y:tt "),
+    ("$z:literal "),
+    ("$z:lifetime "),
+    ("$v:vis "),
+    ("$e:expr "),
+    ("$e:expr_2021 "),
+    ("$t:ty "),
+    ("$p:path "),
+    ("$q:pat "),
+    ("$b:block "),
+    ("$u:unknown "),
 ];
 
-const SUFFIXES: [&str; 16] = [
-    "* ", "+ ", "? ", ",* ", ",+ ", ",? ", ";* ", ";+ ", "a* ", "b+ ", "1* ", "=>* ", "'a* ",
-    ";;* ", "b? ", "* ",
+const SUFFIXES: &str = rows![
+    ("* "),
+    ("+ "),
+    ("? "),
+    (",* "),
+    (",+ "),
+    (",? "),
+    (";* "),
+    (";+ "),
+    ("a* "),
+    ("b+ "),
+    ("1* "),
+    ("=>* "),
+    ("'a* "),
+    (";;* "),
+    ("b? "),
+    ("* "),
 ];
 
-const WRITTEN: [&str; 24] = [
-    "a ",
-    "1 ",
-    ", ",
-    "[$x] ",
-    "$x ",
-    "$x ",
-    "$y ",
-    "$y ",
-    "$z ",
-    "$v ",
-    "$e ",
-    "$t ",
-    "$p ",
-    "$q ",
-    "$b ",
-    "$w ",
-    "${count($x)} ",
-    "${count($y, 1)} ",
-    "${ignore($x)} ",
-    "${index()} ",
-    "${len()} ",
-    "${len(1)} ",
-    "${concat($x, a)} ",
-    "${concat($y, $z)} ",
+const WRITTEN: &str = rows![
+    ("a "),
+    ("1 "),
+    (", "),
+    ("[$x] "),
+    ("$x "),
+    ("$x "),
+    ("$y "),
+    ("$y "),
+    ("$z "),
+    ("$v "),
+    ("$e "),
+    ("$t "),
+    ("$p "),
+    ("$q "),
+    ("$b "),
+    ("$w "),
+    ("${count($x)} "),
+    ("${count($y, 1)} "),
+    ("${ignore($x)} "),
+    ("${index()} "),
+    ("${len()} "),
+    ("${len(1)} "),
+    ("${concat($x, a)} "),
+    ("${concat($y, $z)} "),
 ];
 
-const WORDS: [&str; 24] = [
-    "a ", "a ", "a ", "b ", "b ", "c ", "1 ", "1 ", ", ", ", ", "; ", "; ", "=> ", "'a ", "(a) ",
-    "[b] ", "(1 2) ", "pub ", "_ ", "a + 1 ", "x::y ", "{} ", "&u8 ", "-2 ",
+const WORDS: &str = rows![
+    ("a "),
+    ("a "),
+    ("a "),
+    ("b "),
+    ("b "),
+    ("c "),
+    ("1 "),
+    ("1 "),
+    (", "),
+    (", "),
+    ("; "),
+    ("; "),
+    ("=> "),
+    ("'a "),
+    ("(a) "),
+    ("[b] "),
+    ("(1 2) "),
+    ("pub "),
+    ("_ "),
+    ("a + 1 "),
+    ("x::y "),
+    ("{} "),
+    ("&u8 "),
+    ("-2 "),
 ];
 
 impl Numbers {
@@ -267,7 +308,7 @@ impl Numbers {
     fn pieces(
         &mut self,
         alloc: Global,
-        pieces: &[&str; 24],
+        pieces: &'static str,
         repeats: bool,
     ) -> Result<String, AllocError> {
         let mut done = String::new(alloc);
@@ -275,13 +316,13 @@ impl Numbers {
         for _ in 0..self.below(10) {
             let turn = self.below(6);
             if repeats && turn == 0 {
-                let suffix = SUFFIXES[self.below(16) as usize];
+                let suffix = nth(SUFFIXES, self.below(16));
                 body = format!(in alloc; "$({body}){suffix}")?;
             } else if turn == 1 {
                 done.push_str(body.as_str())?;
                 body = String::new(alloc);
             } else {
-                body.push_str(pieces[self.below(24) as usize])?;
+                body.push_str(nth(pieces, self.below(24)))?;
             }
         }
         done.push_str(body.as_str())?;
@@ -292,8 +333,8 @@ impl Numbers {
     fn rules(&mut self, alloc: Global) -> Result<String, AllocError> {
         let mut rules = String::new(alloc);
         for _ in 0..=self.below(3) {
-            let pattern = self.pieces(alloc, &OPS, true)?;
-            let template = self.pieces(alloc, &WRITTEN, true)?;
+            let pattern = self.pieces(alloc, OPS, true)?;
+            let template = self.pieces(alloc, WRITTEN, true)?;
             rules = format!(in alloc; "{rules}({pattern}) => {{{template}}};\n")?;
         }
         Ok(rules)
@@ -322,7 +363,7 @@ fn first_endless<R: CpuClock>(
 ) -> Result<Option<String>, AllocError> {
     let rules = numbers.rules(alloc)?;
     for _ in 0..4u64 {
-        let argument = numbers.pieces(alloc, &WORDS, false)?;
+        let argument = numbers.pieces(alloc, WORDS, false)?;
         if !ends_within_a_second(rt, alloc, (rules.as_str(), argument.as_str())) {
             return Ok(Some(format!(in alloc; "{rules} on {argument}")?));
         }

@@ -2,27 +2,32 @@
 use crate::runs::prints;
 use mbe_tt::span::Edition;
 use std::alloc::{AllocError, Global};
-use std::fmt::Debug;
 use std::process::Abort;
+use test_rows::{Fields, Rows, each, rows, spelled};
 
-/// A definition and an argument, the error with its place, if there is one, the arm, and the trees of the expansion.
-pub type Row = (
-    (&'static str, &'static str),
-    &'static str,
-    u32,
-    &'static str,
-);
+/// Rows of a definition and an argument, the error with its place, if there is one, the arm, and the trees of the expansion.
+#[derive(Clone, Copy)]
+pub struct Worked(pub Edition);
 
-/// No row is otherwise. A failure shows the first that is.
-pub fn none<T: Debug + Drop>(rt: &impl Abort, wrong: Result<Option<T>, AllocError>) {
-    assert!(rt; matches!(wrong, Ok(None)), "{wrong:?}");
+impl Rows for Worked {
+    fn is_so(
+        &self,
+        alloc: Global,
+        [definition, argument, error, arm, trees, ..]: Fields,
+    ) -> Result<bool, AllocError> {
+        let definition = spelled(alloc, definition)?;
+        let argument = spelled(alloc, argument)?;
+        let trees = spelled(alloc, trees)?;
+        let texts = (definition.as_str(), argument.as_str());
+        is_row(alloc, self.0, texts, (error, arm, trees.as_str()))
+    }
 }
 
 /// What is printed, and the status.
 pub fn printed(
     alloc: Global,
     argument: &str,
-    (error, arm, trees): (&str, u32, &str),
+    (error, arm, trees): (&str, &str, &str),
 ) -> Result<(String, u8), AllocError> {
     let end = argument.len();
     let rest = format!(in alloc; "arm {arm}\nSUBTREE $$ 1@0..{end} 1@0..{end}\n{trees}")?;
@@ -37,33 +42,26 @@ pub fn is_row(
     alloc: Global,
     edition: Edition,
     texts: (&str, &str),
-    want: (&str, u32, &str),
+    want: (&str, &str, &str),
 ) -> Result<bool, AllocError> {
     let (want, status) = printed(alloc, texts.1, want)?;
     Ok(prints(alloc, texts, (edition, false), (want.as_str(), status)))
 }
 
-/// The texts of the first row of which that isn't so.
-pub fn first_wrong(
-    alloc: Global,
-    edition: Edition,
-    rows: &[Row],
-) -> Result<Option<(&'static str, &'static str)>, AllocError> {
-    for &(texts, error, arm, trees) in rows {
-        if !is_row(alloc, edition, texts, (error, arm, trees))? {
-            return Ok(Some(texts));
-        }
+/// A table of such rows, how many they are, and their edition.
+pub type Table = (Edition, &'static str, usize);
+
+/// Each row of the tables is as it says. A failure shows the first that isn't.
+pub fn all(rt: &impl Abort, alloc: Global, tables: &[Table]) {
+    for &(edition, rows, count) in tables {
+        each(rt, alloc, &Worked(edition), rows, count);
     }
-    Ok(None)
 }
 
-pub const LIST: &str = "\n($($e:expr),* $(,)?) => {\n    $($e);* ;\n};\n";
-
-pub const OLD_LIST: &str = "\n($($e:expr_2021),* $(,)?) => {\n    $($e);* ;\n};\n";
-
-static WORKED: [Row; 13] = [
+pub const WORKED: &str = rows![
     (
-        ("($($x:ident),*) => {$($x);*}", "a, b"),
+        "($($x:ident),*) => {$($x);*}",
+        "a, b",
         "",
         0,
         "  IDENT   a 1@0..1
@@ -72,7 +70,8 @@ static WORKED: [Row; 13] = [
 ",
     ),
     (
-        (LIST, "\n    _,\n    const { 1 },\n"),
+        "\n($($e:expr),* $(,)?) => {\n    $($e);* ;\n};\n",
+        "\n    _,\n    const { 1 },\n",
         "",
         0,
         "  IDENT   _ 1@5..6
@@ -85,10 +84,8 @@ static WORKED: [Row; 13] = [
 ",
     ),
     (
-        (
-            OLD_LIST,
-            "\n    4,\n    \"literal\",\n    funcall(),\n    future.await,\n    break 'foo bar,\n",
-        ),
+        "\n($($e:expr_2021),* $(,)?) => {\n    $($e);* ;\n};\n",
+        "\n    4,\n    \"literal\",\n    funcall(),\n    future.await,\n    break 'foo bar,\n",
         "",
         0,
         "  LITERAL Integer 4 1@5..6
@@ -113,10 +110,8 @@ static WORKED: [Row; 13] = [
 ",
     ),
     (
-        (
-            "\n($($tt:tt)*) => {\n    $($tt)*\n};\n",
-            "\nfn main() {\n    1;\n    1.0;\n    ((1,),).0.0;\n    let x = 1;\n}\n",
-        ),
+        "\n($($tt:tt)*) => {\n    $($tt)*\n};\n",
+        "\nfn main() {\n    1;\n    1.0;\n    ((1,),).0.0;\n    let x = 1;\n}\n",
         "",
         0,
         "  IDENT   fn 1@1..3
@@ -142,24 +137,24 @@ static WORKED: [Row; 13] = [
     PUNCH   ; [alone] 1@59..60
 ",
     ),
-    (("($( b $(x)? )x*) => {}", "b x b"), "", 0, ""),
+    ("($( b $(x)? )x*) => {}", "b x b", "", 0, ""),
     (
-        ("($x:ident) => {$($x)*}; ($x:ident) => {$x}", "a"),
+        "($x:ident) => {$($x)*}; ($x:ident) => {$x}",
+        "a",
         "",
         1,
         "  IDENT   a 1@0..1\n",
     ),
     (
-        ("attr() () => {A}; () => {B}", ""),
+        "attr() () => {A}; () => {B}",
+        "",
         "",
         1,
         "  IDENT   B 0@25..26\n",
     ),
     (
-        (
-            "($($a:ident)* ; $($b:ident)*) => {$($a $b)*}",
-            "p q r ; s t",
-        ),
+        "($($a:ident)* ; $($b:ident)*) => {$($a $b)*}",
+        "p q r ; s t",
         "",
         0,
         "  IDENT   p 1@0..1
@@ -169,10 +164,8 @@ static WORKED: [Row; 13] = [
 ",
     ),
     (
-        (
-            "($($($x:ident)*),*) => {${count($x)} ${count($x, 1)}}",
-            "a b, c",
-        ),
+        "($($($x:ident)*),*) => {${count($x)} ${count($x, 1)}}",
+        "a b, c",
         "",
         0,
         "  LITERAL Integer 2 1@0..6
@@ -180,13 +173,15 @@ static WORKED: [Row; 13] = [
 ",
     ),
     (
-        ("($x:ident) => {${concat($x, _bar)}}", "foo"),
+        "($x:ident) => {${concat($x, _bar)}}",
+        "foo",
         "",
         0,
         "  IDENT   foo_bar 0@17..23\n",
     ),
     (
-        ("($p:path) => {$p}", "Vec<u8>"),
+        "($p:path) => {$p}",
+        "Vec<u8>",
         "",
         0,
         "  IDENT   Vec 1@0..3
@@ -198,7 +193,8 @@ static WORKED: [Row; 13] = [
 ",
     ),
     (
-        ("($e:expr) => {$e * 2}", "1 + 2"),
+        "($e:expr) => {$e * 2}",
+        "1 + 2",
         "",
         0,
         "  SUBTREE () 0@15..16 0@15..16
@@ -209,16 +205,13 @@ static WORKED: [Row; 13] = [
   LITERAL Integer 2 0@19..20
 ",
     ),
-    (("($x:foo) => {}; ($($t:tt)*) => {}", "a"), "", 1, ""),
+    ("($x:foo) => {}; ($($t:tt)*) => {}", "a", "", 1, ""),
 ];
 
-pub fn worked() -> &'static [Row] {
-    &WORKED
-}
-
-static LENGTHS: [Row; 6] = [
+const LENGTHS: &str = rows![
     (
-        ("($($x:ident)*) => {$(${index()} ${len()} $x)*}", "a b"),
+        "($($x:ident)*) => {$(${index()} ${len()} $x)*}",
+        "a b",
         "",
         0,
         "  LITERAL Integer 0 1@0..3
@@ -230,10 +223,8 @@ static LENGTHS: [Row; 6] = [
 ",
     ),
     (
-        (
-            "($($($x:ident)*),*) => {$($(${len(1)} ${len()} $x)*)*}",
-            "a b, c",
-        ),
+        "($($($x:ident)*),*) => {$($(${len(1)} ${len()} $x)*)*}",
+        "a b, c",
         "",
         0,
         "  LITERAL Integer 2 1@0..6
@@ -248,10 +239,8 @@ static LENGTHS: [Row; 6] = [
 ",
     ),
     (
-        (
-            "($($a:ident)* ; $($b:ident)*) => {$(${len()} $a $b)*}",
-            "p q r ; s t",
-        ),
+        "($($a:ident)* ; $($b:ident)*) => {$(${len()} $a $b)*}",
+        "p q r ; s t",
         "",
         0,
         "  LITERAL Integer 2 1@0..11
@@ -263,45 +252,46 @@ static LENGTHS: [Row; 6] = [
 ",
     ),
     (
-        ("($($x:ident)*) => {$(${len()} $x)?}", "a b"),
+        "($($x:ident)*) => {$(${len()} $x)?}",
+        "a b",
         "",
         0,
         "  LITERAL Integer 1 1@0..3
   IDENT   a 1@0..1
 ",
     ),
-    (("($($x:ident)*) => {$(${len()})*}", "a b"), "", 0, ""),
+    ("($($x:ident)*) => {$(${len()})*}", "a b", "", 0, ""),
     (
-        ("() => {${len()}}", ""),
+        "() => {${len()}}",
+        "",
         "",
         0,
         "  LITERAL Integer 0 1@0..0\n",
     ),
 ];
 
-pub fn lengths() -> &'static [Row] {
-    &LENGTHS
-}
-
-static ROUNDS: [Row; 14] = [
+const ROUNDS: &str = rows![
     (
-        ("($($x:ident),* ; $y:tt) => {$y}", "a, b ; c"),
+        "($($x:ident),* ; $y:tt) => {$y}",
+        "a, b ; c",
         "",
         0,
         "  IDENT   c 1@7..8\n",
     ),
-    (("($(a)+*) => {}", "a *"), "", 0, ""),
-    (("($(a),?) => {}", "a"), "", 0, ""),
-    (("($(a);;*) => {}", "a"), "", 0, ""),
-    (("($(),*) => {}", ","), "", 0, ""),
+    ("($(a)+*) => {}", "a *", "", 0, ""),
+    ("($(a),?) => {}", "a", "", 0, ""),
+    ("($(a);;*) => {}", "a", "", 0, ""),
+    ("($(),*) => {}", ",", "", 0, ""),
     (
-        ("($($x:ident)?) => {$($x)? end}", ""),
+        "($($x:ident)?) => {$($x)? end}",
+        "",
         "",
         0,
         "  IDENT   end 0@26..29\n",
     ),
     (
-        ("($($x:ident)*) => {$(${ignore($x)} 1)*}", "a b"),
+        "($($x:ident)*) => {$(${ignore($x)} 1)*}",
+        "a b",
         "",
         0,
         "  LITERAL Integer 1 0@35..36
@@ -309,16 +299,15 @@ static ROUNDS: [Row; 14] = [
 ",
     ),
     (
-        ("() => {${concat(f, n)}}", ""),
+        "() => {${concat(f, n)}}",
+        "",
         "",
         0,
         "  IDENT   r#fn 0@9..15\n",
     ),
     (
-        (
-            "($($k:ident: $($v:literal)+);*) => {$($k [$($v)*])*}",
-            "a: 1 2; b: 3",
-        ),
+        "($($k:ident: $($v:literal)+);*) => {$($k [$($v)*])*}",
+        "a: 1 2; b: 3",
         "",
         0,
         "  IDENT   a 1@0..1
@@ -331,10 +320,8 @@ static ROUNDS: [Row; 14] = [
 ",
     ),
     (
-        (
-            "($([$x:ident $(, $y:ident)?])*) => {$($x $(($y))?)*}",
-            "[a, b] [c]",
-        ),
+        "($([$x:ident $(, $y:ident)?])*) => {$($x $(($y))?)*}",
+        "[a, b] [c]",
         "",
         0,
         "  IDENT   a 1@1..2
@@ -344,7 +331,8 @@ static ROUNDS: [Row; 14] = [
 ",
     ),
     (
-        ("($($v:vis $x:ident),*) => {$([$v] $x)*}", "pub a, b"),
+        "($($v:vis $x:ident),*) => {$([$v] $x)*}",
+        "pub a, b",
         "",
         0,
         "  SUBTREE [] 0@29..30 0@32..33
@@ -355,10 +343,8 @@ static ROUNDS: [Row; 14] = [
 ",
     ),
     (
-        (
-            "($($k:ident = $e:expr;)*) => {$($k $e)*}",
-            "a = 1 + 2; b = 3;",
-        ),
+        "($($k:ident = $e:expr;)*) => {$($k $e)*}",
+        "a = 1 + 2; b = 3;",
         "",
         0,
         "  IDENT   a 1@0..1
@@ -371,7 +357,8 @@ static ROUNDS: [Row; 14] = [
 ",
     ),
     (
-        ("($($x:ident)'a*) => {$($x)*}", "b 'a c"),
+        "($($x:ident)'a*) => {$($x)*}",
+        "b 'a c",
         "",
         0,
         "  IDENT   b 1@0..1
@@ -379,7 +366,8 @@ static ROUNDS: [Row; 14] = [
 ",
     ),
     (
-        ("($($x:tt)true*) => {$($x)=>*}", "1 true 2"),
+        "($($x:tt)true*) => {$($x)=>*}",
+        "1 true 2",
         "",
         0,
         "  LITERAL Integer 1 1@0..1
@@ -390,26 +378,22 @@ static ROUNDS: [Row; 14] = [
     ),
 ];
 
-pub fn rounds() -> &'static [Row] {
-    &ROUNDS
-}
-
 // A name that comes twice: the last binding, and rounds after rounds.
-static REPEATED_NAMES: [Row; 6] = [
+const REPEATED_NAMES: &str = rows![
     (
-        ("($x:ident $($x:ident)*) => {$x}", "a b c"),
+        "($x:ident $($x:ident)*) => {$x}", "a b c",
         "",
         0,
         "  IDENT   a 1@0..1\n",
     ),
     (
-        ("($($x:ident)* ; $x:ident) => {$x}", "a b ; c"),
+        "($($x:ident)* ; $x:ident) => {$x}", "a b ; c",
         "",
         0,
         "  IDENT   c 1@6..7\n",
     ),
     (
-        ("($($x:ident),* ; $($x:ident),*) => {$($x)*}", "a ; b, c"),
+        "($($x:ident),* ; $($x:ident),*) => {$($x)*}", "a ; b, c",
         "",
         0,
         "  IDENT   a 1@0..1
@@ -418,14 +402,14 @@ static REPEATED_NAMES: [Row; 6] = [
 ",
     ),
     (
-        ("($($x:ident),* ; $($x:ident),*) => {$($x)*}", "; b"),
+        "($($x:ident),* ; $($x:ident),*) => {$($x)*}", "; b",
         "",
         0,
         "",
     ),
     // Within a round too it is the last.
     (
-        ("($($x:ident $x:ident),*) => {$($x)*}", "a b, c d"),
+        "($($x:ident $x:ident),*) => {$($x)*}", "a b, c d",
         "",
         0,
         "  IDENT   b 1@2..3
@@ -433,10 +417,10 @@ static REPEATED_NAMES: [Row; 6] = [
 ",
     ),
     (
-        (
+        
             "($($($x:ident)* : $x:ident;)*) => {$($x)*}",
-            "a b : c; : d;",
-        ),
+            "a b : c; : d;"
+        ,
         "",
         0,
         "  IDENT   c 1@6..7
@@ -445,145 +429,145 @@ static REPEATED_NAMES: [Row; 6] = [
     ),
 ];
 
-pub fn repeated_names() -> &'static [Row] {
-    &REPEATED_NAMES
-}
-
 // The closest rule is recovered: the match ends without an only reading, or its substitution faults.
-static RECOVERED: [Row; 10] = [
+pub const RECOVERED: &str = rows![
     (
-        ("($($v:vis),*) => {}", ""),
+        "($($v:vis),*) => {}",
+        "",
         "unexpected token in input at 1@0..0",
         0,
         "",
     ),
     (
-        ("($x:ident) => {$($x)*}", "a"),
+        "($x:ident) => {$($x)*}",
+        "a",
         "Expand exceed limit at 1@0..1",
         0,
         "",
     ),
     (
-        ("($x:ident) => {${concat($x, \"-\")}}", "foo"),
+        "($x:ident) => {${concat($x, \"-\")}}",
+        "foo",
         "`${concat(..)}` is not generating a valid identifier at 0@17..23",
         0,
         "  IDENT   __ra_concat_dummy 0@17..23\n",
     ),
     (
-        ("($($t:ident),* as $ty:ident) => {}", "as u32"),
+        "($($t:ident),* as $ty:ident) => {}",
+        "as u32",
         "leftover tokens at 1@0..6",
         0,
         "",
     ),
-    (("($(a),?) => {}", "a,"), "leftover tokens at 1@0..2", 0, ""),
+    ("($(a),?) => {}", "a,", "leftover tokens at 1@0..2", 0, ""),
     (
-        ("($(a);;*) => {}", "a;;a"),
+        "($(a);;*) => {}",
+        "a;;a",
         "leftover tokens at 1@0..4",
         0,
         "",
     ),
     (
-        ("($($a:ident)* $b:ident) => {}", "x"),
+        "($($a:ident)* $b:ident) => {}",
+        "x",
         "leftover tokens at 1@0..1",
         0,
         "",
     ),
     (
-        ("($(),*) => {}", ""),
+        "($(),*) => {}",
+        "",
         "unexpected token in input at 1@0..0",
         0,
         "",
     ),
     (
-        ("($($x:ident)*) => {$($x)+}", ""),
+        "($($x:ident)*) => {$($x)+}",
+        "",
         "unexpected token in input at 1@0..0",
         0,
         "",
     ),
     (
-        ("($($x:ident)*) => {${concat(a, $x)}}", "b"),
+        "($($x:ident)*) => {${concat(a, $x)}}",
+        "b",
         "expected simple binding, found nested binding `x` at 0@32..33",
         0,
         "  IDENT   a 0@21..27\n",
     ),
 ];
 
-pub fn recovered() -> &'static [Row] {
-    &RECOVERED
-}
-
 // The rule with fewest trees left is recovered, then the one with most bindings, then the first.
-static CLOSEST: [Row; 9] = [
+const CLOSEST: &str = rows![
     (
-        ("(p $x:tt) => {$($x)*}; ($x:tt $y:tt) => {$($x)*}", "p q"),
+        "(p $x:tt) => {$($x)*}; ($x:tt $y:tt) => {$($x)*}",
+        "p q",
         "Expand exceed limit at 1@0..3",
         1,
         "",
     ),
     (
-        (
-            "(p $y:ident $z:ident) => {$($y)*}; ($($x:ident)*) => {$x}",
-            "p q r",
-        ),
+        "(p $y:ident $z:ident) => {$($y)*}; ($($x:ident)*) => {$x}",
+        "p q r",
         "expected simple binding, found nested binding `x` at 0@55..56",
         1,
         "",
     ),
     (
-        (
-            "($($x:ident)*) => {$x}; (p $y:ident $z:ident) => {$($y)*}",
-            "p q r",
-        ),
+        "($($x:ident)*) => {$x}; (p $y:ident $z:ident) => {$($y)*}",
+        "p q r",
         "expected simple binding, found nested binding `x` at 0@20..21",
         0,
         "",
     ),
     (
-        ("($x:ident) => {$($x)*}; (b) => {B}", "a"),
+        "($x:ident) => {$($x)*}; (b) => {B}",
+        "a",
         "Expand exceed limit at 1@0..1",
         0,
         "",
     ),
     (
-        ("([] {}) => {A}; ([] [] {}) => {B}", "[] []"),
+        "([] {}) => {A}; ([] [] {}) => {B}",
+        "[] []",
         "unexpected token in input at 1@0..5",
         1,
         "  IDENT   B 0@31..32\n",
     ),
     (
-        ("([] []) => {A}; ({}) => {B}", "[] ()"),
+        "([] []) => {A}; ({}) => {B}",
+        "[] ()",
         "leftover tokens at 1@0..5",
         0,
         "  IDENT   A 0@12..13\n",
     ),
     (
-        ("({}) => {B}; ([[] {}]) => {A}", "[[] () ()]"),
+        "({}) => {B}; ([[] {}]) => {A}",
+        "[[] () ()]",
         "leftover tokens at 1@0..10",
         0,
         "  IDENT   B 0@9..10\n",
     ),
     (
-        ("([{} a]) => {A}; ({}) => {B}", "[()]"),
+        "([{} a]) => {A}; ({}) => {B}",
+        "[()]",
         "leftover tokens at 1@0..4",
         0,
         "  IDENT   A 0@13..14\n",
     ),
     (
-        ("attr() ([]) => {A}; ({}) => {B}", "()"),
+        "attr() ([]) => {A}; ({}) => {B}",
+        "()",
         "leftover tokens at 1@0..2",
         1,
         "  IDENT   B 0@29..30\n",
     ),
 ];
 
-pub fn closest() -> &'static [Row] {
-    &CLOSEST
-}
-
-static STOPS: [Row; 10] = [
+const STOPS: &str = rows![
     // Where no position fails, the first at the pattern's end is reported.
     (
-        ("($x:ident) => {[$x]}", "a b"),
+        "($x:ident) => {[$x]}", "a b",
         "leftover tokens at 1@0..3",
         0,
         "  SUBTREE [] 0@15..16 0@18..19
@@ -591,13 +575,13 @@ static STOPS: [Row; 10] = [
 ",
     ),
     (
-        ("(->) => {}", ""),
+        "(->) => {}", "",
         "unexpected token in input at 1@0..0",
         0,
         "",
     ),
     (
-        ("($x:foo) => {[$x]}", "a"),
+        "($x:foo) => {[$x]}", "a",
         "leftover tokens at 1@0..1",
         0,
         "  SUBTREE [] 0@13..14 0@16..17
@@ -606,23 +590,23 @@ static STOPS: [Row; 10] = [
 ",
     ),
     (
-        ("($x:foo) => {}", ""),
+        "($x:foo) => {}", "",
         "unexpected token in input at 1@0..0",
         0,
         "",
     ),
-    (("(a) => {}", "a b"), "leftover tokens at 1@0..3", 0, ""),
-    (("([a]) => {}", "(a)"), "leftover tokens at 1@0..3", 0, ""),
+    ("(a) => {}", "a b", "leftover tokens at 1@0..3", 0, ""),
+    ("([a]) => {}", "(a)", "leftover tokens at 1@0..3", 0, ""),
     (
-        ("([a]) => {}", ""),
+        "([a]) => {}", "",
         "unexpected token in input at 1@0..0",
         0,
         "",
     ),
-    (("((a)) => {}", "(a b)"), "leftover tokens at 1@0..5", 0, ""),
-    (("($(a),*) => {}", "a;"), "leftover tokens at 1@0..2", 0, ""),
+    ("((a)) => {}", "(a b)", "leftover tokens at 1@0..5", 0, ""),
+    ("($(a),*) => {}", "a;", "leftover tokens at 1@0..2", 0, ""),
     (
-        ("($x:ident $($y:ident)* $z:ident) => {A $x}", "a b"),
+        "($x:ident $($y:ident)* $z:ident) => {A $x}", "a b",
         "leftover tokens at 1@0..3",
         0,
         "  IDENT   A 0@37..38
@@ -632,14 +616,10 @@ static STOPS: [Row; 10] = [
     ),
 ];
 
-pub fn stops() -> &'static [Row] {
-    &STOPS
-}
-
-static FAULTS: [Row; 12] = [
+const FAULTS: &str = rows![
     // What comes before and after a repetition past its limit is kept.
     (
-        ("($x:ident) => {a $($x)* b}", "a"),
+        "($x:ident) => {a $($x)* b}", "a",
         "Expand exceed limit at 1@0..1",
         0,
         "  IDENT   a 0@15..16
@@ -648,14 +628,14 @@ static FAULTS: [Row; 12] = [
     ),
     // The limit comes before the faults of the rounds.
     (
-        ("($x:ident) => {$($x ${count($z)})*}", "a"),
+        "($x:ident) => {$($x ${count($z)})*}", "a",
         "Expand exceed limit at 1@0..1",
         0,
         "",
     ),
     // `?` has one round at most, also where that faults.
     (
-        ("($($($x:ident)*);*) => {$([$x])? b}", "p; q"),
+        "($($($x:ident)*);*) => {$([$x])? b}", "p; q",
         "expected simple binding, found nested binding `x` at 0@28..29",
         0,
         "  SUBTREE [] 0@26..27 0@29..30
@@ -664,7 +644,7 @@ static FAULTS: [Row; 12] = [
     ),
     // All rounds are written, though each faults.
     (
-        ("($($($x:ident)*;)*) => {$(Y $x Z)*}", "a ; ; ;"),
+        "($($($x:ident)*;)*) => {$(Y $x Z)*}", "a ; ; ;",
         "expected simple binding, found nested binding `x` at 0@29..30",
         0,
         "  IDENT   Y 0@26..27
@@ -676,80 +656,67 @@ static FAULTS: [Row; 12] = [
 ",
     ),
     (
-        ("($($x:ident)*) => {[$x]}", "a"),
+        "($($x:ident)*) => {[$x]}", "a",
         "expected simple binding, found nested binding `x` at 0@21..22",
         0,
         "  SUBTREE [] 0@19..20 0@22..23\n",
     ),
     (
-        ("($($x:ident)?) => {$x}", ""),
+        "($($x:ident)?) => {$x}", "",
         "expected simple binding, found empty binding `x` at 0@20..21",
         0,
         "",
     ),
     (
-        ("() => {${ignore($x)} a}", ""),
+        "() => {${ignore($x)} a}", "",
         "could not find binding x at 0@17..18",
         0,
         "  IDENT   a 0@21..22\n",
     ),
     (
-        ("() => {${count($x)} a}", ""),
+        "() => {${count($x)} a}", "",
         "could not find binding x at 1@0..0",
         0,
         "  IDENT   a 0@20..21\n",
     ),
     (
-        ("() => {${concat(a, $x)}}", ""),
+        "() => {${concat(a, $x)}}", "",
         "could not find binding x at 0@20..21",
         0,
         "  IDENT   a 0@9..15\n",
     ),
     (
-        ("($e:expr) => {${concat(a, $e)}}", "1"),
+        "($e:expr) => {${concat(a, $e)}}", "1",
         "metavariables of `${concat(..)}` must be of type `ident`, `literal` or `tt` at 0@27..28",
         0,
         "  IDENT   a 0@16..22\n",
     ),
     (
-        ("($t:tt) => {${concat(a, $t)}}", "(b)"),
+        "($t:tt) => {${concat(a, $t)}}", "(b)",
         "metavariables of `${concat(..)}` must be of type `ident`, `literal` or `tt` at 0@25..26",
         0,
         "  IDENT   a 0@14..20\n",
     ),
     (
-        ("($x:ident) => {$($x)+}", "a"),
+        "($x:ident) => {$($x)+}", "a",
         "Expand exceed limit at 1@0..1",
         0,
         "",
     ),
 ];
 
-pub fn faults() -> &'static [Row] {
-    &FAULTS
-}
-
-// A table is part of the proof of each function that names it, so each has one of its own.
-fn table(number: usize) -> &'static [Row] {
-    match number {
-        0 => worked(),
-        1 => lengths(),
-        2 => rounds(),
-        3 => repeated_names(),
-        4 => recovered(),
-        5 => closest(),
-        6 => stops(),
-        7 => faults(),
-        _ => &[],
-    }
-}
+static TABLES: [Table; 8] = [
+    (Edition::Edition2024, WORKED, 13),
+    (Edition::Edition2024, LENGTHS, 6),
+    (Edition::Edition2024, ROUNDS, 14),
+    (Edition::Edition2024, REPEATED_NAMES, 6),
+    (Edition::Edition2024, RECOVERED, 10),
+    (Edition::Edition2024, CLOSEST, 9),
+    (Edition::Edition2024, STOPS, 10),
+    (Edition::Edition2024, FAULTS, 12),
+];
 
 #[test]
 fn rows_are_written_and_recovered(rt: HostRuntime) {
-    for number in 0..8usize {
-        none(
-            &rt,
-            first_wrong(rt.alloc(), Edition::Edition2024, table(number)),
-        );
-    }
+    all(&rt, rt.alloc(), &TABLES);
 }

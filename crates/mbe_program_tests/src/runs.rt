@@ -9,6 +9,7 @@ use std::alloc::{AllocError, Allocator, Global};
 use std::io;
 use std::io::Write;
 use std::test::Fail;
+use test_rows::{Fields, Rows, each, holds, none, number, rows};
 
 const PAIR: (&str, &str) = ("($x:ident = $t:tt;) => { pair ($t) $x }", "a = 1;");
 
@@ -118,11 +119,8 @@ SUBTREE $$ 1@0..2 1@0..2
 #[test]
 fn expansions_are_printed(rt: HostRuntime) {
     for &(texts, want) in &EXPANDED {
-        assert!(rt;
-            prints(rt.alloc(), texts, EXPANDING, (want, 0)),
-            "{}",
-            texts.0
-        );
+        let is_so = prints(rt.alloc(), texts, EXPANDING, (want, 0));
+        none(&rt, (!is_so).then_some(want));
     }
 }
 
@@ -138,10 +136,8 @@ fn no_rule_is_of_the_style(rt: HostRuntime) {
     let want =
         "error: no rule matches input tokens at 1@0..1\narm none\nSUBTREE $$ 1@0..1 1@0..1\n";
     for &def in &NO_RULES {
-        assert!(rt;
-            prints(rt.alloc(), (def, "c"), EXPANDING, (want, 1)),
-            "{def}"
-        );
+        let is_so = prints(rt.alloc(), (def, "c"), EXPANDING, (want, 1));
+        none(&rt, (!is_so).then_some(def));
     }
 }
 
@@ -162,7 +158,7 @@ fn says(alloc: Global, report: Option<Report<'_, Global>>, want: &str) -> Result
 }
 
 // A definition and an argument, the status, and the line on standard error.
-static FAILURES: [(&str, &str, u8, &str); 9] = [
+const FAILURES: &str = rows![
     ("() => {}", "", 0, ""),
     ("(a) => {}", "", 1, ""),
     ("() => {} x", "", 2, "definition refused: expected `;`"),
@@ -184,27 +180,26 @@ static FAILURES: [(&str, &str, u8, &str); 9] = [
     ("", "é \"", 4, "cannot lex the.arg at 3"),
 ];
 
-// Whether a run ends with that status and line, and writes something only where there is an expansion.
-fn ends_with(
-    alloc: Global,
-    &(def, arg, status, line): &(&str, &str, u8, &str),
-) -> Result<bool, AllocError> {
-    let mut out = Vec::new(alloc);
-    let outcome = ran(alloc, (def, arg), EXPANDING, &mut out);
-    let is_so = outcome.status() == status && out.is_empty() == (status > 1);
-    Ok(is_so && says(alloc, outcome.report(&NAMES), line)?)
+// A run ends with that status and line, and writes something only where there is an expansion.
+#[derive(Clone, Copy)]
+struct Failures;
+
+impl Rows for Failures {
+    fn is_so(
+        &self,
+        alloc: Global,
+        [def, arg, status, line, ..]: Fields,
+    ) -> Result<bool, AllocError> {
+        let mut out = Vec::new(alloc);
+        let outcome = ran(alloc, (def, arg), EXPANDING, &mut out);
+        let is_written = !out.is_empty() == (number(status) < 2);
+        Ok(is_written && ends_in(alloc, outcome, number(status), line)?)
+    }
 }
 
 #[test]
 fn failures_have_a_status_and_a_line(rt: HostRuntime) {
-    for row in &FAILURES {
-        assert!(rt;
-            ends_with(rt.alloc(), row).unwrap_or(false),
-            "{} on {}",
-            row.0,
-            row.1
-        );
-    }
+    each(&rt, rt.alloc(), &Failures, FAILURES, 9);
 }
 
 // Whether the status of a report is 3, with that line.
@@ -216,38 +211,45 @@ fn has_line(alloc: Global, report: Report<'_, Global>, line: &str) -> Result<boo
 fn ends_in(
     alloc: Global,
     outcome: Outcome<Global>,
-    status: u8,
+    status: usize,
     line: &str,
 ) -> Result<bool, AllocError> {
-    Ok(says(alloc, outcome.report(&NAMES), line)? && outcome.status() == status)
+    let is_status = usize::from(outcome.status()) == status;
+    Ok(says(alloc, outcome.report(&NAMES), line)? && is_status)
 }
 
 #[test]
 fn other_failures_have_a_line(rt: HostRuntime) {
     let usage = "usage: mbex [--lint] DEF-FILE ARG-FILE [EDITION]";
     let unread = Report::CannotRead("a.b");
-    assert!(rt; has_line(rt.alloc(), Report::Usage, usage).unwrap_or(false));
-    assert!(rt; has_line(rt.alloc(), unread, "cannot read a.b").unwrap_or(false));
-    assert!(rt; ends_in(rt.alloc(), Outcome::CannotWrite, 3, "cannot write").unwrap_or(false));
-    assert!(rt; ends_in(rt.alloc(), Outcome::OutOfMemory, 5, "out of memory").unwrap_or(false));
+    holds(&rt, has_line(rt.alloc(), Report::Usage, usage));
+    holds(&rt, has_line(rt.alloc(), unread, "cannot read a.b"));
+    holds(
+        &rt,
+        ends_in(rt.alloc(), Outcome::CannotWrite, 3, "cannot write"),
+    );
+    holds(
+        &rt,
+        ends_in(rt.alloc(), Outcome::OutOfMemory, 5, "out of memory"),
+    );
 }
 
-static WORDS: [(&str, Option<(bool, Edition)>); 15] = [
-    ("", None),
-    ("d", None),
-    ("d a", Some((false, Edition::Edition2024))),
-    ("d a 2015", Some((false, Edition::Edition2015))),
-    ("d a 2018", Some((false, Edition::Edition2018))),
-    ("d a 2021", Some((false, Edition::Edition2021))),
-    ("d a 2024", Some((false, Edition::Edition2024))),
-    ("d a 2022", None),
-    ("d a 2018 x", None),
-    ("--lint", None),
-    ("--lint d", None),
-    ("--lint d a", Some((true, Edition::Edition2024))),
-    ("--lint d a 2015", Some((true, Edition::Edition2015))),
-    ("--lint d a 2022", None),
-    ("--lint d a 2018 x", None),
+const WORDS: &str = rows![
+    ("", "usage"),
+    ("d", "usage"),
+    ("d a", false, 2024),
+    ("d a 2015", false, 2015),
+    ("d a 2018", false, 2018),
+    ("d a 2021", false, 2021),
+    ("d a 2024", false, 2024),
+    ("d a 2022", "usage"),
+    ("d a 2018 x", "usage"),
+    ("--lint", "usage"),
+    ("--lint d", "usage"),
+    ("--lint d a", true, 2024),
+    ("--lint d a 2015", true, 2015),
+    ("--lint d a 2022", "usage"),
+    ("--lint d a 2018 x", "usage"),
 ];
 
 fn words_of(alloc: Global, text: &str) -> Result<Vec<String>, AllocError> {
@@ -258,28 +260,46 @@ fn words_of(alloc: Global, text: &str) -> Result<Vec<String>, AllocError> {
     Ok(words)
 }
 
-fn are_named(alloc: Global, text: &str, want: Option<(bool, Edition)>) -> Result<bool, AllocError> {
-    let words = words_of(alloc, text)?;
-    let want = match want {
-        Some((lint, edition)) => Some(Options {
-            lint,
-            def: "d",
-            arg: "a",
-            edition,
-        }),
-        None => None,
-    };
-    Ok(options(words.as_slice()) == want)
+// The editions by their numbers, as the words have them.
+static EDITIONS: [(&str, Edition); 4] = [
+    ("2015", Edition::Edition2015),
+    ("2018", Edition::Edition2018),
+    ("2021", Edition::Edition2021),
+    ("2024", Edition::Edition2024),
+];
+
+fn edition(year: &str) -> Option<Edition> {
+    for &(number, edition) in &EDITIONS {
+        if number == year {
+            return Some(edition);
+        }
+    }
+    None
+}
+
+// Whether a run lints, and its edition; no edition where the words are wrong.
+#[derive(Clone, Copy)]
+struct Named;
+
+impl Rows for Named {
+    fn is_so(&self, alloc: Global, [text, lint, year, ..]: Fields) -> Result<bool, AllocError> {
+        let words = words_of(alloc, text)?;
+        let want = match edition(year) {
+            Some(edition) => Some(Options {
+                lint: lint == "true",
+                def: "d",
+                arg: "a",
+                edition,
+            }),
+            None => None,
+        };
+        Ok(options(words.as_slice()) == want)
+    }
 }
 
 #[test]
 fn words_name_files_and_an_edition(rt: HostRuntime) {
-    for (text, want) in &WORDS {
-        assert!(rt;
-            are_named(rt.alloc(), text, *want).unwrap_or(false),
-            "{text}"
-        );
-    }
+    each(&rt, rt.alloc(), &Named, WORDS, 15);
 }
 
 // The words, and the status. The running program's own file isn't UTF-8.
@@ -294,9 +314,10 @@ static FILES: [(&str, u8); 6] = [
 
 #[test]
 fn files_that_cannot_be_read(rt: HostRuntime) -> Result<(), Fail> {
-    for (text, status) in &FILES {
+    for &(text, status) in &FILES {
         let words = words_of(rt.alloc(), text)?;
-        assert_eq!(rt; started(&rt, words.as_slice()), *status, "{text}");
+        let is_so = started(&rt, words.as_slice()) == status;
+        none(&rt, (!is_so).then_some(text));
     }
     Ok(())
 }
@@ -355,7 +376,7 @@ pub fn first_unwritten(alloc: Global, texts: (&str, &str), lint: bool, want: &st
 #[test]
 fn a_failed_write_is_reported(rt: HostRuntime) {
     let number = first_unwritten(rt.alloc(), PAIR, false, PAIR_OUTPUT);
-    assert!(rt; number.unwrap_or(0) > 7, "{number:?}");
+    holds(&rt, Ok(number.unwrap_or(0) > 7));
 }
 
 /// Whether a run of any texts ends as runs do.
@@ -375,26 +396,34 @@ pub fn ends(alloc: Global, def: &str, arg: &str) -> bool {
     }
 }
 
-// The end of the first prefix of one of the texts that, with the other text, makes a run that doesn't end so.
-fn first_endless(alloc: Global, (def, arg): (&str, &str)) -> Option<usize> {
-    for end in 0..=def.len().max(arg.len()) {
-        let (def_front, arg_front) = (def.get(..end), arg.get(..end));
-        if !ends(alloc, def_front.unwrap_or(def), arg)
-            || !ends(alloc, def, arg_front.unwrap_or(arg))
-        {
-            return Some(end);
+// Whether each prefix of one of the texts, with the other text, makes a run that ends so.
+#[derive(Clone, Copy)]
+struct Prefixes;
+
+impl Rows for Prefixes {
+    fn is_so(&self, alloc: Global, [def, arg, ..]: Fields) -> Result<bool, AllocError> {
+        for end in 0..=def.len().max(arg.len()) {
+            let (def_front, arg_front) = (def.get(..end), arg.get(..end));
+            if !ends(alloc, def_front.unwrap_or(def), arg)
+                || !ends(alloc, def, arg_front.unwrap_or(arg))
+            {
+                return Ok(false);
+            }
         }
+        Ok(true)
     }
-    None
 }
+
+const TEXTS: &str = rows![
+    ("($x:ident = $t:tt;) => { pair ($t) $x }", "a = 1;"),
+    (
+        "\n( struct $ident:ident ) => {\n    struct $ident {\n        map: ::std::collections::HashSet<()>,\n    }\n};\n",
+        "\nstruct MyTraitMap2\n",
+    ),
+    ("(é \"a\\\"b\"s) => {r#c /* d */}", "é \"a\\\"b\"s"),
+];
 
 #[test]
 fn every_prefix_of_a_text_ends(rt: HostRuntime) {
-    for texts in [
-        PAIR,
-        STRUCT,
-        ("(é \"a\\\"b\"s) => {r#c /* d */}", "é \"a\\\"b\"s"),
-    ] {
-        assert_eq!(rt; first_endless(rt.alloc(), texts), None);
-    }
+    each(&rt, rt.alloc(), &Prefixes, TEXTS, 3);
 }

@@ -1,14 +1,14 @@
 // Tables that are read from texts, and where a text is no grammar.
+use crate::taking::takes;
 use mbe_rules::node::{Node, Terminal};
 use mbe_rules_text::fault::RuleFault;
 use mbe_rules_text::rules::Rules;
-use mbe_text::lexer::lex;
-use mbe_tt::grammar::{FragmentGrammar, Front, PrefixEntryPoint};
+use mbe_tt::grammar::{FragmentGrammar, PrefixEntryPoint};
 use mbe_tt::span::Edition;
 use mbe_tt::tt::DelimiterKind;
 use std::alloc::{AllocError, Global};
-use std::process::Abort;
 use std::test::Fail;
+use test_rows::{Fields, Rows as Tested, each, holds, none, rows};
 
 // Texts, and their nodes: first those of the rules' names.
 static NODES: [(&str, &[Node<'static>]); 13] = [
@@ -124,27 +124,37 @@ static NODES: [(&str, &[Node<'static>]); 13] = [
     ),
 ];
 
-#[test]
-fn texts_are_tables(rt: HostRuntime) -> Result<(), Fail> {
+// The first text that isn't read as its nodes.
+fn first_unlike(alloc: Global) -> Option<&'static str> {
     for (text, nodes) in &NODES {
-        let Ok(rules) = Rules::read(rt.alloc(), *text) else {
-            return Err(Fail::from("refused"));
-        };
-        let table = rules.table(Edition::Edition2021, &[]);
-        assert!(rt; table.nodes == *nodes, "{text}");
+        if !has_nodes(alloc, text, nodes) {
+            return Some(text);
+        }
     }
-    Ok(())
+    None
+}
+
+fn has_nodes(alloc: Global, text: &str, nodes: &[Node<'_>]) -> bool {
+    match Rules::read(alloc, text) {
+        Ok(rules) => rules.table(Edition::Edition2021, &[]).nodes == nodes,
+        Err(_) => false,
+    }
+}
+
+#[test]
+fn texts_are_tables(rt: HostRuntime) {
+    none(&rt, first_unlike(rt.alloc()));
 }
 
 // Texts that are no grammar, with the place and the reason.
-static FAULTS: [(&str, &str); 24] = [
+const FAULTS: &str = rows![
     ("a = NAME\n\nb = type", "3:5: no rule is named \"type\""),
     ("a = (é | type)", "1:6: no word of a grammar begins here"),
     ("a = \"é\" | type", "1:11: no rule is named \"type\""),
     ("NAME", "1:1: a name and a `=` have to come before this"),
     (
         "\n  | a = a",
-        "2:3: a name and a `=` have to come before this",
+        "2:3: a name and a `=` have to come before this"
     ),
     ("a =\nb = NAME", "2:1: a rule is missing here"),
     ("a = NAME | # b\n", "1:12: a rule is missing here"),
@@ -166,20 +176,21 @@ static FAULTS: [(&str, &str); 24] = [
     ("a = a\na = a", "2:1: a rule before is named \"a\""),
     (
         "KEYWORDS_2018 = \"a\" b",
-        "1:21: keywords are words in `\"`",
+        "1:21: keywords are words in `\"`"
     ),
+    ("ty = tie\n\ntie = type", "3:7: no rule is named \"type\""),
 ];
 
-#[test]
-fn faults_have_places(rt: HostRuntime) -> Result<(), Fail> {
-    for (text, want) in &FAULTS {
-        let Err(fault) = Rules::read(rt.alloc(), *text) else {
-            return Err(Fail::from("read"));
-        };
-        let shown = fault.to_string(rt.alloc())?;
-        assert_eq!(rt; shown.as_str(), *want, "{text}");
+#[derive(Clone, Copy)]
+struct Faults;
+
+impl Tested for Faults {
+    fn is_so(&self, alloc: Global, [text, want, ..]: Fields) -> Result<bool, AllocError> {
+        match Rules::read(alloc, text) {
+            Ok(_) => Ok(false),
+            Err(fault) => is_shown(alloc, fault, want),
+        }
     }
-    Ok(())
 }
 
 // What a program writes of a file that is no grammar.
@@ -187,14 +198,14 @@ fn message(alloc: Global, file: &str, fault: RuleFault<'_>) -> Result<String, Al
     format!(in alloc; "{file}:{fault}")
 }
 
+fn is_shown(alloc: Global, fault: RuleFault<'_>, want: &str) -> Result<bool, AllocError> {
+    let message = message(alloc, "grammar.txt", fault)?;
+    Ok(message.as_str().strip_prefix("grammar.txt:") == Some(want))
+}
+
 #[test]
-fn messages_name_the_file(rt: HostRuntime) -> Result<(), Fail> {
-    let Err(fault) = Rules::read(rt.alloc(), "ty = tie\n\ntie = type") else {
-        return Err(Fail::from("read"));
-    };
-    let text = message(rt.alloc(), "grammar.txt", fault)?;
-    assert_eq!(rt; text.as_str(), "grammar.txt:3:7: no rule is named \"type\"");
-    Ok(())
+fn faults_have_places(rt: HostRuntime) {
+    each(&rt, rt.alloc(), &Faults, FAULTS, 25);
 }
 
 // A grammar of sums, whose operands are names, literals and sums in parentheses.
@@ -218,45 +229,30 @@ static TAKEN: [(&str, Option<usize>); 8] = [
     ("gen", Some(1)),
 ];
 
-fn assert_takes(
-    rt: &impl Abort,
-    alloc: Global,
-    (rules, text): (&Rules<'_>, &str),
-    want: Option<usize>,
-) -> Result<(), Fail> {
-    assert!(rt; text.len() < 100_000_000);
-    let Ok(tree) = lex(alloc, text, 0) else {
-        return Err(Fail::from("not lexed"));
-    };
+// The first text of which another part is a sum.
+fn first_wrong(alloc: Global, rules: &Rules<'_>) -> Option<&'static str> {
     let table = rules.table(Edition::Edition2021, &[]);
-    let front = table.parse(PrefixEntryPoint::Expr, tree.iter().remaining())?;
-    let want = Front {
-        count: want.unwrap_or(0),
-        fault: want.is_none(),
-    };
-    assert_eq!(rt; front, want, "{text}");
-    Ok(())
+    for &(text, want) in &TAKEN {
+        if !takes(alloc, &table, PrefixEntryPoint::Expr, text, want).unwrap_or(false) {
+            return Some(text);
+        }
+    }
+    None
+}
+
+// In 2024 `gen` is a keyword; no rule is for types.
+fn has_keywords(alloc: Global, rules: &Rules<'_>) -> Result<bool, AllocError> {
+    let table = rules.table(Edition::Edition2024, &[]);
+    let is_so = table.is_keyword("gen") && !table.is_keyword("r#gen");
+    Ok(is_so && takes(alloc, &table, PrefixEntryPoint::Ty, "a", None)?)
 }
 
 #[test]
 fn a_grammar_of_sums(rt: HostRuntime) -> Result<(), Fail> {
     let Ok(rules) = Rules::read(rt.alloc(), SUMS) else {
-        return Err(Fail::from("refused"));
+        return Err(Fail::from("no grammar"));
     };
-    for (text, want) in &TAKEN {
-        assert_takes(&rt, rt.alloc(), (&rules, text), *want)?;
-    }
-    let table = rules.table(Edition::Edition2024, &[]);
-    assert!(rt; table.is_keyword("gen"));
-    assert!(rt; !table.is_keyword("r#gen"));
-    let none = Front {
-        count: 0,
-        fault: true,
-    };
-    let Ok(tree) = lex(rt.alloc(), "a", 0) else {
-        return Err(Fail::from("not lexed"));
-    };
-    let front = table.parse(PrefixEntryPoint::Ty, tree.iter().remaining())?;
-    assert_eq!(rt; front, none);
+    none(&rt, first_wrong(rt.alloc(), &rules));
+    holds(&rt, has_keywords(rt.alloc(), &rules));
     Ok(())
 }

@@ -1,13 +1,12 @@
 // What the rules of a small table take of texts, and that no table and no text is too much.
+use crate::taking::takes;
 use mbe_rules::node::{Keyword, Node, Terminal};
 use mbe_rules::table::{RuleTable, Starts};
-use mbe_text::lexer::lex;
-use mbe_tt::grammar::{FragmentGrammar, Front, PrefixEntryPoint};
+use mbe_tt::grammar::PrefixEntryPoint;
 use mbe_tt::span::Edition;
 use mbe_tt::tt::DelimiterKind;
-use std::alloc::Global;
-use std::process::Abort;
-use std::test::Fail;
+use std::alloc::{AllocError, Global};
+use test_rows::none;
 
 const SUM: usize = 0;
 
@@ -135,23 +134,22 @@ fn table(rule: usize, edition: Edition) -> RuleTable<'static> {
     }
 }
 
-fn assert_takes(
-    rt: &impl Abort,
+// The first of the rows of an edition that isn't so.
+fn first_wrong(
     alloc: Global,
-    (table, text): (RuleTable<'_>, &str),
-    want: Option<usize>,
-) -> Result<(), Fail> {
-    assert!(rt; text.len() < 100_000_000);
-    let Ok(tree) = lex(alloc, text, 0) else {
-        return Err(Fail::from("not lexed"));
-    };
-    let front = table.parse(PrefixEntryPoint::Expr, tree.iter().remaining())?;
-    let want = Front {
-        count: want.unwrap_or(0),
-        fault: want.is_none(),
-    };
-    assert_eq!(rt; front, want, "{text:.99}");
-    Ok(())
+    edition: Edition,
+    rows: &'static [(usize, &'static str, Option<usize>)],
+) -> Option<&'static str> {
+    for &(rule, text, want) in rows {
+        if !takes_expr(alloc, table(rule, edition), text, want) {
+            return Some(text);
+        }
+    }
+    None
+}
+
+fn takes_expr(alloc: Global, table: RuleTable<'_>, text: &str, want: Option<usize>) -> bool {
+    takes(alloc, &table, PrefixEntryPoint::Expr, text, want).unwrap_or(false)
 }
 
 // Rules, texts, and how many flat tokens are taken in the edition of 2021; none is a fault.
@@ -188,12 +186,8 @@ static TAKEN: [(usize, &str, Option<usize>); 29] = [
 ];
 
 #[test]
-fn rules_take(rt: HostRuntime) -> Result<(), Fail> {
-    for (rule, text, want) in &TAKEN {
-        let table = table(*rule, Edition::Edition2021);
-        assert_takes(&rt, rt.alloc(), (table, *text), *want)?;
-    }
-    Ok(())
+fn rules_take(rt: HostRuntime) {
+    none(&rt, first_wrong(rt.alloc(), Edition::Edition2021, &TAKEN));
 }
 
 // The same in the edition of 2024.
@@ -205,38 +199,40 @@ static TAKEN_2024: [(usize, &str, Option<usize>); 4] = [
 ];
 
 #[test]
-fn rules_take_by_edition(rt: HostRuntime) -> Result<(), Fail> {
-    for (rule, text, want) in &TAKEN_2024 {
-        let table = table(*rule, Edition::Edition2024);
-        assert_takes(&rt, rt.alloc(), (table, *text), *want)?;
-    }
-    Ok(())
+fn rules_take_by_edition(rt: HostRuntime) {
+    none(
+        &rt,
+        first_wrong(rt.alloc(), Edition::Edition2024, &TAKEN_2024),
+    );
 }
 
-// A million times a link, by a rule: many more than `DEPTH`.
-fn assert_takes_long(
-    rt: &impl Abort,
+// The link, if a million of it, many more than `DEPTH`, aren't taken so by a rule.
+fn wrong_link(
     alloc: Global,
-    (rule, link): (usize, &str),
+    rule: usize,
+    link: &'static str,
     want: Option<usize>,
-) -> Result<(), Fail> {
-    assert!(rt; link.len() < 100);
-    let text = link.repeat(alloc, 1_000_000)?;
-    let table = table(rule, Edition::Edition2021);
-    assert_takes(rt, alloc, (table, text.as_str()), want)
+) -> Option<&'static str> {
+    match link.repeat(alloc, 1_000_000) {
+        Ok(text) => {
+            let table = table(rule, Edition::Edition2021);
+            (!takes_expr(alloc, table, text.as_str(), want)).then_some(link)
+        }
+        Err(AllocError) => Some(link),
+    }
 }
 
 #[test]
-fn many_prefixes(rt: HostRuntime) -> Result<(), Fail> {
-    assert_takes_long(&rt, rt.alloc(), (MINUSES, "-"), Some(1_000_000))
+fn many_prefixes(rt: HostRuntime) {
+    none(&rt, wrong_link(rt.alloc(), MINUSES, "-", Some(1_000_000)));
 }
 
 #[test]
-fn many_angles(rt: HostRuntime) -> Result<(), Fail> {
-    assert_takes_long(&rt, rt.alloc(), (NESTED, "<"), None)
+fn many_angles(rt: HostRuntime) {
+    none(&rt, wrong_link(rt.alloc(), NESTED, "<", None));
 }
 
 #[test]
-fn many_braces(rt: HostRuntime) -> Result<(), Fail> {
-    assert_takes_long(&rt, rt.alloc(), (ANY, "{"), Some(2_000_000))
+fn many_braces(rt: HostRuntime) {
+    none(&rt, wrong_link(rt.alloc(), ANY, "{", Some(2_000_000)));
 }

@@ -1,9 +1,10 @@
 // Faults of definitions: how many rules are kept, and the error.
-use crate::runs::defined;
+use crate::runs::{defined, none};
 use crate::trees::lexed;
 use mbe::{DeclarativeMacro, ParseError};
 use mbe_tt::span::Edition;
 use std::alloc::{AllocError, Global};
+use test_rows::{Fields, Rows, number, rows};
 
 /// The error of a definition.
 #[derive(Clone, Copy)]
@@ -14,30 +15,6 @@ pub enum Reported {
     EmptyRepetition,
     InvalidRepeat,
 }
-
-pub const MISSING_SPECIFIER: Reported = Reported::Unexpected("missing fragment specifier");
-
-pub const IDENT: Reported = Reported::Expected("expected ident");
-
-pub const SUBTREE: Reported = Reported::Expected("expected subtree");
-
-pub const EQUALS: Reported = Reported::Expected("expected `=`");
-
-pub const GREATER: Reported = Reported::Expected("expected `>`");
-
-pub const PARENTHESES: Reported = Reported::Expected("expected `()`");
-
-const SEMICOLON: Reported = Reported::Expected("expected `;`");
-
-pub const REPETITION: Reported = Reported::Expected(
-    "expected `$()` repetition or `${}` expression",
-);
-
-pub const DOLLARS: Reported = Reported::Unexpected("`$$` is not allowed on the pattern side");
-
-pub const EXPRESSION: Reported = Reported::Unexpected(
-    "`${}` metavariable expressions are not allowed in matchers",
-);
 
 impl Reported {
     /// That error, made anew.
@@ -54,8 +31,16 @@ impl Reported {
     }
 }
 
-/// A definition, how many of its rules are kept, and its error.
-pub type Row = (&'static str, usize, Reported);
+/// An error by its sort and its text.
+pub fn reported_as(sort: &str, text: &'static str) -> Reported {
+    match sort.chars().next() {
+        Some('e') => Reported::Expected(text),
+        Some('u') => Reported::Unexpected(text),
+        Some('r') => Reported::EmptyRepetition,
+        Some('i') => Reported::InvalidRepeat,
+        _ => Reported::Nothing,
+    }
+}
 
 /// Whether a macro has so many rules and that error.
 pub fn is_read(
@@ -76,158 +61,137 @@ pub fn is_text_read(
     is_read(alloc, &defined(alloc, definition)?, want)
 }
 
-/// The first definition that is read otherwise.
-pub fn first_misread(alloc: Global, rows: &[Row]) -> Result<Option<&'static str>, AllocError> {
-    for &(definition, count, reported) in rows {
-        if !is_text_read(alloc, definition, (count, reported))? {
-            return Ok(Some(definition));
-        }
+/// Rows of a definition, how many of its rules are kept, and its error, if there is one: `expected` or `unexpected` and its text, `refused`
+/// for a repetition that can read nothing, `invalid` for an invalid one.
+#[derive(Clone, Copy)]
+pub struct Definitions;
+
+impl Rows for Definitions {
+    fn is_so(
+        &self,
+        alloc: Global,
+        [definition, count, sort, text, ..]: Fields,
+    ) -> Result<bool, AllocError> {
+        let want = (number(count), reported_as(sort, text));
+        is_text_read(alloc, definition, want)
     }
-    Ok(None)
 }
 
-/// What comes before texts, what comes after them, the texts, and how each such definition is read.
-pub type Texts = (
-    &'static str,
-    &'static str,
-    &'static [&'static str],
-    (usize, Reported),
-);
+/// Rows of texts, each between two others, and how each such definition is read.
+#[derive(Clone, Copy)]
+pub struct Parts {
+    pub around: (&'static str, &'static str),
+    pub want: (usize, Reported),
+}
 
-/// The first text with which the definition is read otherwise.
-pub fn first_text_misread(
-    alloc: Global,
-    &(before, after, texts, want): &Texts,
-) -> Result<Option<&'static str>, AllocError> {
-    for &text in texts {
+impl Rows for Parts {
+    fn is_so(&self, alloc: Global, [text, ..]: Fields) -> Result<bool, AllocError> {
+        let (before, after) = self.around;
         let definition = format!(in alloc; "{before}{text}{after}")?;
-        if !is_text_read(alloc, definition.as_str(), want)? {
-            return Ok(Some(text));
-        }
+        is_text_read(alloc, definition.as_str(), self.want)
     }
-    Ok(None)
 }
 
-// A rule with every form of pattern and of template.
-const EVERY_FORM: &str =
-    "unsafe attr(x) ($a:ident $b:literal [c] 1 + $($d:expr),* $($e:ty)'f + $($g:tt)1? $(h)=>* \
+// The first is a rule with every form of pattern and of template.
+pub const FIRST: &str = rows![
+    ("unsafe attr(x) ($a:ident $b:literal [c] 1 + $($d:expr),* $($e:ty)'f + $($g:tt)1? $(h)=>* \
     $(i)* $(k)and* $crate) => {$a $j [c] 1 + $($d $e);* $($g)? ${ignore($a)} ${index()} ${len(1)} ${count($d)} ${count($e, 1)} \
-    ${concat(a, $a, 1)} $$ $crate $}";
-
-// Of a long table the proof costs much more than of its parts, so there are several.
-static FIRST: [Row; 20] = [
-    (EVERY_FORM, 1, Reported::Nothing),
+    ${concat(a, $a, 1)} $$ $crate $}", 1),
     // Rules have their parts.
-    ("", 0, Reported::Nothing),
-    ("() => {}", 1, Reported::Nothing),
-    ("() => {};", 1, Reported::Nothing),
-    ("[] => (); {} => []", 2, Reported::Nothing),
-    ("() = > {}", 1, Reported::Nothing),
-    ("() => {} x", 1, SEMICOLON),
-    ("() => {} () => {}", 1, SEMICOLON),
-    ("() => {}, () => {}", 1, SEMICOLON),
-    ("() => {};;", 1, SUBTREE),
-    ("() => {};; () => {}", 1, SUBTREE),
-    ("x", 0, SUBTREE),
-    (";", 0, SUBTREE),
-    ("($x:ident) =>", 0, SUBTREE),
-    ("() => x", 0, SUBTREE),
-    ("()", 0, EQUALS),
-    ("() {}", 0, EQUALS),
-    ("() > {}", 0, EQUALS),
-    ("() =", 0, GREATER),
-    ("() = {}", 0, GREATER),
+    ("", 0),
+    ("() => {}", 1),
+    ("() => {};", 1),
+    ("[] => (); {} => []", 2),
+    ("() = > {}", 1),
+    ("() => {} x", 1, "expected", "expected `;`"),
+    ("() => {} () => {}", 1, "expected", "expected `;`"),
+    ("() => {}, () => {}", 1, "expected", "expected `;`"),
+    ("() => {};;", 1, "expected", "expected subtree"),
+    ("() => {};; () => {}", 1, "expected", "expected subtree"),
+    ("x", 0, "expected", "expected subtree"),
+    (";", 0, "expected", "expected subtree"),
+    ("($x:ident) =>", 0, "expected", "expected subtree"),
+    ("() => x", 0, "expected", "expected subtree"),
+    ("()", 0, "expected", "expected `=`"),
+    ("() {}", 0, "expected", "expected `=`"),
+    ("() > {}", 0, "expected", "expected `=`"),
+    ("() =", 0, "expected", "expected `>`"),
+    ("() = {}", 0, "expected", "expected `>`"),
 ];
 
-static SECOND: [Row; 20] = [
-    ("() == {}", 0, GREATER),
-    ("($(a) => {}", 0, EQUALS),
+pub const SECOND: &str = rows![
+    ("() == {}", 0, "expected", "expected `>`"),
+    ("($(a) => {}", 0, "expected", "expected `=`"),
     // Variables of a pattern have a specifier.
-    ("($x) => {}", 0, MISSING_SPECIFIER),
-    ("($x:) => {}", 0, MISSING_SPECIFIER),
-    ("($x:_) => {}", 0, MISSING_SPECIFIER),
-    ("($x:1) => {}", 0, MISSING_SPECIFIER),
-    ("($x ident) => {}", 0, MISSING_SPECIFIER),
-    ("($x::ident) => {}", 0, MISSING_SPECIFIER),
-    ("([a {$x}]) => {}", 0, MISSING_SPECIFIER),
-    ("() => {}; ($x) => {}", 1, MISSING_SPECIFIER),
-    ("() => {}; ($x) => {}; () => {}", 1, MISSING_SPECIFIER),
-    ("($x:ident $y:tt $z:foo) => {}", 1, Reported::Nothing),
-    ("($_:ident) => {}", 1, Reported::Nothing),
+    ("($x) => {}", 0, "unexpected", "missing fragment specifier"),
+    ("($x:) => {}", 0, "unexpected", "missing fragment specifier"),
+    ("($x:_) => {}", 0, "unexpected", "missing fragment specifier"),
+    ("($x:1) => {}", 0, "unexpected", "missing fragment specifier"),
+    ("($x ident) => {}", 0, "unexpected", "missing fragment specifier"),
+    ("($x::ident) => {}", 0, "unexpected", "missing fragment specifier"),
+    ("([a {$x}]) => {}", 0, "unexpected", "missing fragment specifier"),
+    ("() => {}; ($x) => {}", 1, "unexpected", "missing fragment specifier"),
+    ("() => {}; ($x) => {}; () => {}", 1, "unexpected", "missing fragment specifier"),
+    ("($x:ident $y:tt $z:foo) => {}", 1),
+    ("($_:ident) => {}", 1),
     // What comes after a dollar.
-    ("($1) => {}", 0, IDENT),
-    ("($+) => {}", 0, IDENT),
-    ("() => {$1}", 0, IDENT),
-    ("() => {[$+]}", 0, IDENT),
-    ("($[a]) => {}", 0, REPETITION),
-    ("() => {$[a]}", 0, REPETITION),
-    ("($$) => {}", 0, DOLLARS),
+    ("($1) => {}", 0, "expected", "expected ident"),
+    ("($+) => {}", 0, "expected", "expected ident"),
+    ("() => {$1}", 0, "expected", "expected ident"),
+    ("() => {[$+]}", 0, "expected", "expected ident"),
+    ("($[a]) => {}", 0, "expected", "expected `$()` repetition or `${}` expression"),
+    ("() => {$[a]}", 0, "expected", "expected `$()` repetition or `${}` expression"),
+    ("($$) => {}", 0, "unexpected", "`$$` is not allowed on the pattern side"),
 ];
 
-static THIRD: [Row; 20] = [
-    ("([$$]) => {}", 0, DOLLARS),
-    ("(${len()}) => {}", 0, EXPRESSION),
-    ("(a {${}}) => {}", 0, EXPRESSION),
-    ("($$ $1) => {$[a]}", 0, DOLLARS),
-    ("($1 $$) => {$[a]}", 0, IDENT),
-    ("($x:ident) => {$[a] $1}", 0, REPETITION),
-    ("($) => {}", 1, Reported::Nothing),
-    ("() => {$}", 1, Reported::Nothing),
-    ("() => {$$}", 1, Reported::Nothing),
-    ("($crate) => {}", 1, Reported::Nothing),
+pub const THIRD: &str = rows![
+    ("([$$]) => {}", 0, "unexpected", "`$$` is not allowed on the pattern side"),
+    ("(${len()}) => {}", 0, "unexpected", "`${}` metavariable expressions are not allowed in matchers"),
+    ("(a {${}}) => {}", 0, "unexpected", "`${}` metavariable expressions are not allowed in matchers"),
+    ("($$ $1) => {$[a]}", 0, "unexpected", "`$$` is not allowed on the pattern side"),
+    ("($1 $$) => {$[a]}", 0, "expected", "expected ident"),
+    ("($x:ident) => {$[a] $1}", 0, "expected", "expected `$()` repetition or `${}` expression"),
+    ("($) => {}", 1),
+    ("() => {$}", 1),
+    ("() => {$$}", 1),
+    ("($crate) => {}", 1),
     // Groups of a rule are taken before they are read.
-    ("($x)", 0, EQUALS),
-    ("($x:path) =", 0, GREATER),
-    ("($(a)*) =>", 0, SUBTREE),
-    ("($$) => x", 0, SUBTREE),
+    ("($x)", 0, "expected", "expected `=`"),
+    ("($x:path) =", 0, "expected", "expected `>`"),
+    ("($(a)*) =>", 0, "expected", "expected subtree"),
+    ("($$) => x", 0, "expected", "expected subtree"),
     // Each prefix of a definition.
-    ("", 0, Reported::Nothing),
-    ("(", 0, EQUALS),
-    ("($", 0, EQUALS),
-    ("($x", 0, EQUALS),
-    ("($x:", 0, EQUALS),
-    ("($x:i", 0, EQUALS),
+    ("", 0),
+    ("(", 0, "expected", "expected `=`"),
+    ("($", 0, "expected", "expected `=`"),
+    ("($x", 0, "expected", "expected `=`"),
+    ("($x:", 0, "expected", "expected `=`"),
+    ("($x:i", 0, "expected", "expected `=`"),
 ];
 
-static FOURTH: [Row; 20] = [
-    ("($x:id", 0, EQUALS),
-    ("($x:ide", 0, EQUALS),
-    ("($x:iden", 0, EQUALS),
-    ("($x:ident", 0, EQUALS),
-    ("($x:ident)", 0, EQUALS),
-    ("($x:ident) ", 0, EQUALS),
-    ("($x:ident) =", 0, GREATER),
-    ("($x:ident) =>", 0, SUBTREE),
-    ("($x:ident) => ", 0, SUBTREE),
-    ("($x:ident) => {", 1, Reported::Nothing),
-    ("($x:ident) => {$", 1, Reported::Nothing),
-    ("($x:ident) => {$x", 1, Reported::Nothing),
-    ("($x:ident) => {$x}", 1, Reported::Nothing),
+pub const FOURTH: &str = rows![
+    ("($x:id", 0, "expected", "expected `=`"),
+    ("($x:ide", 0, "expected", "expected `=`"),
+    ("($x:iden", 0, "expected", "expected `=`"),
+    ("($x:ident", 0, "expected", "expected `=`"),
+    ("($x:ident)", 0, "expected", "expected `=`"),
+    ("($x:ident) ", 0, "expected", "expected `=`"),
+    ("($x:ident) =", 0, "expected", "expected `>`"),
+    ("($x:ident) =>", 0, "expected", "expected subtree"),
+    ("($x:ident) => ", 0, "expected", "expected subtree"),
+    ("($x:ident) => {", 1),
+    ("($x:ident) => {$", 1),
+    ("($x:ident) => {$x", 1),
+    ("($x:ident) => {$x}", 1),
     // The first fault is reported: one of the pattern before one of the template, and reading stops at the first of all.
-    ("($x) x", 0, EQUALS),
-    ("($x) => {}", 0, MISSING_SPECIFIER),
-    ("($x) => {$1}", 0, MISSING_SPECIFIER),
-    ("(a $x $$) => {}", 0, MISSING_SPECIFIER),
-    ("() => {}; ($x) => {}; x", 1, MISSING_SPECIFIER),
-    ("() => {};;", 1, SUBTREE),
-    ("() => {};; ($x) => {}", 1, SUBTREE),
+    ("($x) x", 0, "expected", "expected `=`"),
+    ("($x) => {}", 0, "unexpected", "missing fragment specifier"),
+    ("($x) => {$1}", 0, "unexpected", "missing fragment specifier"),
+    ("(a $x $$) => {}", 0, "unexpected", "missing fragment specifier"),
+    ("() => {}; ($x) => {}; x", 1, "unexpected", "missing fragment specifier"),
+    ("() => {};;", 1, "expected", "expected subtree"),
+    ("() => {};; ($x) => {}", 1, "expected", "expected subtree"),
 ];
-
-pub fn first() -> &'static [Row] {
-    &FIRST
-}
-
-pub fn second() -> &'static [Row] {
-    &SECOND
-}
-
-pub fn third() -> &'static [Row] {
-    &THIRD
-}
-
-pub fn fourth() -> &'static [Row] {
-    &FOURTH
-}
 
 static EDITIONS: [Edition; 4] = [
     Edition::Edition2015,
@@ -270,18 +234,15 @@ fn first_refused(alloc: Global, edition: Edition) -> Result<Option<&'static str>
 #[test]
 fn specifiers_have_no_fault_in_any_edition(rt: HostRuntime) {
     for &edition in &EDITIONS {
-        let refused = first_refused(rt.alloc(), edition);
-        assert!(rt; matches!(refused, Ok(None)), "{edition:?} {refused:?}");
+        none(&rt, first_refused(rt.alloc(), edition));
     }
 }
 
-static UNKNOWN: [Texts; 1] = [(
-    "() => {}; ($x:",
-    ") => {}",
-    &["Path", "tys", "expr2021", "expr_2024", "ident_", "tts"],
-    (2, Reported::Nothing),
-)];
-
-pub fn unknown() -> &'static [Texts] {
-    &UNKNOWN
-}
+pub const UNKNOWN: &str = rows![
+    ("Path"),
+    ("tys"),
+    ("expr2021"),
+    ("expr_2024"),
+    ("ident_"),
+    ("tts"),
+];

@@ -1,7 +1,5 @@
 // Metavariable expressions, `${..}`: which are read, and which are faults.
-use crate::definitions::{
-    EXPRESSION, MISSING_SPECIFIER, REPETITION, Reported, Row, Texts, is_read,
-};
+use crate::definitions::{Reported, is_read};
 use crate::runs::parsed;
 use crate::tokens::Lexeme::{Alone, Close, Joint, Number, Open, Raw, Suffixed, Text, Word};
 use crate::tokens::{Lexeme, at};
@@ -9,120 +7,98 @@ use crate::trees::built;
 use mbe_tt::tt::DelimiterKind;
 use mbe_tt::tt::DelimiterKind::{Brace, Invisible, Parenthesis};
 use std::alloc::{AllocError, Global};
+use test_rows::rows;
 
-const INVALID: Reported = Reported::Unexpected("invalid metavariable expression");
+pub const INVALID: Reported = Reported::Unexpected("invalid metavariable expression");
 
 // Expressions of each form, and then invalid expressions, depths and elements.
-static TEXTS: [Texts; 4] = [
-    (
-        "($x:ident) => { ${",
-        "} }",
-        &[
-            "ignore($x)",
-            "index()",
-            "index(1)",
-            "len()",
-            "len(0)",
-            "len(007)",
-            "len(18446744073709551615)",
-            "count($x)",
-            "count($x,)",
-            "count($x, 2)",
-            "count($crate, 0)",
-            "concat(a, b)",
-            "concat(a, b,)",
-            "concat($x, 1, _, $_)",
-            "concat(true, $false)",
-            "index() foo",
-            "ignore($x) ${}",
-        ],
-        (1, Reported::Nothing),
-    ),
-    (
-        "() => {}; () => { ${",
-        "} }",
-        &[
-            "",
-            "len",
-            "()",
-            "_()",
-            "1()",
-            "$len()",
-            "len[]",
-            "len{}",
-            "len, ()",
-            "lens()",
-            "Len()",
-            "(len())",
-            "ignore()",
-            "ignore(x)",
-            "ignore($)",
-            "ignore($1)",
-            "ignore($_)",
-            "ignore($x,)",
-            "ignore($x y)",
-            "ignore(, $x)",
-        ],
-        (1, INVALID),
-    ),
-    (
-        "() => { ${",
-        "} }",
-        &[
-            "len(x)",
-            "len(true)",
-            "len(-1)",
-            "len(+1)",
-            "len(1, 2)",
-            "len(1 2)",
-            "len(1,)",
-            "len(,)",
-            "len((1))",
-            "len(0x1)",
-            "len(1_0)",
-            "len(18446744073709551616)",
-            "index($x)",
-            "index(1 2)",
-            "count()",
-            "count(x)",
-            "count($_)",
-            "count($x 1)",
-            "count($x; 1)",
-            "count($x, y)",
-            "count($x, 1,)",
-            "count($x, 1 2)",
-        ],
-        (0, INVALID),
-    ),
-    (
-        "() => { ${",
-        "} }",
-        &[
-            "concat()",
-            "concat(,)",
-            "concat(a)",
-            "concat(a,)",
-            "concat($x)",
-            "concat(a b)",
-            "concat(a; b)",
-            "concat(, a, b)",
-            "concat(a,, b)",
-            "concat(a, b,,)",
-            "concat(a, $)",
-            "concat($, a)",
-            "concat($1, a)",
-            "concat($$x, a)",
-            "concat((a), b)",
-            "concat(a, b, (c))",
-            "concat($x $y, z)",
-        ],
-        (0, INVALID),
-    ),
+pub const FORMS: &str = rows![
+    ("ignore($x)"),
+    ("index()"),
+    ("index(1)"),
+    ("len()"),
+    ("len(0)"),
+    ("len(007)"),
+    ("len(18446744073709551615)"),
+    ("count($x)"),
+    ("count($x,)"),
+    ("count($x, 2)"),
+    ("count($crate, 0)"),
+    ("concat(a, b)"),
+    ("concat(a, b,)"),
+    ("concat($x, 1, _, $_)"),
+    ("concat(true, $false)"),
+    ("index() foo"),
+    ("ignore($x) ${}"),
 ];
 
-pub fn texts() -> &'static [Texts] {
-    &TEXTS
-}
+pub const INVALID_FORMS: &str = rows![
+    (""),
+    ("len"),
+    ("()"),
+    ("_()"),
+    ("1()"),
+    ("$len()"),
+    ("len[]"),
+    ("len{}"),
+    ("len, ()"),
+    ("lens()"),
+    ("Len()"),
+    ("(len())"),
+    ("ignore()"),
+    ("ignore(x)"),
+    ("ignore($)"),
+    ("ignore($1)"),
+    ("ignore($_)"),
+    ("ignore($x,)"),
+    ("ignore($x y)"),
+    ("ignore(, $x)"),
+];
+
+pub const INVALID_DEPTHS: &str = rows![
+    ("len(x)"),
+    ("len(true)"),
+    ("len(-1)"),
+    ("len(+1)"),
+    ("len(1, 2)"),
+    ("len(1 2)"),
+    ("len(1,)"),
+    ("len(,)"),
+    ("len((1))"),
+    ("len(0x1)"),
+    ("len(1_0)"),
+    ("len(18446744073709551616)"),
+    ("index($x)"),
+    ("index(1 2)"),
+    ("count()"),
+    ("count(x)"),
+    ("count($_)"),
+    ("count($x 1)"),
+    ("count($x; 1)"),
+    ("count($x, y)"),
+    ("count($x, 1,)"),
+    ("count($x, 1 2)"),
+];
+
+pub const INVALID_ELEMENTS: &str = rows![
+    ("concat()"),
+    ("concat(,)"),
+    ("concat(a)"),
+    ("concat(a,)"),
+    ("concat($x)"),
+    ("concat(a b)"),
+    ("concat(a; b)"),
+    ("concat(, a, b)"),
+    ("concat(a,, b)"),
+    ("concat(a, b,,)"),
+    ("concat(a, $)"),
+    ("concat($, a)"),
+    ("concat($1, a)"),
+    ("concat($$x, a)"),
+    ("concat((a), b)"),
+    ("concat(a, b, (c))"),
+    ("concat($x $y, z)"),
+];
 
 // A call in an expression: its word, the kind of the group around its argument, the argument, and whether it is read.
 type Call = (Lexeme<'static>, DelimiterKind, Lexeme<'static>, bool);
@@ -186,24 +162,20 @@ fn depths_by_their_text(rt: HostRuntime) {
     }
 }
 
-static READ: [Row; 13] = [
+pub const READ: &str = rows![
     // Faults in reading order.
-    ("() => {a [${len()}] ${index(0)} $x}", 1, Reported::Nothing),
-    ("() => {${len()}}; () => {${len(x)}}; () => {}", 1, INVALID),
-    ("() => {[{${concat(a)}}]}", 0, INVALID),
-    ("() => {${} $[a]}", 0, INVALID),
-    ("() => {$[a] ${}}", 0, REPETITION),
-    ("() => {${len()} $[a]}", 0, REPETITION),
-    ("() => {${len() $[a]}}", 1, Reported::Nothing),
-    ("($x) => {${}}", 0, MISSING_SPECIFIER),
-    ("() => {${}} x", 0, INVALID),
+    ("() => {a [${len()}] ${index(0)} $x}", 1),
+    ("() => {${len()}}; () => {${len(x)}}; () => {}", 1, "unexpected", "invalid metavariable expression"),
+    ("() => {[{${concat(a)}}]}", 0, "unexpected", "invalid metavariable expression"),
+    ("() => {${} $[a]}", 0, "unexpected", "invalid metavariable expression"),
+    ("() => {$[a] ${}}", 0, "expected", "expected `$()` repetition or `${}` expression"),
+    ("() => {${len()} $[a]}", 0, "expected", "expected `$()` repetition or `${}` expression"),
+    ("() => {${len() $[a]}}", 1),
+    ("($x) => {${}}", 0, "unexpected", "missing fragment specifier"),
+    ("() => {${}} x", 0, "unexpected", "invalid metavariable expression"),
     // Expressions of a pattern.
-    ("(${len()}) => {}", 0, EXPRESSION),
-    ("(${}) => {}", 0, EXPRESSION),
-    ("([a ${concat(a)}]) => {}", 0, EXPRESSION),
-    ("(${len()}) => {${}}", 0, EXPRESSION),
+    ("(${len()}) => {}", 0, "unexpected", "`${}` metavariable expressions are not allowed in matchers"),
+    ("(${}) => {}", 0, "unexpected", "`${}` metavariable expressions are not allowed in matchers"),
+    ("([a ${concat(a)}]) => {}", 0, "unexpected", "`${}` metavariable expressions are not allowed in matchers"),
+    ("(${len()}) => {${}}", 0, "unexpected", "`${}` metavariable expressions are not allowed in matchers"),
 ];
-
-pub fn read() -> &'static [Row] {
-    &READ
-}

@@ -1,15 +1,14 @@
 // Which fragments a variable takes by a grammar that is handed in, and how they are written.
 use crate::grammar::{Counting, NoMemory, Numbered, number_of};
-use crate::runs::{TreesRow, Want, defined, made, makes, makes_of_texts, none};
-use crate::tokens::Lexeme::{Alone, Close, Float, Joint, Number, Open, Raw, Text, Word};
-use crate::tokens::{Lexeme, Token, at};
-use crate::trees::Trees::{Of, Tokens};
-use crate::trees::{Trees, built, lexed};
-use mbe::{DeclarativeMacro, MacroCallStyle};
+use crate::runs::{Want, defined, made, makes, makes_of_texts, none, want};
+use crate::tokens::Lexeme::{Number, Raw, Word};
+use crate::tokens::{Lexeme, at};
+use crate::trees::{built, lexed};
+use mbe::DeclarativeMacro;
 use mbe_tt::grammar::PrefixEntryPoint;
 use mbe_tt::span::Edition;
-use mbe_tt::tt::DelimiterKind::{Bracket, Invisible, Parenthesis};
 use std::alloc::{AllocError, Global};
+use test_rows::{Fields, Rows, each, holds, number, rows};
 
 /// A grammar that takes so many flat tokens of everything.
 pub fn taking(count: usize) -> Counting {
@@ -19,312 +18,310 @@ pub fn taking(count: usize) -> Counting {
     }
 }
 
-const EMPTY: Want = Some((0, &[]));
+const EMPTY: Want<'static> = Some((0, ""));
 
 // How many flat tokens the grammar takes, a definition, an argument, and what is made of it.
-type Row = (usize, &'static str, &'static str, Want);
+#[derive(Clone, Copy)]
+struct Taken;
 
-const SIGNS: &str =
-    "\n(-1) => {-1};\n(- 2) => {- 2};\n(- 3.0) => {- 3.0};\n(@$lit:literal) => {$lit}\n";
+impl Rows for Taken {
+    fn is_so(
+        &self,
+        alloc: Global,
+        [count, definition, argument, arm, tokens, ..]: Fields,
+    ) -> Result<bool, AllocError> {
+        let grammar = taking(number(count));
+        makes_of_texts(alloc, &grammar, (definition, argument), want(arm, tokens))
+    }
+}
 
 // A minus belongs to a literal.
-static SIGNED: [Row; 10] = [
+const SIGNED: &str = rows![
     (
         0,
-        SIGNS,
+        "\n(-1) => {-1};\n(- 2) => {- 2};\n(- 3.0) => {- 3.0};\n(@$lit:literal) => {$lit}\n",
         "-1",
-        Some((0, &[(Alone('-'), 0, 10, 11), (Number("1"), 0, 11, 12)])),
+        0,
+        "alone - 0 10 11
+number 1 0 11 12"
     ),
     (
         0,
-        SIGNS,
+        "\n(-1) => {-1};\n(- 2) => {- 2};\n(- 3.0) => {- 3.0};\n(@$lit:literal) => {$lit}\n",
         "- 1",
-        Some((0, &[(Alone('-'), 0, 10, 11), (Number("1"), 0, 11, 12)])),
+        0,
+        "alone - 0 10 11
+number 1 0 11 12"
     ),
     (
         0,
-        SIGNS,
+        "\n(-1) => {-1};\n(- 2) => {- 2};\n(- 3.0) => {- 3.0};\n(@$lit:literal) => {$lit}\n",
         "-2",
-        Some((1, &[(Alone('-'), 0, 25, 26), (Number("2"), 0, 27, 28)])),
+        1,
+        "alone - 0 25 26
+number 2 0 27 28"
     ),
     (
         0,
-        SIGNS,
+        "\n(-1) => {-1};\n(- 2) => {- 2};\n(- 3.0) => {- 3.0};\n(@$lit:literal) => {$lit}\n",
         "- 2",
-        Some((1, &[(Alone('-'), 0, 25, 26), (Number("2"), 0, 27, 28)])),
+        1,
+        "alone - 0 25 26
+number 2 0 27 28"
     ),
     (
         0,
-        SIGNS,
+        "\n(-1) => {-1};\n(- 2) => {- 2};\n(- 3.0) => {- 3.0};\n(@$lit:literal) => {$lit}\n",
         "-3.0",
-        Some((2, &[(Alone('-'), 0, 43, 44), (Float("3.0"), 0, 45, 48)])),
+        2,
+        "alone - 0 43 44
+float 3.0 0 45 48"
     ),
     (
         0,
-        SIGNS,
+        "\n(-1) => {-1};\n(- 2) => {- 2};\n(- 3.0) => {- 3.0};\n(@$lit:literal) => {$lit}\n",
         "- 3.0",
-        Some((2, &[(Alone('-'), 0, 43, 44), (Float("3.0"), 0, 45, 48)])),
+        2,
+        "alone - 0 43 44
+float 3.0 0 45 48"
     ),
     (
         0,
-        SIGNS,
+        "\n(-1) => {-1};\n(- 2) => {- 2};\n(- 3.0) => {- 3.0};\n(@$lit:literal) => {$lit}\n",
         "@-1",
-        Some((3, &[(Alone('-'), 1, 1, 2), (Number("1"), 1, 2, 3)])),
+        3,
+        "alone - 1 1 2
+number 1 1 2 3"
     ),
     (
         0,
-        SIGNS,
+        "\n(-1) => {-1};\n(- 2) => {- 2};\n(- 3.0) => {- 3.0};\n(@$lit:literal) => {$lit}\n",
         "@-1.0",
-        Some((3, &[(Alone('-'), 1, 1, 2), (Float("1.0"), 1, 2, 5)])),
+        3,
+        "alone - 1 1 2
+float 1.0 1 2 5"
     ),
-    (0, SIGNS, "@1", Some((3, &[(Number("1"), 1, 1, 2)]))),
-    (0, SIGNS, "@1.0", Some((3, &[(Float("1.0"), 1, 1, 4)]))),
-];
-
-const LITERAL: &str = "($l:literal) => {$l}";
-
-static LITERALS: [Row; 11] = [
-    (0, LITERAL, "true", Some((0, &[(Word("true"), 1, 0, 4)]))),
     (
         0,
-        LITERAL,
+        "\n(-1) => {-1};\n(- 2) => {- 2};\n(- 3.0) => {- 3.0};\n(@$lit:literal) => {$lit}\n",
+        "@1",
+        3,
+        "number 1 1 1 2"
+    ),
+    (
+        0,
+        "\n(-1) => {-1};\n(- 2) => {- 2};\n(- 3.0) => {- 3.0};\n(@$lit:literal) => {$lit}\n",
+        "@1.0",
+        3,
+        "float 1.0 1 1 4"
+    ),
+];
+
+const LITERALS: &str = rows![
+    (0, "($l:literal) => {$l}", "true", 0, "word true 1 0 4"),
+    (
+        0,
+        "($l:literal) => {$l}",
         "- false",
-        Some((0, &[(Alone('-'), 1, 0, 1), (Word("false"), 1, 2, 7)])),
+        0,
+        "alone - 1 0 1
+word false 1 2 7"
     ),
-    (9, LITERAL, "", None),
-    (9, LITERAL, "-", None),
-    (9, LITERAL, "a", None),
-    (9, LITERAL, "-a", None),
-    (9, LITERAL, "- truth", None),
-    (9, LITERAL, "--1", None),
-    (9, LITERAL, "+1", None),
-    (9, LITERAL, "(1)", None),
-    (9, LITERAL, "1 1", None),
+    (9, "($l:literal) => {$l}", ""),
+    (9, "($l:literal) => {$l}", "-"),
+    (9, "($l:literal) => {$l}", "a"),
+    (9, "($l:literal) => {$l}", "-a"),
+    (9, "($l:literal) => {$l}", "- truth"),
+    (9, "($l:literal) => {$l}", "--1"),
+    (9, "($l:literal) => {$l}", "+1"),
+    (9, "($l:literal) => {$l}", "(1)"),
+    (9, "($l:literal) => {$l}", "1 1"),
 ];
 
-const LIFETIME: &str = "($l:lifetime) => {$l}";
-
-static LIFETIMES: [Row; 11] = [
+const LIFETIMES: &str = rows![
     (
         0,
-        LIFETIME,
+        "($l:lifetime) => {$l}",
         "'a",
-        Some((0, &[(Joint('\''), 1, 0, 1), (Word("a"), 1, 1, 2)])),
+        0,
+        "joint ' 1 0 1
+word a 1 1 2"
     ),
     (
         0,
-        LIFETIME,
+        "($l:lifetime) => {$l}",
         "'_",
-        Some((0, &[(Joint('\''), 1, 0, 1), (Word("_"), 1, 1, 2)])),
+        0,
+        "joint ' 1 0 1
+word _ 1 1 2"
     ),
     (
         0,
-        LIFETIME,
+        "($l:lifetime) => {$l}",
         "'static",
-        Some((0, &[(Joint('\''), 1, 0, 1), (Word("static"), 1, 1, 7)])),
+        0,
+        "joint ' 1 0 1
+word static 1 1 7"
     ),
-    (9, LIFETIME, "", None),
-    (9, LIFETIME, "'", None),
-    (9, LIFETIME, "a", None),
-    (9, LIFETIME, "'1", None),
-    (9, LIFETIME, "'(a)", None),
-    (9, LIFETIME, "''a", None),
-    (9, LIFETIME, "'a b", None),
-    (9, LIFETIME, "('a)", None),
+    (9, "($l:lifetime) => {$l}", ""),
+    (9, "($l:lifetime) => {$l}", "'"),
+    (9, "($l:lifetime) => {$l}", "a"),
+    (9, "($l:lifetime) => {$l}", "'1"),
+    (9, "($l:lifetime) => {$l}", "'(a)"),
+    (9, "($l:lifetime) => {$l}", "''a"),
+    (9, "($l:lifetime) => {$l}", "'a b"),
+    (9, "($l:lifetime) => {$l}", "('a)"),
 ];
-
-const VIS: &str = "($v:vis) => {[$v]}";
-
-const VIS_AND_NAME: &str = "($v:vis $x:ident) => {$v; $x}";
 
 // A visibility may be nothing, a type not.
-static VISIBILITIES: [Row; 8] = [
+const VISIBILITIES: &str = rows![
     (
         0,
-        VIS,
+        "($v:vis) => {[$v]}",
         "",
-        Some((0, &[(Open(Bracket), 0, 13, 14), (Close, 0, 16, 17)])),
+        0,
+        "open [ 0 13 14
+close ) 0 16 17"
     ),
     (
         5,
-        VIS,
+        "($v:vis) => {[$v]}",
         "",
-        Some((0, &[(Open(Bracket), 0, 13, 14), (Close, 0, 16, 17)])),
+        0,
+        "open [ 0 13 14
+close ) 0 16 17"
     ),
     (
         0,
-        VIS_AND_NAME,
+        "($v:vis $x:ident) => {$v; $x}",
         "a",
-        Some((0, &[(Alone(';'), 0, 24, 25), (Word("a"), 1, 0, 1)])),
+        0,
+        "alone ; 0 24 25
+word a 1 0 1"
     ),
     (
         1,
-        VIS_AND_NAME,
+        "($v:vis $x:ident) => {$v; $x}",
         "pub a",
-        Some((
-            0,
-            &[
-                (Word("pub"), 1, 0, 3),
-                (Alone(';'), 0, 24, 25),
-                (Word("a"), 1, 4, 5),
-            ],
-        )),
+        0,
+        "word pub 1 0 3
+alone ; 0 24 25
+word a 1 4 5"
     ),
-    (1, VIS_AND_NAME, "", None),
-    (1, VIS_AND_NAME, "a", None),
-    (1, VIS_AND_NAME, "pub a b", None),
-    (0, "($t:ty) => {}", "", None),
+    (1, "($v:vis $x:ident) => {$v; $x}", ""),
+    (1, "($v:vis $x:ident) => {$v; $x}", "a"),
+    (1, "($v:vis $x:ident) => {$v; $x}", "pub a b"),
+    (0, "($t:ty) => {}", ""),
 ];
 
-const BY_FRAGMENTS: &str = "($t:ty) => {A}; ($t:ty $x:ident) => {B $t}; ($x:tt) => {C}";
-
 // Fronts that end in a group don't fit. The first rule whose fragment is long enough is taken.
-static FRONTS: [Row; 7] = [
-    (1, "($t:ty) => {}", "(a b)", None),
-    (2, "($t:ty) => {}", "(a b)", None),
-    (3, "($t:ty) => {}", "(a b)", None),
-    (4, "($t:ty) => {}", "(a b)", EMPTY),
-    (2, "($e:expr) => {}", "(a) b", None),
+const FRONTS: &str = rows![
+    (1, "($t:ty) => {}", "(a b)"),
+    (2, "($t:ty) => {}", "(a b)"),
+    (3, "($t:ty) => {}", "(a b)"),
+    (4, "($t:ty) => {}", "(a b)", 0),
+    (2, "($e:expr) => {}", "(a) b"),
     (
         3,
-        BY_FRAGMENTS,
+        "($t:ty) => {A}; ($t:ty $x:ident) => {B $t}; ($x:tt) => {C}",
         "a b c",
-        Some((0, &[(Word("A"), 0, 12, 13)])),
+        0,
+        "word A 0 12 13"
     ),
     (
         2,
-        BY_FRAGMENTS,
+        "($t:ty) => {A}; ($t:ty $x:ident) => {B $t}; ($x:tt) => {C}",
         "a b c",
-        Some((
-            1,
-            &[
-                (Word("B"), 0, 37, 38),
-                (Word("a"), 1, 0, 1),
-                (Word("b"), 1, 2, 3),
-            ],
-        )),
+        1,
+        "word B 0 37 38
+word a 1 0 1
+word b 1 2 3"
     ),
 ];
 
 // Fragments of the grammar are written as they are, expressions of several tokens in parentheses, paths with two colons.
-static WRITTEN: [Row; 6] = [
+const WRITTEN: &str = rows![
     (
         6,
         "($t:ty) => {$t}",
         "&'a [u8]",
-        Some((
-            0,
-            &[
-                (Alone('&'), 1, 0, 1),
-                (Joint('\''), 1, 1, 2),
-                (Word("a"), 1, 2, 3),
-                (Open(Bracket), 1, 4, 5),
-                (Word("u8"), 1, 5, 7),
-                (Close, 1, 7, 8),
-            ],
-        )),
+        0,
+        "alone & 1 0 1
+joint ' 1 1 2
+word a 1 2 3
+open [ 1 4 5
+word u8 1 5 7
+close ) 1 7 8"
     ),
     (
         2,
         "($t:ty ;) => {$t}",
         "a+;",
-        Some((0, &[(Word("a"), 1, 0, 1), (Alone('+'), 1, 1, 2)])),
+        0,
+        "word a 1 0 1
+alone + 1 1 2"
     ),
     (
         1,
         "($e:expr) => {$e}; ($t:tt) => {A}",
         "1",
-        Some((0, &[(Number("1"), 1, 0, 1)])),
+        0,
+        "number 1 1 0 1"
     ),
     (
         1,
         "($e:expr) => {[$e]}; ($t:tt) => {A}",
         "1",
-        Some((
-            0,
-            &[
-                (Open(Bracket), 0, 14, 15),
-                (Number("1"), 1, 0, 1),
-                (Close, 0, 17, 18),
-            ],
-        )),
+        0,
+        "open [ 0 14 15
+number 1 1 0 1
+close ) 0 17 18"
     ),
     (
         3,
         "($e:expr) => {$e * 2}",
         "1 + 2",
-        Some((
-            0,
-            &[
-                (Open(Parenthesis), 0, 15, 16),
-                (Number("1"), 1, 0, 1),
-                (Alone('+'), 1, 2, 3),
-                (Number("2"), 1, 4, 5),
-                (Close, 0, 15, 16),
-                (Alone('*'), 0, 17, 18),
-                (Number("2"), 0, 19, 20),
-            ],
-        )),
+        0,
+        "open ( 0 15 16
+number 1 1 0 1
+alone + 1 2 3
+number 2 1 4 5
+close ) 0 15 16
+alone * 0 17 18
+number 2 0 19 20"
     ),
     (
         4,
         "($p:path) => {$p}",
         "Vec<u8>",
-        Some((
-            0,
-            &[
-                (Word("Vec"), 1, 0, 3),
-                (Joint(':'), 1, 0, 7),
-                (Alone(':'), 1, 0, 7),
-                (Alone('<'), 1, 3, 4),
-                (Word("u8"), 1, 4, 6),
-                (Alone('>'), 1, 6, 7),
-            ],
-        )),
+        0,
+        "word Vec 1 0 3
+joint : 1 0 7
+alone : 1 0 7
+alone < 1 3 4
+word u8 1 4 6
+alone > 1 6 7"
     ),
 ];
 
-// The first row of which something else is made.
-fn first_wrong(
-    alloc: Global,
-    rows: &[Row],
-) -> Result<Option<(&'static str, &'static str)>, AllocError> {
-    for &(count, definition, argument, want) in rows {
-        if !makes_of_texts(alloc, &taking(count), (definition, argument), want)? {
-            return Ok(Some((definition, argument)));
-        }
-    }
-    Ok(None)
-}
+static TABLES: [(&str, usize); 6] = [
+    (SIGNED, 10),
+    (LITERALS, 11),
+    (LIFETIMES, 11),
+    (VISIBILITIES, 8),
+    (FRONTS, 7),
+    (WRITTEN, 6),
+];
 
 #[test]
 fn fragments_are_taken_and_written(rt: HostRuntime) {
-    let tables: [&[Row]; 6] = [
-        &SIGNED,
-        &LITERALS,
-        &LIFETIMES,
-        &VISIBILITIES,
-        &FRONTS,
-        &WRITTEN,
-    ];
-    for rows in tables {
-        none(&rt, first_wrong(rt.alloc(), rows));
+    for &(rows, count) in &TABLES {
+        each(&rt, rt.alloc(), &Taken, rows, count);
     }
 }
 
 // A grammar that faults after a group.
-static FAULTY: [(&str, &str); 2] = [("($t:ty) => {}", "(a b)"), ("($e:expr) => {}", "(a) b")];
-
-#[test]
-fn fronts_at_fault_do_not_fit(rt: HostRuntime) {
-    let grammar = Counting {
-        count: 4,
-        fault: true,
-    };
-    for &texts in &FAULTY {
-        assert!(rt; makes_of_texts(rt.alloc(), &grammar, texts, None).unwrap_or(false));
-    }
-}
+pub const FAULTY: &str = rows![("($t:ty) => {}", "(a b)"), ("($e:expr) => {}", "(a) b"),];
 
 // The rule of a variable of that specifier, which writes nothing.
 fn rule_of(
@@ -425,44 +422,114 @@ fn expressions_begin_with_no_let(rt: HostRuntime) {
     }
 }
 
-const GROUPED: &[Token<'static>] = &[
-    (Open(Invisible), 1, 0, 1),
-    (Word("a"), 1, 1, 2),
-    (Close, 1, 2, 3),
-];
-
-const ARGUMENT: Trees = Tokens(3, GROUPED);
-
 // Only what the grammar took keeps an invisible group.
-static STRIPPED: [TreesRow; 9] = [
-    (Of("($x:ty) => {$x}"), ARGUMENT, Some((0, GROUPED))),
-    (Of("($x:pat) => {$x}"), ARGUMENT, Some((0, GROUPED))),
-    (Of("($x:pat_param) => {$x}"), ARGUMENT, Some((0, GROUPED))),
-    (Of("($x:stmt) => {$x}"), ARGUMENT, Some((0, GROUPED))),
-    (Of("($x:block) => {$x}"), ARGUMENT, Some((0, GROUPED))),
-    (Of("($x:meta) => {$x}"), ARGUMENT, Some((0, GROUPED))),
-    (Of("($x:item) => {$x}"), ARGUMENT, Some((0, GROUPED))),
-    (Of("($x:vis) => {$x}"), ARGUMENT, Some((0, GROUPED))),
+pub const STRIPPED: &str = rows![
     (
-        Of("($x:tt) => {$x}"),
-        ARGUMENT,
-        Some((0, &[(Word("a"), 1, 1, 2)])),
+        "($x:ty) => {$x}",
+        "tokens 3
+open none 1 0 1
+word a 1 1 2
+close ) 1 2 3",
+        0,
+        "open none 1 0 1
+word a 1 1 2
+close ) 1 2 3"
+    ),
+    (
+        "($x:pat) => {$x}",
+        "tokens 3
+open none 1 0 1
+word a 1 1 2
+close ) 1 2 3",
+        0,
+        "open none 1 0 1
+word a 1 1 2
+close ) 1 2 3"
+    ),
+    (
+        "($x:pat_param) => {$x}",
+        "tokens 3
+open none 1 0 1
+word a 1 1 2
+close ) 1 2 3",
+        0,
+        "open none 1 0 1
+word a 1 1 2
+close ) 1 2 3"
+    ),
+    (
+        "($x:stmt) => {$x}",
+        "tokens 3
+open none 1 0 1
+word a 1 1 2
+close ) 1 2 3",
+        0,
+        "open none 1 0 1
+word a 1 1 2
+close ) 1 2 3"
+    ),
+    (
+        "($x:block) => {$x}",
+        "tokens 3
+open none 1 0 1
+word a 1 1 2
+close ) 1 2 3",
+        0,
+        "open none 1 0 1
+word a 1 1 2
+close ) 1 2 3"
+    ),
+    (
+        "($x:meta) => {$x}",
+        "tokens 3
+open none 1 0 1
+word a 1 1 2
+close ) 1 2 3",
+        0,
+        "open none 1 0 1
+word a 1 1 2
+close ) 1 2 3"
+    ),
+    (
+        "($x:item) => {$x}",
+        "tokens 3
+open none 1 0 1
+word a 1 1 2
+close ) 1 2 3",
+        0,
+        "open none 1 0 1
+word a 1 1 2
+close ) 1 2 3"
+    ),
+    (
+        "($x:vis) => {$x}",
+        "tokens 3
+open none 1 0 1
+word a 1 1 2
+close ) 1 2 3",
+        0,
+        "open none 1 0 1
+word a 1 1 2
+close ) 1 2 3"
+    ),
+    (
+        "($x:tt) => {$x}",
+        "tokens 3
+open none 1 0 1
+word a 1 1 2
+close ) 1 2 3",
+        0,
+        "word a 1 1 2"
     ),
 ];
 
-pub fn stripped() -> &'static [TreesRow] {
-    &STRIPPED
-}
-
-static A_TEXT: [TreesRow; 1] = [(
-    Of(LITERAL),
-    Tokens(5, &[(Text("a b"), 1, 0, 5)]),
-    Some((0, &[(Text("a b"), 1, 0, 5)])),
-)];
-
-pub fn a_text() -> &'static [TreesRow] {
-    &A_TEXT
-}
+pub const A_TEXT: &str = rows![(
+    "($l:literal) => {$l}",
+    "tokens 5
+text a b 1 0 5",
+    0,
+    "text a b 1 0 5"
+),];
 
 // Whether no expansion is made by a grammar without memory.
 fn needs_memory(alloc: Global, definition: &str, argument: &str) -> Result<bool, AllocError> {
@@ -475,6 +542,7 @@ fn needs_memory(alloc: Global, definition: &str, argument: &str) -> Result<bool,
 #[test]
 fn an_expansion_needs_the_memory_of_its_grammar(rt: HostRuntime) {
     let definition = "($x:ident) => {}; ($e:expr) => {}";
-    assert!(rt; makes_of_texts(rt.alloc(), &NoMemory, (definition, "a"), EMPTY).unwrap_or(false));
-    assert!(rt; needs_memory(rt.alloc(), definition, "1").unwrap_or(false));
+    let made = makes_of_texts(rt.alloc(), &NoMemory, (definition, "a"), EMPTY);
+    holds(&rt, made);
+    holds(&rt, needs_memory(rt.alloc(), definition, "1"));
 }

@@ -1,29 +1,19 @@
 // What `expect_fragment` takes from the front of an iterator, and what it reports.
 use crate::fragments::taking;
-use crate::grammar::{Counting, NoMemory, Numbered};
-use crate::tokens::at;
+use crate::grammar::{NoMemory, Numbered, grammar_of};
+use crate::tokens::{at, byte};
 use crate::trees::lexed;
-use mbe::{ExpandError, ExpandErrorKind, expect_fragment};
+use mbe::{ExpandError, ExpandErrorKind, ExpandResult, expect_fragment};
+use mbe_tt::grammar::PrefixEntryPoint;
 use mbe_tt::grammar::PrefixEntryPoint::{
     Block, Expr, Item, MetaItem, Pat, PatTop, Path, Stmt, Ty, Vis,
 };
-use mbe_tt::grammar::{FragmentGrammar, PrefixEntryPoint};
 use mbe_tt::span::{DelimSpan, Span};
+use mbe_tt::tt::TokenTreesView;
 use refusing::Refusing;
 use std::alloc::{AllocError, Allocator, Global};
-use std::process::Abort;
 use std::rc::Rc;
-use std::test::Fail;
-
-// An entry point and a text, the numbers of trees and of flat tokens of its front, where the next tree is, and the error with
-// its place.
-type Row = (
-    PrefixEntryPoint,
-    &'static str,
-    (usize, usize),
-    Option<(u32, u32)>,
-    Option<(&'static str, u32, u32)>,
-);
+use test_rows::{Fields, Rows, each, holds, rows};
 
 // The spans around the arguments of these tests.
 fn around() -> DelimSpan {
@@ -40,388 +30,194 @@ fn binding_error(alloc: Global, text: &str, span: Span) -> Result<ExpandError, A
     })
 }
 
-fn is_front<G: FragmentGrammar>(
+static ENTRIES: [(&str, PrefixEntryPoint); 10] = [
+    ("Path", Path),
+    ("Expr", Expr),
+    ("Ty", Ty),
+    ("PatTop", PatTop),
+    ("Pat", Pat),
+    ("Stmt", Stmt),
+    ("Block", Block),
+    ("MetaItem", MetaItem),
+    ("Item", Item),
+    ("Vis", Vis),
+];
+
+fn entry_of(name: &str) -> Result<PrefixEntryPoint, AllocError> {
+    for &(other, entry) in &ENTRIES {
+        if other == name {
+            return Ok(entry);
+        }
+    }
+    Err(AllocError)
+}
+
+// The bytes of a row, if there are some.
+fn span_of(bytes: &str) -> Option<Span> {
+    let (start, end) = bytes.split_once(' ')?;
+    Some(at(1, byte(start), byte(end)))
+}
+
+// The error of a row, if there is one: its text and its bytes.
+fn error_of(alloc: Global, row: &str) -> Result<Option<ExpandError>, AllocError> {
+    let Some((rest, end)) = row.rsplit_once(' ') else {
+        return Ok(None);
+    };
+    let (text, start) = rest.rsplit_once(' ').unwrap_or(("", ""));
+    Ok(Some(binding_error(alloc, text, at(1, byte(start), byte(end)))?))
+}
+
+// Whether a front has so many trees and flat tokens, and that error.
+fn is_front(
     alloc: Global,
-    grammar: &G,
-    &(entry, text, size, next, error): &Row,
+    front: &ExpandResult<TokenTreesView<'_>>,
+    size: &str,
+    error: &str,
 ) -> Result<bool, AllocError> {
-    let argument = lexed(alloc, 1, text)?;
-    let mut iter = argument.iter();
-    let front = expect_fragment(alloc, grammar, &mut iter, entry, around())?;
-    let error = match error {
-        Some((text, start, end)) => Some(binding_error(alloc, text, at(1, start, end))?),
-        None => None,
-    };
-    let next = match next {
-        Some((start, end)) => Some(at(1, start, end)),
-        None => None,
-    };
-    let found = (front.value.len(), front.value.flat_len());
-    Ok(found == size && iter.next_span() == next && front.err == error)
+    let found = format!(in alloc; "{} {}", front.value.len(), front.value.flat_len())?;
+    Ok(found.as_str() == size && front.err == error_of(alloc, error)?)
+}
+
+// The grammar, if the table has none of its own, an entry point and a text, the numbers of trees and of flat tokens of its front, where the
+// next tree is, and the error with its place.
+#[derive(Clone, Copy)]
+struct Fronts;
+
+impl Rows for Fronts {
+    fn is_so(
+        &self,
+        alloc: Global,
+        [grammar, entry, text, size, next, error]: Fields,
+    ) -> Result<bool, AllocError> {
+        let argument = lexed(alloc, 1, text)?;
+        let mut iter = argument.iter();
+        let entry = entry_of(entry)?;
+        let front = if grammar.is_empty() {
+            expect_fragment(alloc, &Numbered, &mut iter, entry, around())?
+        } else {
+            expect_fragment(alloc, &grammar_of(grammar), &mut iter, entry, around())?
+        };
+        Ok(iter.next_span() == span_of(next) && is_front(alloc, &front, size, error)?)
+    }
 }
 
 // What is counted and whether the grammar faults, and what it takes.
-static COUNTED: [(usize, bool, Row); 34] = [
+const COUNTED: &str = rows![
     // Whole trees.
-    (0, false, (Vis, "", (0, 0), None, None)),
-    (0, false, (Vis, "x", (0, 0), Some((0, 1)), None)),
-    (
-        4,
-        false,
-        (Vis, "pub(crate) x", (2, 4), Some((11, 12)), None),
-    ),
-    (
-        7,
-        false,
-        (Ty, "&'a mut [u8] z", (5, 7), Some((13, 14)), None),
-    ),
-    (4, false, (Expr, "(a b) c", (1, 4), Some((6, 7)), None)),
-    (9, false, (Expr, "(a b) c", (2, 5), None, None)),
+    ("0", "Vis", "", "0 0", "", ""),
+    ("0", "Vis", "x", "0 0", "0 1", ""),
+    ("4", "Vis", "pub(crate) x", "2 4", "11 12", ""),
+    ("7", "Ty", "&'a mut [u8] z", "5 7", "13 14", ""),
+    ("4", "Expr", "(a b) c", "1 4", "6 7", ""),
+    ("9", "Expr", "(a b) c", "2 5", "", ""),
     // A front that ends in a group takes all of it.
-    (
-        2,
-        false,
-        (
-            Ty,
-            "x[a{b}()] z",
-            (2, 9),
-            Some((10, 11)),
-            Some(("expected Ty", 0, 1)),
-        ),
-    ),
-    (
-        3,
-        false,
-        (
-            Ty,
-            "x[a{b}()] z",
-            (2, 9),
-            Some((10, 11)),
-            Some(("expected Ty", 0, 1)),
-        ),
-    ),
-    (
-        4,
-        false,
-        (
-            Ty,
-            "x[a{b}()] z",
-            (2, 9),
-            Some((10, 11)),
-            Some(("expected Ty", 0, 1)),
-        ),
-    ),
-    (
-        5,
-        false,
-        (
-            Ty,
-            "x[a{b}()] z",
-            (2, 9),
-            Some((10, 11)),
-            Some(("expected Ty", 0, 1)),
-        ),
-    ),
-    (
-        6,
-        false,
-        (
-            Ty,
-            "x[a{b}()] z",
-            (2, 9),
-            Some((10, 11)),
-            Some(("expected Ty", 0, 1)),
-        ),
-    ),
-    (
-        7,
-        false,
-        (
-            Ty,
-            "x[a{b}()] z",
-            (2, 9),
-            Some((10, 11)),
-            Some(("expected Ty", 0, 1)),
-        ),
-    ),
-    (
-        8,
-        false,
-        (
-            Ty,
-            "x[a{b}()] z",
-            (2, 9),
-            Some((10, 11)),
-            Some(("expected Ty", 0, 1)),
-        ),
-    ),
-    (9, false, (Ty, "x[a{b}()] z", (2, 9), Some((10, 11)), None)),
+    ("2", "Ty", "x[a{b}()] z", "2 9", "10 11", "expected Ty 0 1"),
+    ("3", "Ty", "x[a{b}()] z", "2 9", "10 11", "expected Ty 0 1"),
+    ("4", "Ty", "x[a{b}()] z", "2 9", "10 11", "expected Ty 0 1"),
+    ("5", "Ty", "x[a{b}()] z", "2 9", "10 11", "expected Ty 0 1"),
+    ("6", "Ty", "x[a{b}()] z", "2 9", "10 11", "expected Ty 0 1"),
+    ("7", "Ty", "x[a{b}()] z", "2 9", "10 11", "expected Ty 0 1"),
+    ("8", "Ty", "x[a{b}()] z", "2 9", "10 11", "expected Ty 0 1"),
+    ("9", "Ty", "x[a{b}()] z", "2 9", "10 11", ""),
     // A fault is reported by the name of its entry point.
-    (
-        0,
-        true,
-        (Path, "", (0, 0), None, Some(("expected Path", 98, 99))),
-    ),
-    (
-        1,
-        true,
-        (
-            Path,
-            "a b",
-            (1, 1),
-            Some((2, 3)),
-            Some(("expected Path", 0, 1)),
-        ),
-    ),
-    (
-        0,
-        true,
-        (Expr, "", (0, 0), None, Some(("expected Expr", 98, 99))),
-    ),
-    (
-        1,
-        true,
-        (
-            Expr,
-            "a b",
-            (1, 1),
-            Some((2, 3)),
-            Some(("expected Expr", 0, 1)),
-        ),
-    ),
-    (
-        0,
-        true,
-        (Ty, "", (0, 0), None, Some(("expected Ty", 98, 99))),
-    ),
-    (
-        1,
-        true,
-        (Ty, "a b", (1, 1), Some((2, 3)), Some(("expected Ty", 0, 1))),
-    ),
-    (
-        0,
-        true,
-        (PatTop, "", (0, 0), None, Some(("expected PatTop", 98, 99))),
-    ),
-    (
-        1,
-        true,
-        (
-            PatTop,
-            "a b",
-            (1, 1),
-            Some((2, 3)),
-            Some(("expected PatTop", 0, 1)),
-        ),
-    ),
-    (
-        0,
-        true,
-        (Pat, "", (0, 0), None, Some(("expected Pat", 98, 99))),
-    ),
-    (
-        1,
-        true,
-        (
-            Pat,
-            "a b",
-            (1, 1),
-            Some((2, 3)),
-            Some(("expected Pat", 0, 1)),
-        ),
-    ),
-    (
-        0,
-        true,
-        (Stmt, "", (0, 0), None, Some(("expected Stmt", 98, 99))),
-    ),
-    (
-        1,
-        true,
-        (
-            Stmt,
-            "a b",
-            (1, 1),
-            Some((2, 3)),
-            Some(("expected Stmt", 0, 1)),
-        ),
-    ),
-    (
-        0,
-        true,
-        (Block, "", (0, 0), None, Some(("expected Block", 98, 99))),
-    ),
-    (
-        1,
-        true,
-        (
-            Block,
-            "a b",
-            (1, 1),
-            Some((2, 3)),
-            Some(("expected Block", 0, 1)),
-        ),
-    ),
-    (
-        0,
-        true,
-        (
-            MetaItem,
-            "",
-            (0, 0),
-            None,
-            Some(("expected MetaItem", 98, 99)),
-        ),
-    ),
-    (
-        1,
-        true,
-        (
-            MetaItem,
-            "a b",
-            (1, 1),
-            Some((2, 3)),
-            Some(("expected MetaItem", 0, 1)),
-        ),
-    ),
-    (
-        0,
-        true,
-        (Item, "", (0, 0), None, Some(("expected Item", 98, 99))),
-    ),
-    (
-        1,
-        true,
-        (
-            Item,
-            "a b",
-            (1, 1),
-            Some((2, 3)),
-            Some(("expected Item", 0, 1)),
-        ),
-    ),
-    (
-        0,
-        true,
-        (Vis, "", (0, 0), None, Some(("expected Vis", 98, 99))),
-    ),
-    (
-        1,
-        true,
-        (
-            Vis,
-            "a b",
-            (1, 1),
-            Some((2, 3)),
-            Some(("expected Vis", 0, 1)),
-        ),
-    ),
+    ("0 fault", "Path", "", "0 0", "", "expected Path 98 99"),
+    ("1 fault", "Path", "a b", "1 1", "2 3", "expected Path 0 1"),
+    ("0 fault", "Expr", "", "0 0", "", "expected Expr 98 99"),
+    ("1 fault", "Expr", "a b", "1 1", "2 3", "expected Expr 0 1"),
+    ("0 fault", "Ty", "", "0 0", "", "expected Ty 98 99"),
+    ("1 fault", "Ty", "a b", "1 1", "2 3", "expected Ty 0 1"),
+    ("0 fault", "PatTop", "", "0 0", "", "expected PatTop 98 99"),
+    ("1 fault", "PatTop", "a b", "1 1", "2 3", "expected PatTop 0 1"),
+    ("0 fault", "Pat", "", "0 0", "", "expected Pat 98 99"),
+    ("1 fault", "Pat", "a b", "1 1", "2 3", "expected Pat 0 1"),
+    ("0 fault", "Stmt", "", "0 0", "", "expected Stmt 98 99"),
+    ("1 fault", "Stmt", "a b", "1 1", "2 3", "expected Stmt 0 1"),
+    ("0 fault", "Block", "", "0 0", "", "expected Block 98 99"),
+    ("1 fault", "Block", "a b", "1 1", "2 3", "expected Block 0 1"),
+    ("0 fault", "MetaItem", "", "0 0", "", "expected MetaItem 98 99"),
+    ("1 fault", "MetaItem", "a b", "1 1", "2 3", "expected MetaItem 0 1"),
+    ("0 fault", "Item", "", "0 0", "", "expected Item 98 99"),
+    ("1 fault", "Item", "a b", "1 1", "2 3", "expected Item 0 1"),
+    ("0 fault", "Vis", "", "0 0", "", "expected Vis 98 99"),
+    ("1 fault", "Vis", "a b", "1 1", "2 3", "expected Vis 0 1"),
 ];
 
 #[test]
 fn fronts_by_their_count(rt: HostRuntime) {
-    for (number, &(count, fault, row)) in COUNTED.iter().enumerate() {
-        let grammar = Counting { count, fault };
-        assert!(rt;
-            is_front(rt.alloc(), &grammar, &row).unwrap_or(false),
-            "row {number}"
-        );
-    }
+    each(&rt, rt.alloc(), &Fronts, COUNTED, 34);
 }
 
-static NUMBERED: [Row; 10] = [
-    (Path, "a ", (1, 1), None, None),
-    (Expr, "a a ", (2, 2), None, None),
-    (Ty, "a a a ", (3, 3), None, None),
-    (PatTop, "a a a a ", (4, 4), None, None),
-    (Pat, "a a a a a ", (5, 5), None, None),
-    (Stmt, "a a a a a a ", (6, 6), None, None),
-    (Block, "a a a a a a a ", (7, 7), None, None),
-    (MetaItem, "a a a a a a a a ", (8, 8), None, None),
-    (Item, "a a a a a a a a a ", (9, 9), None, None),
-    (Vis, "a a a a a a a a a a ", (10, 10), None, None),
+const NUMBERED: &str = rows![
+    ("", "Path", "a ", "1 1", "", ""),
+    ("", "Expr", "a a ", "2 2", "", ""),
+    ("", "Ty", "a a a ", "3 3", "", ""),
+    ("", "PatTop", "a a a a ", "4 4", "", ""),
+    ("", "Pat", "a a a a a ", "5 5", "", ""),
+    ("", "Stmt", "a a a a a a ", "6 6", "", ""),
+    ("", "Block", "a a a a a a a ", "7 7", "", ""),
+    ("", "MetaItem", "a a a a a a a a ", "8 8", "", ""),
+    ("", "Item", "a a a a a a a a a ", "9 9", "", ""),
+    ("", "Vis", "a a a a a a a a a a ", "10 10", "", ""),
 ];
 
 #[test]
 fn each_entry_point_is_asked_by_itself(rt: HostRuntime) {
-    for row in &NUMBERED {
-        assert!(rt;
-            is_front(rt.alloc(), &Numbered, row).unwrap_or(false),
-            "{}",
-            row.1
-        );
-    }
+    each(&rt, rt.alloc(), &Fronts, NUMBERED, 10);
 }
 
-#[test]
-fn a_front_that_ends_in_a_group_takes_all_of_it(rt: HostRuntime) -> Result<(), Fail> {
-    let alloc = rt.alloc();
+fn is_group_taken(alloc: Global) -> Result<bool, AllocError> {
     let argument = lexed(alloc, 1, "(a b) c")?;
     let group = argument.iter().next_as_view();
     let mut iter = argument.iter();
-    let front = expect_fragment(
-        alloc,
-        &taking(2),
-        &mut iter,
-        PrefixEntryPoint::Expr,
-        around(),
-    )?;
-    assert!(rt; Some(front.value) == group);
-    assert_eq!(rt; iter.next_span(), Some(at(1, 6, 7)));
+    let front = expect_fragment(alloc, &taking(2), &mut iter, Expr, around())?;
     let error = binding_error(alloc, "expected Expr", at(1, 0, 1))?;
-    assert!(rt; front.err == Some(error));
-    Ok(())
+    let is_taken = Some(front.value) == group && iter.next_span() == Some(at(1, 6, 7));
+    Ok(is_taken && front.err == Some(error))
 }
 
 #[test]
-fn a_grammar_without_memory_moves_nothing(rt: HostRuntime) -> Result<(), Fail> {
-    let alloc = rt.alloc();
-    let argument = lexed(alloc, 1, "(a b) c")?;
-    let mut iter = argument.iter();
-    let front = expect_fragment(
-        alloc,
-        &NoMemory,
-        &mut iter,
-        PrefixEntryPoint::Expr,
-        around(),
-    );
-    assert!(rt; front.is_err());
-    assert!(rt; iter.remaining() == argument.iter().remaining());
-    Ok(())
+fn a_front_that_ends_in_a_group_takes_all_of_it(rt: HostRuntime) {
+    holds(&rt, is_group_taken(rt.alloc()));
 }
 
-// Whether memory ran out for the error of a front that ends in a group. Then nothing has moved.
-fn runs_out<A: Allocator + Copy>(rt: &impl Abort, alloc: A) -> Result<bool, AllocError> {
+fn moves_nothing(alloc: Global) -> Result<bool, AllocError> {
     let argument = lexed(alloc, 1, "(a b) c")?;
     let mut iter = argument.iter();
-    let front = expect_fragment(
-        alloc,
-        &taking(2),
-        &mut iter,
-        PrefixEntryPoint::Expr,
-        around(),
-    );
-    let moved = iter.remaining() != argument.iter().remaining();
-    assert_eq!(rt; moved, front.is_ok());
-    Ok(front.is_err())
+    let front = expect_fragment(alloc, &NoMemory, &mut iter, Expr, around());
+    Ok(front.is_err() && iter.remaining() == argument.iter().remaining())
 }
 
 #[test]
-fn each_request_for_an_error_refused(rt: HostRuntime) -> Result<(), Fail> {
+fn a_grammar_without_memory_moves_nothing(rt: HostRuntime) {
+    holds(&rt, moves_nothing(rt.alloc()));
+}
+
+// Whether memory ran out for the error of a front that ends in a group. Then nothing has moved; nothing where something has, or nothing
+// has though there was memory.
+fn runs_out<A: Allocator + Copy>(alloc: A) -> Result<Option<bool>, AllocError> {
+    let argument = lexed(alloc, 1, "(a b) c")?;
+    let mut iter = argument.iter();
+    let front = expect_fragment(alloc, &taking(2), &mut iter, Expr, around());
+    let has_moved = iter.remaining() != argument.iter().remaining();
+    Ok((has_moved == front.is_ok()).then_some(front.is_err()))
+}
+
+// Each request is refused in turn, until none is. More than one of them is of an error.
+fn are_refused(alloc: Global) -> bool {
     let mut wanting = 0u64;
     for request in 1..10_000u64 {
-        let alloc = Refusing::new(rt.alloc(), request);
-        match runs_out(&rt, &alloc) {
-            Ok(true) => wanting = wanting.saturating_add(1),
-            Ok(false) => {
-                assert!(rt; !alloc.has_refused(), "at {request}");
-                assert!(rt; wanting > 1, "only {wanting} requests of an error");
-                return Ok(());
-            }
-            Err(AllocError) => {}
+        let alloc = Refusing::new(alloc, request);
+        match runs_out(&alloc) {
+            Ok(Some(true)) if alloc.has_refused() => wanting = wanting.saturating_add(1),
+            Ok(Some(false)) => return !alloc.has_refused() && wanting > 1,
+            Err(AllocError) if alloc.has_refused() => {}
+            _ => return false,
         }
-        assert!(rt; alloc.has_refused(), "at {request}");
     }
-    Err(Fail::from("it goes on"))
+    false
+}
+
+#[test]
+fn each_request_for_an_error_refused(rt: HostRuntime) {
+    holds(&rt, Ok(are_refused(rt.alloc())));
 }

@@ -6,6 +6,7 @@ ghost use Rattle.mbe_tests.specs.Counting.{may_be_empty, number_of};
 use mbe_tt::grammar::{FragmentGrammar, Front, PrefixEntryPoint};
 use mbe_tt::tt::TokenTreesView;
 use std::alloc::{AllocError, Allocator};
+use test_rows::number;
 
 /// A grammar that is always out of memory.
 #[derive(Clone, Copy)]
@@ -37,6 +38,20 @@ impl FragmentGrammar for NoMemory {
 pub struct Counting {
     pub count: usize,
     pub fault: bool,
+}
+
+/// The grammar of a row: how many flat tokens it takes, and `fault` after a space if it faults.
+pub fn grammar_of(row: &str) -> Counting {
+    match row.split_once(' ') {
+        None => Counting {
+            count: number(row),
+            fault: false,
+        },
+        Some((count, _fault)) => Counting {
+            count: number(count),
+            fault: true,
+        },
+    }
 }
 
 /// A grammar that faults on everything.

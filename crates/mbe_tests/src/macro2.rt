@@ -1,17 +1,12 @@
 // Definitions by `macro`: rules in a body, or one rule of arguments and a body.
-use crate::definitions::{
-    MISSING_SPECIFIER, PARENTHESES, REPETITION, Reported, Row, SUBTREE, is_read,
-};
+use crate::definitions::{Reported, is_read, reported_as};
 use crate::grammar::NOTHING;
-use crate::runs::{Want, answers, makes};
-use crate::tokens::Lexeme::{Alone, Close, Joint, Open, Word};
+use crate::runs::{answers, makes, want};
 use crate::trees::lexed;
 use mbe::{DeclarativeMacro, MacroCallStyle, MacroCallStyles, ParseError};
 use mbe_tt::span::Edition;
-use mbe_tt::tt::DelimiterKind::{Brace, Bracket};
 use std::alloc::{AllocError, Global};
-
-const SEPARATOR: Reported = Reported::Expected("expected `;` or `,` to delimit rules");
+use test_rows::{Fields, Rows, each, holds, number, rows};
 
 /// The macro of a body, and of arguments if there are some. Both are file 0.
 pub fn read(alloc: Global, args: Option<&str>, body: &str) -> Result<DeclarativeMacro, AllocError> {
@@ -23,23 +18,43 @@ pub fn read(alloc: Global, args: Option<&str>, body: &str) -> Result<Declarative
     DeclarativeMacro::parse_macro2(alloc, args.as_ref(), &body, |_context| Edition::Edition2024)
 }
 
-static BODIES: [Row; 12] = [
-    ("", 0, Reported::Nothing),
-    ("() => {}", 1, Reported::Nothing),
-    ("() => {},", 1, Reported::Nothing),
-    ("() => {}; () => {}, () => {};", 3, Reported::Nothing),
-    ("() => {}, () => {} x", 2, SEPARATOR),
-    ("() => {} () => {}", 1, SEPARATOR),
-    ("() => {}: () => {}", 1, SEPARATOR),
-    ("() => {},,", 1, SUBTREE),
-    ("() => {};,", 1, SUBTREE),
-    (",", 0, SUBTREE),
-    ("() => {}, attr => {}", 1, PARENTHESES),
-    ("() => {}, ($x) => {}", 1, MISSING_SPECIFIER),
+const BODIES: &str = rows![
+    ("", 0),
+    ("() => {}", 1),
+    ("() => {},", 1),
+    ("() => {}; () => {}, () => {};", 3),
+    (
+        "() => {}, () => {} x",
+        2,
+        "expected",
+        "expected `;` or `,` to delimit rules"
+    ),
+    (
+        "() => {} () => {}",
+        1,
+        "expected",
+        "expected `;` or `,` to delimit rules"
+    ),
+    (
+        "() => {}: () => {}",
+        1,
+        "expected",
+        "expected `;` or `,` to delimit rules"
+    ),
+    ("() => {},,", 1, "expected", "expected subtree"),
+    ("() => {};,", 1, "expected", "expected subtree"),
+    (",", 0, "expected", "expected subtree"),
+    ("() => {}, attr => {}", 1, "expected", "expected `()`"),
+    (
+        "() => {}, ($x) => {}",
+        1,
+        "unexpected",
+        "missing fragment specifier"
+    ),
 ];
 
-/// Whether arguments and a body are read so.
-pub fn are_read(
+// Whether arguments and a body are read so.
+fn are_read(
     alloc: Global,
     args: Option<&str>,
     body: &str,
@@ -49,62 +64,69 @@ pub fn are_read(
     is_read(alloc, &rules, want)
 }
 
-#[test]
-fn semicolons_and_commas_separate_rules(rt: HostRuntime) {
-    for &(body, count, reported) in &BODIES {
-        let want = (count, reported);
-        assert!(rt;
-            are_read(rt.alloc(), None, body, want).unwrap_or(false),
-            "{body}"
-        );
+#[derive(Clone, Copy)]
+struct Bodies;
+
+impl Rows for Bodies {
+    fn is_so(
+        &self,
+        alloc: Global,
+        [body, count, sort, text, ..]: Fields,
+    ) -> Result<bool, AllocError> {
+        are_read(alloc, None, body, (number(count), reported_as(sort, text)))
     }
 }
 
-// Arguments, a body, an argument of a call, and what is made of it. The rules of a body are tried in order; arguments and a
-// body are one rule.
-type Call = (Option<&'static str>, &'static str, &'static str, Want);
+#[test]
+fn semicolons_and_commas_separate_rules(rt: HostRuntime) {
+    each(&rt, rt.alloc(), &Bodies, BODIES, 12);
+}
 
-static CALLS: [Call; 2] = [
+// Arguments, if there are some, a body, an argument of a call, and what is made of it. The rules of a body are tried in order; arguments
+// and a body are one rule.
+const CALLS: &str = rows![
     (
-        None,
+        "",
         "(a) => {A}, ($x:ident) => {B $x}; (b) => {C}",
         "b",
-        Some((1, &[(Word("B"), 0, 27, 28), (Word("b"), 1, 0, 1)])),
+        1,
+        "word B 0 27 28
+word b 1 0 1"
     ),
     (
-        Some("attr $x:ident"),
+        "attr $x:ident",
         "[$x] => {}",
         "attr b",
-        Some((
-            0,
-            &[
-                (Open(Bracket), 0, 0, 1),
-                (Word("b"), 1, 5, 6),
-                (Close, 0, 3, 4),
-                (Joint('='), 0, 5, 6),
-                (Alone('>'), 0, 6, 7),
-                (Open(Brace), 0, 8, 9),
-                (Close, 0, 9, 10),
-            ],
-        )),
+        0,
+        "open [ 0 0 1
+word b 1 5 6
+close ) 0 3 4
+joint = 0 5 6
+alone > 0 6 7
+open { 0 8 9
+close ) 0 9 10"
     ),
 ];
 
-fn is_expanded(alloc: Global, &(args, body, argument, want): &Call) -> Result<bool, AllocError> {
-    let rules = read(alloc, args, body)?;
-    let argument = lexed(alloc, 1, argument)?;
-    makes(alloc, &NOTHING, &rules, &argument, want)
+#[derive(Clone, Copy)]
+struct Calls;
+
+impl Rows for Calls {
+    fn is_so(
+        &self,
+        alloc: Global,
+        [args, body, argument, arm, tokens, ..]: Fields,
+    ) -> Result<bool, AllocError> {
+        let args = if args.is_empty() { None } else { Some(args) };
+        let rules = read(alloc, args, body)?;
+        let argument = lexed(alloc, 1, argument)?;
+        makes(alloc, &NOTHING, &rules, &argument, want(arm, tokens))
+    }
 }
 
 #[test]
 fn calls_are_expanded(rt: HostRuntime) {
-    for call in &CALLS {
-        assert!(rt;
-            is_expanded(rt.alloc(), call).unwrap_or(false),
-            "{}",
-            call.1
-        );
-    }
+    each(&rt, rt.alloc(), &Calls, CALLS, 2);
 }
 
 // Whether the macro has one rule, which no attribute calls.
@@ -118,29 +140,53 @@ fn is_one_rule(alloc: Global, rules: &DeclarativeMacro) -> Result<bool, AllocErr
 
 #[test]
 fn arguments_and_a_body_are_one_rule(rt: HostRuntime) {
-    let is_so = match read(rt.alloc(), Some("attr $x:ident"), "[$x] => {}") {
-        Ok(rules) => is_one_rule(rt.alloc(), &rules).unwrap_or(false),
-        Err(AllocError) => false,
-    };
-    assert!(rt; is_so);
+    if let Ok(rules) = read(rt.alloc(), Some("attr $x:ident"), "[$x] => {}") {
+        holds(&rt, is_one_rule(rt.alloc(), &rules));
+    } else {
+        holds(&rt, Ok(false));
+    }
 }
 
-static ARGUMENTS: [(&str, &str, usize, Reported); 6] = [
-    ("", "", 1, Reported::Nothing),
-    ("$x", "", 0, MISSING_SPECIFIER),
-    ("", "$[a]", 0, REPETITION),
-    ("$x", "$[a]", 0, MISSING_SPECIFIER),
-    ("$[a]", "$1", 0, REPETITION),
-    ("", "() => {} x", 1, Reported::Nothing),
+const ARGUMENTS: &str = rows![
+    ("", "", 1),
+    ("$x", "", 0, "unexpected", "missing fragment specifier"),
+    (
+        "",
+        "$[a]",
+        0,
+        "expected",
+        "expected `$()` repetition or `${}` expression"
+    ),
+    ("$x", "$[a]", 0, "unexpected", "missing fragment specifier"),
+    (
+        "$[a]",
+        "$1",
+        0,
+        "expected",
+        "expected `$()` repetition or `${}` expression"
+    ),
+    ("", "() => {} x", 1),
 ];
+
+#[derive(Clone, Copy)]
+struct Arguments;
+
+impl Rows for Arguments {
+    fn is_so(
+        &self,
+        alloc: Global,
+        [args, body, count, sort, text, ..]: Fields,
+    ) -> Result<bool, AllocError> {
+        are_read(
+            alloc,
+            Some(args),
+            body,
+            (number(count), reported_as(sort, text)),
+        )
+    }
+}
 
 #[test]
 fn arguments_are_read_before_the_body(rt: HostRuntime) {
-    for &(args, body, count, reported) in &ARGUMENTS {
-        let want = (count, reported);
-        assert!(rt;
-            are_read(rt.alloc(), Some(args), body, want).unwrap_or(false),
-            "{args}"
-        );
-    }
+    each(&rt, rt.alloc(), &Arguments, ARGUMENTS, 6);
 }

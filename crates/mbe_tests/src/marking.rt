@@ -1,27 +1,21 @@
 // On which spans a marker is called: those of what the template writes itself, once for each time that it is written.
 use crate::grammar::NOTHING;
 use crate::runs::defined;
-use crate::tokens::at;
+use crate::tokens::{at, byte};
 use crate::trees::lexed;
 use mbe::{MacroCallStyle, ParseError};
 use mbe_tt::span::Span;
 use std::alloc::{AllocError, Global};
 use std::cell::Cell;
+use test_rows::{Fields, Rows, each, rows};
 
 // A definition, an argument, whether there is an error, and how often the marker is called.
-type Row = (&'static str, &'static str, bool, u32);
-
-static ROWS: [Row; 8] = [
+const ROWS: &str = rows![
     ("(a) => {}", "a", false, 0),
     ("(a) => {X 1 + (Y)}", "a", false, 6),
     ("($x:ident) => {$x X}", "a", false, 1),
     ("($($x:ident)*) => {$($x X),*}", "a b c", false, 3),
-    (
-        "($x:ident) => {${concat(X, $x)} ${count($x)}}",
-        "a",
-        false,
-        1,
-    ),
+    ("($x:ident) => {${concat(X, $x)} ${count($x)}}", "a", false, 1),
     // In place of what is missing too.
     ("($x:ident) => {$x X}", "1", true, 2),
     ("(a) => {X}; (a 1 b) => {Y Z}", "a 1", true, 2),
@@ -49,13 +43,21 @@ fn calls(alloc: Global, definition: &str, argument: &str) -> Result<(bool, u32, 
     Ok((expansion.err.is_some(), own.get(), others.get()))
 }
 
-fn is_called(alloc: Global, &(definition, argument, fails, count): &Row) -> bool {
-    matches!(calls(alloc, definition, argument), Ok(found) if found == (fails, count, 0))
+#[derive(Clone, Copy)]
+struct Marking;
+
+impl Rows for Marking {
+    fn is_so(
+        &self,
+        alloc: Global,
+        [definition, argument, fails, count, ..]: Fields,
+    ) -> Result<bool, AllocError> {
+        let found = calls(alloc, definition, argument)?;
+        Ok(found == (fails == "true", byte(count), 0))
+    }
 }
 
 #[test]
 fn a_marker_is_called_on_the_spans_of_the_template(rt: HostRuntime) {
-    for row in &ROWS {
-        assert!(rt; is_called(rt.alloc(), row), "{} on {}", row.0, row.1);
-    }
+    each(&rt, rt.alloc(), &Marking, ROWS, 8);
 }

@@ -1,69 +1,47 @@
 // Repetitions without separator that can read nothing.
-use crate::definitions::{MISSING_SPECIFIER, REPETITION, Reported, Row, Texts, is_read};
+use crate::definitions::{Reported, is_read};
 use crate::macro2::read;
 use mbe::MacroCallStyles;
 use std::alloc::{AllocError, Global};
+use test_rows::{none, rows};
 
 // Repetitions that can read nothing are refused, those that read something pass.
-static TEXTS: [Texts; 2] = [
-    (
-        "",
-        "",
-        &[
-            "($()*) => {}",
-            "($()+) => {}",
-            "($()?) => {}",
-            "($($v:vis)*) => {}",
-            "($($v:vis)?) => {}",
-            "($($(a)?)*) => {}",
-            "($($(a)*)+) => {}",
-            "($($(a),*)*) => {}",
-            "($( $($v:vis),+ )*) => {}",
-            "($($v:vis $(a)?)*) => {}",
-            "(x [$()*]) => {}",
-            "($(a $()*);*) => {}",
-            "($()*) => {} x",
-        ],
-        (1, Reported::EmptyRepetition),
-    ),
-    (
-        "",
-        "",
-        &[
-            "($($v:vis),*) => {}",
-            "($($(a)* b)*) => {}",
-            "($(($v:vis))*) => {}",
-            "($($x:foo)*) => {}",
-            "($(),*) => {}",
-            "($($(a)+)*) => {}",
-            "($v:vis) => {}",
-            "() => {$()*}",
-        ],
-        (1, Reported::Nothing),
-    ),
+pub const REFUSED: &str = rows![
+    ("($()*) => {}"),
+    ("($()+) => {}"),
+    ("($()?) => {}"),
+    ("($($v:vis)*) => {}"),
+    ("($($v:vis)?) => {}"),
+    ("($($(a)?)*) => {}"),
+    ("($($(a)*)+) => {}"),
+    ("($($(a),*)*) => {}"),
+    ("($( $($v:vis),+ )*) => {}"),
+    ("($($v:vis $(a)?)*) => {}"),
+    ("(x [$()*]) => {}"),
+    ("($(a $()*);*) => {}"),
+    ("($()*) => {} x"),
 ];
 
-pub fn texts() -> &'static [Texts] {
-    &TEXTS
-}
+pub const PASSED: &str = rows![
+    ("($($v:vis),*) => {}"),
+    ("($($(a)* b)*) => {}"),
+    ("($(($v:vis))*) => {}"),
+    ("($($x:foo)*) => {}"),
+    ("($(),*) => {}"),
+    ("($($(a)+)*) => {}"),
+    ("($v:vis) => {}"),
+    ("() => {$()*}"),
+];
 
 // A refusal is reported over any fault.
-static OVER_FAULTS: [Row; 5] = [
-    (
-        "() => {}; ($()*) => {}; () => {}",
-        3,
-        Reported::EmptyRepetition,
-    ),
-    ("($()*) => {}; ($x) => {}", 1, Reported::EmptyRepetition),
-    ("($()*) => {} () => {}", 1, Reported::EmptyRepetition),
+pub const OVER_FAULTS: &str = rows![
+    ("() => {}; ($()*) => {}; () => {}", 3, "refused"),
+    ("($()*) => {}; ($x) => {}", 1, "refused"),
+    ("($()*) => {} () => {}", 1, "refused"),
     // the rule that is refused isn't kept
-    ("() => {}; ($()* $x) => {}", 1, MISSING_SPECIFIER),
-    ("($()*) => {$[a]}", 0, REPETITION),
+    ("() => {}; ($()* $x) => {}", 1, "unexpected", "missing fragment specifier"),
+    ("($()*) => {$[a]}", 0, "expected", "expected `$()` repetition or `${}` expression"),
 ];
-
-pub fn over_faults() -> &'static [Row] {
-    &OVER_FAULTS
-}
 
 // Arguments and a body, and the style of what is refused of them.
 static MACROS: [(Option<&str>, &str, MacroCallStyles); 2] = [
@@ -83,6 +61,7 @@ fn is_refused(
 #[test]
 fn refused_arguments_and_bodies_of_macros(rt: HostRuntime) {
     for row in &MACROS {
-        assert!(rt; is_refused(rt.alloc(), row).unwrap_or(false), "{}", row.1);
+        let is_so = is_refused(rt.alloc(), row).unwrap_or(false);
+        none(&rt, (!is_so).then_some(row.1));
     }
 }

@@ -2,9 +2,9 @@
 ghost use Rattle.mbe.specs.Macro.{IsChecked};
 ghost use Rattle.mbe.specs.MacroViews.{macro_of};
 
-use crate::grammar::NOTHING;
-use crate::tokens::{Token, at};
-use crate::trees::{Trees, built, lexed};
+use crate::grammar::{Counting, NOTHING};
+use crate::tokens::{at, byte};
+use crate::trees::{built_of, lexed, read};
 use mbe::{
     DeclarativeMacro, ExpandError, ExpandErrorKind, ExpandResult, MacroCallStyle, MatchedArmIndex,
     ParseError,
@@ -16,18 +16,22 @@ use std::alloc::{AllocError, Allocator, Global};
 use std::fmt::Debug;
 use std::process::Abort;
 use std::rc::Rc;
+use test_rows::{Fields, Rows};
 
 pub type Expansion<A> = ExpandResult<(TopSubtree<A>, MatchedArmIndex), A>;
 
-/// The index of a rule and the tokens that it writes. Nothing where the first rule, which is the closest one, doesn't apply:
+/// The index of a rule and the tokens that it writes, each a line. Nothing where the first rule, which is the closest one, doesn't apply:
 /// an error is beside what it recovers.
-pub type Want = Option<(u32, &'static [Token<'static>])>;
+pub type Want<'t> = Option<(u32, &'t str)>;
 
-/// A definition, an argument, and what is made of it.
-pub type Row = (&'static str, &'static str, Want);
-
-/// The same of trees that no text gives.
-pub type TreesRow = (Trees, Trees, Want);
+/// That of a row.
+pub fn want<'t>(arm: &str, tokens: &'t str) -> Want<'t> {
+    if arm.is_empty() {
+        None
+    } else {
+        Some((byte(arm), tokens))
+    }
+}
 
 /// The macro of a definition that is read in edition 2024.
 pub fn parsed<A: Allocator + Copy>(
@@ -93,13 +97,13 @@ pub fn is_made<A: Allocator + Copy>(
     alloc: A,
     expansion: &Expansion<A>,
     call_site: Span,
-    want: Want,
+    want: Want<'_>,
 ) -> Result<bool, AllocError> {
     let (tree, index) = &expansion.value;
     match want {
         None => Ok(expansion.err.is_some() && *index == Some(0)),
         Some((arm, tokens)) => {
-            let want = built(alloc, call_site, tokens)?;
+            let want = built_of(alloc, call_site, tokens)?;
             Ok(expansion.err.is_none() && *index == Some(arm) && *tree == want)
         }
     }
@@ -111,7 +115,7 @@ pub fn makes<G: FragmentGrammar>(
     grammar: &G,
     rules: &DeclarativeMacro,
     argument: &TopSubtree,
-    want: Want,
+    want: Want<'_>,
 ) -> Result<bool, AllocError> {
     let expansion = made(alloc, grammar, rules, argument)?;
     is_made(alloc, &expansion, whole(argument), want)
@@ -122,49 +126,27 @@ pub fn makes_of_texts<G: FragmentGrammar>(
     alloc: Global,
     grammar: &G,
     (definition, argument): (&str, &str),
-    want: Want,
+    want: Want<'_>,
 ) -> Result<bool, AllocError> {
     let rules = defined(alloc, definition)?;
     let argument = lexed(alloc, 1, argument)?;
     makes(alloc, grammar, &rules, &argument, want)
 }
 
-/// The first row of which something else is made by the grammar.
-pub fn first_wrong<G: FragmentGrammar>(
-    alloc: Global,
-    grammar: &G,
-    rows: &[Row],
-) -> Result<Option<(&'static str, &'static str)>, AllocError> {
-    for &(definition, argument, want) in rows {
-        if !makes_of_texts(alloc, grammar, (definition, argument), want)? {
-            return Ok(Some((definition, argument)));
-        }
-    }
-    Ok(None)
-}
+/// Rows of a definition, an argument, and what is made of it by a grammar: the index of a rule and the tokens, or nothing.
+#[derive(Clone, Copy)]
+pub struct Calls(pub Counting);
 
-fn makes_of_trees<G: FragmentGrammar>(
-    alloc: Global,
-    grammar: &G,
-    &(definition, argument, want): &TreesRow,
-) -> Result<bool, AllocError> {
-    let rules = parsed(alloc, &definition.read(alloc, 0)?)?;
-    let argument = argument.read(alloc, 1)?;
-    makes(alloc, grammar, &rules, &argument, want)
-}
-
-/// The number of the first row of trees of which something else is made by the grammar.
-pub fn first_wrong_trees<G: FragmentGrammar>(
-    alloc: Global,
-    grammar: &G,
-    rows: &[TreesRow],
-) -> Result<Option<usize>, AllocError> {
-    for (number, row) in rows.iter().enumerate() {
-        if !makes_of_trees(alloc, grammar, row)? {
-            return Ok(Some(number));
-        }
+impl Rows for Calls {
+    fn is_so(
+        &self,
+        alloc: Global,
+        [definition, argument, arm, tokens, ..]: Fields,
+    ) -> Result<bool, AllocError> {
+        let rules = parsed(alloc, &read(alloc, 0, definition)?)?;
+        let argument = read(alloc, 1, argument)?;
+        makes(alloc, &self.0, &rules, &argument, want(arm, tokens))
     }
-    Ok(None)
 }
 
 // Whether the expansion is that of a call from there for which there is no rule of its style.
@@ -181,15 +163,12 @@ fn is_without_rule(
     Ok(expansion.err == Some(error) && index.is_none() && *tree == empty)
 }
 
-/// The index of a rule and the tokens that it writes. Nothing where there is no rule of the call's style.
-pub type Called = Option<(u32, &'static [Token<'static>])>;
-
-/// Whether a call with an argument, in a style, makes that. The grammar faults on everything.
+/// Whether a call with an argument, in a style, makes that, or nothing where there is no rule of the style. The grammar faults on everything.
 pub fn answers(
     alloc: Global,
     rules: &DeclarativeMacro,
     call: (&str, MacroCallStyle),
-    want: Called,
+    want: Want<'_>,
 ) -> Result<bool, AllocError>
     requires { IsChecked (macro_of rules.now) }
 {
@@ -202,22 +181,20 @@ pub fn answers(
     }
 }
 
-/// The rule of an index doesn't apply: what is recovered, and the text of the error beside it with its bytes of the argument.
-pub type Recovered = (u32, &'static [Token<'static>], (&'static str, u32, u32));
-
-/// Whether that is recovered by an expansion from there.
+/// Whether the rule of an index doesn't apply, that is recovered by an expansion from there, and the error beside it is that, with its bytes.
 pub fn is_recovered(
     alloc: Global,
     expansion: &Expansion<Global>,
     call_site: Span,
-    (arm, tokens, (text, start, end)): Recovered,
+    (arm, tokens, want): (&str, &str, &str),
 ) -> Result<bool, AllocError> {
     let (tree, index) = &expansion.value;
     let Some(error) = &expansion.err else {
         return Ok(false);
     };
-    let shown = format!(in alloc; "{error}")?;
-    let is_shown = shown.as_str() == text && error.inner.0 == at(1, start, end);
-    let want = built(alloc, call_site, tokens)?;
-    Ok(is_shown && *index == Some(arm) && *tree == want)
+    let Span { start, end, .. } = error.inner.0;
+    let shown = format!(in alloc; "{error} {start} {end}")?;
+    let is_shown = shown.as_str() == want && error.inner.0 == at(1, start, end);
+    let built = built_of(alloc, call_site, tokens)?;
+    Ok(is_shown && *index == Some(byte(arm)) && *tree == built)
 }

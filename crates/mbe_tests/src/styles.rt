@@ -1,79 +1,62 @@
 // Styles of rules, and sets of styles.
-use crate::definitions::{EQUALS, PARENTHESES, Reported, Row, SUBTREE, is_read};
-use crate::runs::{Called, answers, defined, parsed};
-use crate::tokens::Lexeme::{Alone, Close, Joint, Open, Raw, Word};
+use crate::definitions::{Reported, is_read};
+use crate::runs::{answers, defined, parsed, want};
+use crate::tokens::Lexeme::{Alone, Close, Joint, Open, Raw};
 use crate::tokens::{Token, at};
 use crate::trees::built;
 use bitflags::Flags;
 use mbe::{DeclarativeMacro, MacroCallStyle, MacroCallStyles, ParseError};
 use mbe_tt::tt::DelimiterKind::{Brace, Parenthesis};
 use std::alloc::{AllocError, Global};
-
-// A rule for attributes, and then one for calls like functions.
-const TWO_STYLES: &str = "attr() () => {A}; () => {B}";
-
-const THREE_RULES: &str = "() => {A}; unsafe derive[x] () => {B}; derive() () => {C}";
+use test_rows::{Fields, Rows, each, holds, number, rows};
 
 // A definition and whether it has a fault, the argument of a call and its style, and what is made of it.
-static CALLS: [((&str, bool), (&str, MacroCallStyle), Called); 8] = [
-    (
-        (TWO_STYLES, false),
-        ("", MacroCallStyle::FnLike),
-        Some((1, &[(Word("B"), 0, 25, 26)])),
-    ),
-    (
-        (TWO_STYLES, false),
-        ("", MacroCallStyle::Attr),
-        Some((0, &[(Word("A"), 0, 14, 15)])),
-    ),
-    (
-        (THREE_RULES, false),
-        ("", MacroCallStyle::Derive),
-        Some((1, &[(Word("B"), 0, 35, 36)])),
-    ),
-    (
-        ("($t:tt) => {$t}", false),
-        ("a", MacroCallStyle::Attr),
-        None,
-    ),
-    (
-        ("($t:tt) => {$t}", false),
-        ("a", MacroCallStyle::Derive),
-        None,
-    ),
-    (("", false), ("", MacroCallStyle::FnLike), None),
-    ((TWO_STYLES, false), ("", MacroCallStyle::Derive), None),
+const CALLS: &str = rows![
+    ("attr() () => {A}; () => {B}", "", "", "function", 1, "word B 0 25 26"),
+    ("attr() () => {A}; () => {B}", "", "", "attribute", 0, "word A 0 14 15"),
+    ("() => {A}; unsafe derive[x] () => {B}; derive() () => {C}", "", "", "derive", 1, "word B 0 35 36"),
+    ("($t:tt) => {$t}", "", "a", "attribute"),
+    ("($t:tt) => {$t}", "", "a", "derive"),
+    ("", "", "", "function"),
+    ("attr() () => {A}; () => {B}", "", "", "derive"),
     // The rules before a fault expand.
-    (
-        ("(a) => {A}; ($x) => {}", true),
-        ("a", MacroCallStyle::FnLike),
-        Some((0, &[(Word("A"), 0, 8, 9)])),
-    ),
+    ("(a) => {A}; ($x) => {}", "faulty", "a", "function", 0, "word A 0 8 9"),
 ];
 
-fn is_called(
-    alloc: Global,
-    (definition, has_fault): (&str, bool),
-    call: (&str, MacroCallStyle),
-    want: Called,
-) -> Result<bool, AllocError> {
-    let rules = defined(alloc, definition)?;
-    if matches!(rules.err(), Some(ParseError::RepetitionEmptyTokenTree)) {
-        return Err(AllocError);
+fn style(name: &str) -> MacroCallStyle {
+    match name.chars().next() {
+        Some('a') => MacroCallStyle::Attr,
+        Some('d') => MacroCallStyle::Derive,
+        _ => MacroCallStyle::FnLike,
     }
-    Ok(rules.err().is_some() == has_fault && answers(alloc, &rules, call, want)?)
+}
+
+#[derive(Clone, Copy)]
+struct Calls;
+
+impl Rows for Calls {
+    fn is_so(
+        &self,
+        alloc: Global,
+        [definition, fault, argument, name, arm, tokens]: Fields,
+    ) -> Result<bool, AllocError> {
+        let rules = defined(alloc, definition)?;
+        if matches!(rules.err(), Some(ParseError::RepetitionEmptyTokenTree)) {
+            return Err(AllocError);
+        }
+        let is_so = rules.err().is_none() == fault.is_empty();
+        let call = (argument, style(name));
+        Ok(is_so && answers(alloc, &rules, call, want(arm, tokens))?)
+    }
 }
 
 #[test]
 fn rules_of_another_style_are_passed_over(rt: HostRuntime) {
-    for &(definition, call, want) in &CALLS {
-        let is_so = is_called(rt.alloc(), definition, call, want).unwrap_or(false);
-        assert!(rt; is_so, "{}", definition.0);
-    }
+    each(&rt, rt.alloc(), &Calls, CALLS, 8);
 }
 
-static BITS: [(&str, u8); 13] = [
-    (TWO_STYLES, 3),
+const BITS: &str = rows![
+    ("attr() () => {A}; () => {B}", 3),
     ("", 1),
     ("x", 1),
     ("() => {}", 1),
@@ -88,39 +71,36 @@ static BITS: [(&str, u8); 13] = [
     ("derive() () => {}; attr() () => {}; () => {}", 7),
 ];
 
-fn has_styles(alloc: Global, definition: &str, bits: u8) -> bool {
-    match defined(alloc, definition) {
-        Ok(rules) => rules.rule_styles().bits() == bits,
-        Err(AllocError) => false,
+#[derive(Clone, Copy)]
+struct Bits;
+
+impl Rows for Bits {
+    fn is_so(&self, alloc: Global, [definition, bits, ..]: Fields) -> Result<bool, AllocError> {
+        let styles = defined(alloc, definition)?.rule_styles();
+        Ok(usize::from(styles.bits()) == number(bits))
     }
 }
 
 #[test]
 fn styles_of_a_definition_are_those_of_its_rules(rt: HostRuntime) {
-    for &(definition, bits) in &BITS {
-        assert!(rt; has_styles(rt.alloc(), definition, bits), "{definition}");
-    }
+    each(&rt, rt.alloc(), &Bits, BITS, 13);
 }
 
-static GROUPS: [Row; 13] = [
-    ("attr => {}", 0, PARENTHESES),
-    ("derive => {}", 0, PARENTHESES),
-    ("unsafe attr", 0, PARENTHESES),
-    ("attr attr() () => {}", 0, PARENTHESES),
-    ("() => {}; attr => {}", 1, PARENTHESES),
-    ("attr() => {}", 0, SUBTREE),
-    ("attr()", 0, SUBTREE),
-    ("unsafe", 0, SUBTREE),
-    ("unsafe unsafe () => {}", 0, SUBTREE),
-    ("attr() unsafe () => {}", 0, SUBTREE),
-    ("Attr() () => {}", 0, SUBTREE),
-    ("attr() {}", 0, EQUALS),
-    ("unsafe attr() () => {}", 1, Reported::Nothing),
+pub const GROUPS: &str = rows![
+    ("attr => {}", 0, "expected", "expected `()`"),
+    ("derive => {}", 0, "expected", "expected `()`"),
+    ("unsafe attr", 0, "expected", "expected `()`"),
+    ("attr attr() () => {}", 0, "expected", "expected `()`"),
+    ("() => {}; attr => {}", 1, "expected", "expected `()`"),
+    ("attr() => {}", 0, "expected", "expected subtree"),
+    ("attr()", 0, "expected", "expected subtree"),
+    ("unsafe", 0, "expected", "expected subtree"),
+    ("unsafe unsafe () => {}", 0, "expected", "expected subtree"),
+    ("attr() unsafe () => {}", 0, "expected", "expected subtree"),
+    ("Attr() () => {}", 0, "expected", "expected subtree"),
+    ("attr() {}", 0, "expected", "expected `=`"),
+    ("unsafe attr() () => {}", 1),
 ];
-
-pub fn groups() -> &'static [Row] {
-    &GROUPS
-}
 
 // `r#unsafe r#attr() () => {}`, with any spans.
 static RAW_WORDS: [Token<'static>; 10] = [
@@ -144,7 +124,7 @@ fn are_counted(alloc: Global) -> Result<bool, AllocError> {
 
 #[test]
 fn raw_words_count_as_well(rt: HostRuntime) {
-    assert!(rt; are_counted(rt.alloc()).unwrap_or(false));
+    holds(&rt, are_counted(rt.alloc()));
 }
 
 // A call of the macro of an error has no rule.
@@ -152,16 +132,20 @@ fn raw_words_count_as_well(rt: HostRuntime) {
 fn macro_of_an_error(rt: HostRuntime) {
     let rules = DeclarativeMacro::from_err(rt.alloc(), ParseError::InvalidRepeat);
     let is_so = is_read(rt.alloc(), &rules, (0, Reported::InvalidRepeat)).unwrap_or(false);
-    assert!(rt; is_so && rules.rule_styles() == MacroCallStyles::FN_LIKE);
+    holds(
+        &rt,
+        Ok(is_so && rules.rule_styles() == MacroCallStyles::FN_LIKE),
+    );
     let call = ("a", MacroCallStyle::FnLike);
-    assert!(rt; answers(rt.alloc(), &rules, call, None).unwrap_or(false));
+    holds(&rt, answers(rt.alloc(), &rules, call, None));
 }
 
 // It has no rules, so that it can be called.
 #[test]
 fn macro_of_a_refusal_has_no_rule(rt: HostRuntime) {
     let rules = DeclarativeMacro::from_err(rt.alloc(), ParseError::RepetitionEmptyTokenTree);
-    assert!(rt; answers(rt.alloc(), &rules, ("", MacroCallStyle::Attr), None).unwrap_or(false));
+    let call = ("", MacroCallStyle::Attr);
+    holds(&rt, answers(rt.alloc(), &rules, call, None));
 }
 
 // The set of these bits, whether they are a style's or not.
@@ -175,23 +159,34 @@ static NAMED: [(MacroCallStyles, MacroCallStyle, u8); 3] = [
     (MacroCallStyles::DERIVE, MacroCallStyle::Derive, 4),
 ];
 
+fn has_bits(styles: MacroCallStyles, style: MacroCallStyle, bits: u8) -> bool {
+    styles.bits() == bits && MacroCallStyles::from(style).bits() == bits
+}
+
 #[test]
 fn styles_have_their_bits(rt: HostRuntime) {
     for &(styles, style, bits) in &NAMED {
-        assert_eq!(rt; styles.bits(), bits);
-        assert_eq!(rt; MacroCallStyles::from(style).bits(), bits);
+        holds(&rt, Ok(has_bits(styles, style, bits)));
     }
-    assert_eq!(rt; MacroCallStyles::empty().bits(), 0);
-    assert_eq!(rt; MacroCallStyles::all().bits(), 7);
+    holds(&rt, Ok(MacroCallStyles::empty().bits() == 0));
+    holds(&rt, Ok(MacroCallStyles::all().bits() == 7));
+}
+
+// Whether the set of these bits has them, and is made of them where all are of styles.
+fn is_set(bits: u8) -> bool {
+    let found = MacroCallStyles::from_bits(bits);
+    let is_found = if bits < 8 {
+        found == Some(set(bits))
+    } else {
+        found.is_none()
+    };
+    is_found && set(bits).bits() == bits
 }
 
 #[test]
 fn sets_of_styles_are_their_bits(rt: HostRuntime) {
     for bits in 0..=255u8 {
-        let found = MacroCallStyles::from_bits(bits);
-        assert_eq!(rt; found.is_some(), bits < 8, "{bits}");
-        assert!(rt; found.is_none() || found == Some(set(bits)), "{bits}");
-        assert_eq!(rt; set(bits).bits(), bits, "{bits}");
+        assert!(rt; is_set(bits), "{bits}");
     }
 }
 
@@ -284,7 +279,7 @@ static ANSWERS: [(Asked, u8, u8, u8); 51] = [
 #[test]
 fn questions_to_sets_of_styles(rt: HostRuntime) {
     for (row, &(asked, one, two, want)) in ANSWERS.iter().enumerate() {
-        assert_eq!(rt; answer(asked, one, two), want, "row {row}");
+        assert!(rt; answer(asked, one, two) == want, "row {row}");
     }
 }
 
@@ -292,13 +287,13 @@ fn questions_to_sets_of_styles(rt: HostRuntime) {
 fn changed_sets_of_styles(rt: HostRuntime) {
     let mut styles = MacroCallStyles::FN_LIKE;
     styles.insert(set(10));
-    assert_eq!(rt; styles, set(11));
+    holds(&rt, Ok(styles == set(11)));
     styles.remove(set(9));
-    assert_eq!(rt; styles, set(2));
+    holds(&rt, Ok(styles == set(2)));
     styles.toggle(set(6));
-    assert_eq!(rt; styles, set(4));
+    holds(&rt, Ok(styles == set(4)));
     styles.set(set(3), true);
-    assert_eq!(rt; styles, set(7));
+    holds(&rt, Ok(styles == set(7)));
     styles.set(set(5), false);
-    assert_eq!(rt; styles, MacroCallStyles::ATTR);
+    holds(&rt, Ok(styles == MacroCallStyles::ATTR));
 }

@@ -20,6 +20,46 @@ pub enum Lexeme<'a> {
 /// A token, its file, its start and its end.
 pub type Token<'a> = (Lexeme<'a>, u32, u32, u32);
 
+// The kind of a group by its opening; a group without one is invisible.
+fn kind(opening: &str) -> DelimiterKind {
+    match opening.chars().next() {
+        Some('(') => DelimiterKind::Parenthesis,
+        Some('[') => DelimiterKind::Bracket,
+        Some('{') => DelimiterKind::Brace,
+        _ => DelimiterKind::Invisible,
+    }
+}
+
+// What a token of a row is, by the first letter of its sort: `word`, `raw`, `number`, `float`, `text`, `alone`, `joint`, `open`, `close`.
+fn read_lexeme<'t>(sort: &str, text: &'t str) -> Lexeme<'t> {
+    let char = text.chars().next().unwrap_or(' ');
+    match sort.chars().next() {
+        Some('w') => Lexeme::Word(text),
+        Some('r') => Lexeme::Raw(text),
+        Some('n') => Lexeme::Number(text),
+        Some('f') => Lexeme::Float(text),
+        Some('t') => Lexeme::Text(text),
+        Some('a') => Lexeme::Alone(char),
+        Some('j') => Lexeme::Joint(char),
+        Some('o') => Lexeme::Open(kind(text)),
+        _ => Lexeme::Close,
+    }
+}
+
+/// A number of a row.
+pub fn byte(field: &str) -> u32 {
+    field.parse::<u32>().unwrap_or(u32::MAX)
+}
+
+/// A token of a row: its sort, its text, its file, its start and its end.
+pub fn token(row: &str) -> Option<Token<'_>> {
+    let (row, end) = row.rsplit_once(' ')?;
+    let (row, start) = row.rsplit_once(' ')?;
+    let (row, file) = row.rsplit_once(' ')?;
+    let (sort, text) = row.split_once(' ')?;
+    Some((read_lexeme(sort, text), byte(file), byte(start), byte(end)))
+}
+
 /// The span of these bytes of a file.
 pub fn at(file: u32, start: u32, end: u32) -> Span {
     Span {

@@ -1,7 +1,7 @@
 // Builds the trees of the tests, of tokens or of a text.
 ghost use Rattle.std.specs.Prelude.{◌<◌, length};
 
-use crate::tokens::{Lexeme, Token, at};
+use crate::tokens::{Lexeme, Token, at, byte, token};
 use mbe_text::dialect::Dialect;
 use mbe_text::lexer::{LexError, lex};
 use mbe_text::scanner;
@@ -13,6 +13,7 @@ use mbe_tt::tt::{
     TopSubtreeBuilder,
 };
 use std::alloc::{AllocError, Allocator, Global};
+use test_rows::spelled;
 
 // Adds the token at the end of the innermost open group. A closing without an opening is left out.
 fn add<A: Allocator + Copy>(
@@ -111,19 +112,43 @@ pub fn built<A: Allocator + Copy>(
     Ok(finish(builder, whole))
 }
 
+/// The same of tokens of a row, each a line.
+pub fn built_of<A: Allocator + Copy>(
+    alloc: A,
+    whole: Span,
+    tokens: &str,
+) -> Result<TopSubtree<A>, AllocError> {
+    let mut builder = TopSubtreeBuilder::new(alloc, Delimiter::invisible_spanned(whole))?;
+    for row in tokens.lines() {
+        let (lexeme, file, start, end) = token(row).ok_or(AllocError)?;
+        add(&mut builder, alloc, lexeme, at(file, start, end))?;
+    }
+    Ok(finish(builder, whole))
+}
+
+// A token of a row, after which is the number of its context.
+fn marked(row: &str) -> Option<(Lexeme<'_>, Span)> {
+    let (row, number) = row.rsplit_once(' ')?;
+    let (lexeme, file, start, end) = token(row)?;
+    let ctx = SyntaxContext(byte(number));
+    Some((
+        lexeme,
+        Span {
+            ctx,
+            ..at(file, start, end)
+        },
+    ))
+}
+
 /// The same, where each token has the context of that number.
 pub fn built_in_contexts(
     alloc: Global,
     whole: Span,
-    tokens: &[(Token<'_>, u32)],
+    tokens: &str,
 ) -> Result<TopSubtree, AllocError> {
     let mut builder = TopSubtreeBuilder::new(alloc, Delimiter::invisible_spanned(whole))?;
-    for &((lexeme, file, start, end), number) in tokens {
-        let ctx = SyntaxContext(number);
-        let span = Span {
-            ctx,
-            ..at(file, start, end)
-        };
+    for row in tokens.lines() {
+        let (lexeme, span) = marked(row).ok_or(AllocError)?;
         add(&mut builder, alloc, lexeme, span)?;
     }
     Ok(finish(builder, whole))
@@ -195,18 +220,13 @@ pub fn lexed<A: Allocator + Copy>(
     }
 }
 
-/// Trees of a table: those of a text, or these tokens up to that byte, where no text gives them.
-#[derive(Clone, Copy)]
-pub enum Trees {
-    Of(&'static str),
-    Tokens(u32, &'static [Token<'static>]),
-}
-
-impl Trees {
-    pub fn read(self, alloc: Global, file: u32) -> Result<TopSubtree, AllocError> {
-        match self {
-            Trees::Of(text) => lexed(alloc, file, text),
-            Trees::Tokens(end, tokens) => built(alloc, at(file, 0, end), tokens),
+/// The trees of a row: those of a text, or, after `tokens` and the byte up to which they are, the tokens where no text gives them.
+pub fn read(alloc: Global, file: u32, trees: &str) -> Result<TopSubtree, AllocError> {
+    match trees.strip_prefix("tokens ") {
+        None => lexed(alloc, file, spelled(alloc, trees)?.as_str()),
+        Some(rest) => {
+            let (end, tokens) = rest.split_once('\n').unwrap_or((rest, ""));
+            built_of(alloc, at(file, 0, byte(end)), tokens)
         }
     }
 }

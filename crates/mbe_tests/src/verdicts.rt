@@ -4,14 +4,12 @@ ghost use Rattle.mbe.specs.MacroViews.{macro_of};
 
 use crate::grammar::{NOTHING, NoMemory};
 use crate::runs::defined;
-use crate::tokens::Lexeme::{Close, Open, Word};
-use crate::trees::Trees::{Of, Tokens};
-use crate::trees::{Trees, lexed};
+use crate::trees::{lexed, read};
 use mbe::{DeclarativeMacro, ParseError, Verdict};
 use mbe_tt::grammar::FragmentGrammar;
-use mbe_tt::tt::DelimiterKind::Invisible;
 use mbe_tt::tt::TopSubtree;
 use std::alloc::{AllocError, Allocator, Global};
+use test_rows::{Fields, Rows, each, holds, rows};
 
 /// The verdict of each rule on the argument, in order.
 pub fn explained<A: Allocator + Copy, G: FragmentGrammar>(
@@ -29,49 +27,23 @@ pub fn explained<A: Allocator + Copy, G: FragmentGrammar>(
     Ok(verdicts)
 }
 
-/// A definition, an argument, and the verdict of each rule. The grammar faults on everything.
-type Row = (&'static str, Trees, &'static [Verdict]);
-
-static VERDICTS: [Row; 9] = [
-    ("", Of("a"), &[]),
-    (
-        "(a) => {}; ($x:ident) => {${count($y)}}; ($x:tt $y:tt) => {}",
-        Of("a"),
-        &[Verdict::OneReading, Verdict::OneReading, Verdict::Stuck(1)],
-    ),
+// A definition, an argument, and the verdict of each rule. The grammar faults on everything.
+const VERDICTS: &str = rows![
+    ("", "a", "[]"),
+    ("(a) => {}; ($x:ident) => {${count($y)}}; ($x:tt $y:tt) => {}", "a", "[OneReading, OneReading, Stuck(1)]"),
     // Over the quote, or over the whole separator.
-    (
-        "($(b $(')?)'a*) => {}",
-        Of("b 'a b"),
-        &[Verdict::Ambiguous(1)],
-    ),
-    (
-        "($($a:ident)* $b:ident) => {}",
-        Of("x"),
-        &[Verdict::Ambiguous(0)],
-    ),
-    ("($(a)? $(a)?) => {}", Of("a"), &[Verdict::ManyReadings]),
-    (
-        "attr() ([a]) => {}; derive() ([a b]) => {}",
-        Of("[a c]"),
-        &[Verdict::Stuck(2), Verdict::Stuck(2)],
-    ),
-    ("($e:expr) => {}", Of("a"), &[Verdict::Stuck(0)]),
-    ("(a) => {} b", Of("a"), &[Verdict::OneReading]),
+    ("($(b $(')?)'a*) => {}", "b 'a b", "[Ambiguous(1)]"),
+    ("($($a:ident)* $b:ident) => {}", "x", "[Ambiguous(0)]"),
+    ("($(a)? $(a)?) => {}", "a", "[ManyReadings]"),
+    ("attr() ([a]) => {}; derive() ([a b]) => {}", "[a c]", "[Stuck(2), Stuck(2)]"),
+    ("($e:expr) => {}", "a", "[Stuck(0)]"),
+    ("(a) => {} b", "a", "[OneReading]"),
     // The opening and the closing of an invisible group count too.
-    (
-        "(a) => {}; ($x:tt b) => {}; ($x:tt $y:tt) => {}",
-        Tokens(
-            4,
-            &[
-                (Open(Invisible), 1, 0, 1),
-                (Word("a"), 1, 1, 2),
-                (Close, 1, 2, 3),
-                (Word("c"), 1, 3, 4),
-            ],
-        ),
-        &[Verdict::Stuck(0), Verdict::Stuck(3), Verdict::OneReading],
-    ),
+    ("(a) => {}; ($x:tt b) => {}; ($x:tt $y:tt) => {}", "tokens 4
+open none 1 0 1
+word a 1 1 2
+close ) 1 2 3
+word c 1 3 4", "[Stuck(0), Stuck(3), OneReading]"),
 ];
 
 // The verdicts of a grammar, in a macro that isn't refused.
@@ -88,17 +60,25 @@ fn checked<G: FragmentGrammar>(
     explained(alloc, grammar, &rules, argument)
 }
 
-fn is_explained(alloc: Global, &(definition, argument, want): &Row) -> Result<bool, AllocError> {
-    let argument = argument.read(alloc, 1)?;
-    let verdicts = checked(alloc, &NOTHING, definition, &argument)?;
-    Ok(verdicts.as_slice() == want)
+#[derive(Clone, Copy)]
+struct Verdicts;
+
+impl Rows for Verdicts {
+    fn is_so(
+        &self,
+        alloc: Global,
+        [definition, argument, want, ..]: Fields,
+    ) -> Result<bool, AllocError> {
+        let argument = read(alloc, 1, argument)?;
+        let verdicts = checked(alloc, &NOTHING, definition, &argument)?;
+        let shown = format!(in alloc; "{:?}", verdicts.as_slice())?;
+        Ok(shown.as_str() == want)
+    }
 }
 
 #[test]
 fn each_rule_has_a_verdict(rt: HostRuntime) {
-    for row in &VERDICTS {
-        assert!(rt; is_explained(rt.alloc(), row).unwrap_or(false), "{}", row.0);
-    }
+    each(&rt, rt.alloc(), &Verdicts, VERDICTS, 9);
 }
 
 // Whether there are verdicts of that grammar.
@@ -109,6 +89,7 @@ fn has_verdicts<G: FragmentGrammar>(alloc: Global, grammar: &G) -> Result<bool, 
 
 #[test]
 fn a_grammar_without_memory_gives_no_verdict(rt: HostRuntime) {
-    assert!(rt; matches!(has_verdicts(rt.alloc(), &NOTHING), Ok(true)));
-    assert!(rt; matches!(has_verdicts(rt.alloc(), &NoMemory), Ok(false)));
+    holds(&rt, has_verdicts(rt.alloc(), &NOTHING));
+    let has_none = matches!(has_verdicts(rt.alloc(), &NoMemory), Ok(false));
+    holds(&rt, Ok(has_none));
 }

@@ -1,11 +1,10 @@
 // Each rule of the lexer: texts with their tokens and bytes, and texts that aren't lexed with the byte at fault.
-use crate::each::{Row, each, holds, none};
-use crate::pairs;
 use mbe_text::lexer::{LexError, lex};
 use mbe_text::printing::print_tree;
 use mbe_tt::span::Span;
 use mbe_tt::tt::{DelimiterKind, Leaf, LitKind, Literal, Spacing, Subtree, TopSubtree, TtElement};
 use std::alloc::{AllocError, Global};
+use test_rows::{Fields, Rows, each, holds, number, rows};
 
 /// The trees of a text that isn't long.
 pub(crate) fn trees(alloc: Global, text: &str) -> Result<TopSubtree, LexError> {
@@ -39,7 +38,7 @@ fn printed_tokens(rt: HostRuntime) {
     PUNCH   = [alone] 0@30..31
     SUBTREE {} 0@32..33 0@33..33
 ";
-    holds(&rt, is_printed(rt.alloc(), text, want));
+    holds(&rt, Ok(is_printed(rt.alloc(), text, want)));
 }
 
 fn kind_name(kind: LitKind) -> &'static str {
@@ -117,25 +116,26 @@ fn push_tokens(tree: &TopSubtree, line: &mut String) -> Result<(), AllocError> {
 }
 
 // Whether the text has these tokens.
-fn has_tokens(alloc: Global, text: &str, want: &str) -> bool {
+fn has_tokens(alloc: Global, text: &str, want: &str) -> Result<bool, AllocError> {
     let Ok(tree) = trees(alloc, text) else {
-        return false;
+        return Ok(false);
     };
     let mut line = String::new(alloc);
-    push_tokens(&tree, &mut line).is_ok() && line.as_str() == want
+    push_tokens(&tree, &mut line)?;
+    Ok(line.as_str() == want)
 }
 
 // Whether the text is at fault at this byte.
-fn is_at_fault(alloc: Global, text: &str, want: u32) -> bool {
+fn is_at_fault(alloc: Global, text: &str, want: usize) -> bool {
     match trees(alloc, text) {
-        Err(LexError::Fault(fault)) => fault.offset == want,
+        Err(LexError::Fault(fault)) => fault.offset as usize == want,
         _ => false,
     }
 }
 
 // Texts with their tokens: a literal is its kind and its text, with `|` before a suffix, a punct its char and its spacing.
 // After each are its bytes, and after an opening those of the closing too.
-static TOKENS: &str = pairs![
+const TOKENS: &str = rows![
     // White space and comments are passed over, block comments nest, and one without an end is at fault where it begins.
     (" \t\r\n", ""),
     ("a//b\nc", "a 0..1, c 5..6"),
@@ -260,153 +260,138 @@ static TOKENS: &str = pairs![
 ];
 
 // A text that isn't lexed, with the byte at fault.
-struct Faulty(&'static str, u32);
+#[derive(Clone, Copy)]
+struct Faults;
 
-impl Row for Faulty {
-    fn is_so(&self, alloc: Global) -> bool {
-        is_at_fault(alloc, self.0, self.1)
-    }
-
-    fn text(&self) -> &'static str {
-        self.0
+impl Rows for Faults {
+    fn is_so(&self, alloc: Global, [text, at, ..]: Fields) -> Result<bool, AllocError> {
+        Ok(is_at_fault(alloc, text, number(at)))
     }
 }
 
-static FAULTS: [Faulty; 52] = [
+const FAULTS: &str = rows![
     // White space and comments are passed over, block comments nest, and one without an end is at fault where it begins.
-    Faulty("a /* b", 2),
-    Faulty("a /* /* */", 2),
-    Faulty("/*/", 0),
-    Faulty("/**", 0),
-    Faulty("/*//*/a", 0),
-    Faulty("a\u{b}b", 1),
-    Faulty("a\u{c}b", 1),
-    Faulty("a\u{85}b", 1),
-    Faulty("a\u{a0}b", 1),
-    Faulty("a\u{2028}b", 1),
-    Faulty("\u{feff}a", 0),
+    ("a /* b", 2),
+    ("a /* /* */", 2),
+    ("/*/", 0),
+    ("/**", 0),
+    ("/*//*/a", 0),
+    ("a\u{b}b", 1),
+    ("a\u{c}b", 1),
+    ("a\u{85}b", 1),
+    ("a\u{a0}b", 1),
+    ("a\u{2028}b", 1),
+    ("\u{feff}a", 0),
     // Identifiers are as long as they can be. One that would begin a prefixed string or a byte literal is a fault.
-    Faulty("a\"b\"", 0),
-    Faulty("x r#a\"b\"", 2),
-    Faulty("1 r\"a\"", 2),
-    Faulty("r#\"a\"#", 0),
-    Faulty("x br##\"a\"##", 2),
-    Faulty("cr#\"", 0),
-    Faulty("b'a'", 0),
-    Faulty("x b'", 2),
-    Faulty("u8\"\"", 0),
-    Faulty("ⓐ", 0),
+    ("a\"b\"", 0),
+    ("x r#a\"b\"", 2),
+    ("1 r\"a\"", 2),
+    ("r#\"a\"#", 0),
+    ("x br##\"a\"##", 2),
+    ("cr#\"", 0),
+    ("b'a'", 0),
+    ("x b'", 2),
+    ("u8\"\"", 0),
+    ("ⓐ", 0),
     // A string ends at the next quote that no `\` takes with it.
-    Faulty("\"abc", 0),
-    Faulty("a \"b\\\"", 2),
-    Faulty("\"\\", 0),
-    Faulty("a\n\"", 2),
+    ("\"abc", 0),
+    ("a \"b\\\"", 2),
+    ("\"\\", 0),
+    ("a\n\"", 2),
     // After a `'`: a char where one is before the next `'`, else a lifetime.
-    Faulty("'", 0),
-    Faulty("''", 0),
-    Faulty("'''", 0),
-    Faulty("'\n'", 0),
-    Faulty("'\\", 0),
-    Faulty("'\\'", 0),
-    Faulty("a '1", 2),
-    Faulty("'//'", 0),
-    Faulty("' a", 0),
-    Faulty("'a\"b\"", 1),
-    Faulty("'ab'", 3),
-    Faulty("'e\u{301}'", 4),
+    ("'", 0),
+    ("''", 0),
+    ("'''", 0),
+    ("'\n'", 0),
+    ("'\\", 0),
+    ("'\\'", 0),
+    ("a '1", 2),
+    ("'//'", 0),
+    ("' a", 0),
+    ("'a\"b\"", 1),
+    ("'ab'", 3),
+    ("'e\u{301}'", 4),
     // Integers in four bases.
-    Faulty("٣", 0),
-    Faulty("1٣", 1),
+    ("٣", 0),
+    ("1٣", 1),
     // An identifier directly after a literal is its suffix.
-    Faulty("1u8\"a\"", 1),
-    Faulty("'a'b'c'", 3),
+    ("1u8\"a\"", 1),
+    ("'a'b'c'", 3),
     // A closing fits the open group; groups that are open at the end are closed there.
-    Faulty(")", 0),
-    Faulty("(]", 1),
-    Faulty("{ ( }", 4),
-    Faulty("é }", 3),
-    Faulty("(a))", 3),
-    Faulty(") `", 0),
-    Faulty("` )", 0),
+    (")", 0),
+    ("(]", 1),
+    ("{ ( }", 4),
+    ("é }", 3),
+    ("(a))", 3),
+    (") `", 0),
+    ("` )", 0),
     // A punct is joint where the next token begins directly after it and is a punct; any other character is a fault.
-    Faulty("a `", 2),
-    Faulty("\\", 0),
-    Faulty("a\u{0}", 1),
-    Faulty("€", 0),
+    ("a `", 2),
+    ("\\", 0),
+    ("a\u{0}", 1),
+    ("€", 0),
 ];
 
-// The first of the pairs that isn't so. There are 97.
-fn first_unlike(alloc: Global) -> Option<&'static str> {
-    let mut count = 0usize;
-    for pair in TOKENS.split_terminator('\u{2}') {
-        match pair.split_once('\u{1}') {
-            Some((text, want)) if has_tokens(alloc, text, want) => {}
-            _ => return Some(pair),
-        }
-        count = count.saturating_add(1);
+#[derive(Clone, Copy)]
+struct Tokens;
+
+impl Rows for Tokens {
+    fn is_so(&self, alloc: Global, [text, want, ..]: Fields) -> Result<bool, AllocError> {
+        has_tokens(alloc, text, want)
     }
-    (count != 97).then_some("another number of pairs")
 }
 
 #[test]
 fn texts_have_their_tokens(rt: HostRuntime) {
-    none(&rt, first_unlike(rt.alloc()));
+    each(&rt, rt.alloc(), &Tokens, TOKENS, 97);
 }
 
 #[test]
 fn texts_are_at_fault(rt: HostRuntime) {
-    each(&rt, rt.alloc(), &FAULTS);
+    each(&rt, rt.alloc(), &Faults, FAULTS, 52);
+}
+
+// The literal is lexed with the longest suffix.
+fn is_lexed(
+    alloc: Global,
+    (literal, kind, text): (&str, &str, &str),
+    suffix: &str,
+) -> Result<bool, AllocError> {
+    let end = literal.len().saturating_add(suffix.len());
+    let source = format!(in alloc; "{literal}{suffix}")?;
+    let want = format!(in alloc; "{kind} {text}|{suffix} 0..{end}")?;
+    has_tokens(alloc, source.as_str(), want.as_str())
+}
+
+// It isn't with one byte more.
+#[derive(Clone, Copy)]
+struct Suffixed;
+
+impl Rows for Suffixed {
+    fn is_so(
+        &self,
+        alloc: Global,
+        [literal, len, kind, text, ..]: Fields,
+    ) -> Result<bool, AllocError> {
+        let suffix = "a".repeat(alloc, 255)?;
+        let longer = format!(in alloc; "{literal}{suffix}b")?;
+        let is_too_long = is_at_fault(alloc, longer.as_str(), number(len));
+        Ok(is_too_long && is_lexed(alloc, (literal, kind, text), suffix.as_str())?)
+    }
 }
 
 // A literal and its length, its kind and its text.
-struct Suffixed(&'static str, u32, &'static str, &'static str);
-
-fn is_lexed(alloc: Global, &Suffixed(literal, _, kind, text): &Suffixed, suffix: &str) -> bool {
-    let end = literal.len().saturating_add(suffix.len());
-    let Ok(source) = format!(in alloc; "{literal}{suffix}") else {
-        return false;
-    };
-    match format!(in alloc; "{kind} {text}|{suffix} 0..{end}") {
-        Ok(want) => has_tokens(alloc, source.as_str(), want.as_str()),
-        Err(AllocError) => false,
-    }
-}
-
-fn is_too_long(alloc: Global, &Suffixed(literal, len, ..): &Suffixed, suffix: &str) -> bool {
-    match format!(in alloc; "{literal}{suffix}b") {
-        Ok(source) => is_at_fault(alloc, source.as_str(), len),
-        Err(AllocError) => false,
-    }
-}
-
-// The literal is lexed with the longest suffix, and isn't with one byte more.
-impl Row for Suffixed {
-    fn is_so(&self, alloc: Global) -> bool {
-        match "a".repeat(alloc, 255) {
-            Ok(longest) => {
-                let suffix = longest.as_str();
-                is_lexed(alloc, self, suffix) && is_too_long(alloc, self, suffix)
-            }
-            Err(AllocError) => false,
-        }
-    }
-
-    fn text(&self) -> &'static str {
-        self.0
-    }
-}
-
-static SUFFIXED: [Suffixed; 4] = [
-    Suffixed("1", 1, "Integer", "1"),
-    Suffixed("1.5", 3, "Float", "1.5"),
-    Suffixed("'b'", 3, "Char", "b"),
-    Suffixed("\"b\"", 3, "Str", "b"),
+const SUFFIXED: &str = rows![
+    ("1", 1, "Integer", "1"),
+    ("1.5", 3, "Float", "1.5"),
+    ("'b'", 3, "Char", "b"),
+    ("\"b\"", 3, "Str", "b"),
 ];
 
 // A suffix has at most 255 bytes, after each kind of literal.
 #[test]
 fn longest_suffix(rt: HostRuntime) {
-    each(&rt, rt.alloc(), &SUFFIXED);
+    each(&rt, rt.alloc(), &Suffixed, SUFFIXED, 4);
 }
 
 const PUNCTS: &str = "=<>!&|~@.,;:#$?+-*/%^";
@@ -428,9 +413,10 @@ fn push_puncts(line: &mut String) -> Result<(), AllocError> {
     Ok(())
 }
 
-fn are_puncts(alloc: Global) -> bool {
+fn are_puncts(alloc: Global) -> Result<bool, AllocError> {
     let mut want = String::new(alloc);
-    push_puncts(&mut want).is_ok() && has_tokens(alloc, PUNCTS, want.as_str())
+    push_puncts(&mut want)?;
+    has_tokens(alloc, PUNCTS, want.as_str())
 }
 
 #[test]

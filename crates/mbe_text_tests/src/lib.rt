@@ -2,8 +2,6 @@
 #![tactic(auto)]
 
 #[cfg(test)]
-mod each;
-#[cfg(test)]
 mod lexing;
 #[cfg(test)]
 mod printing;

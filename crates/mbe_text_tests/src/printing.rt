@@ -1,11 +1,11 @@
 // The lines of trees, to a writer that takes few bytes at once, or fails.
-use crate::each::{Row, each, holds};
 use crate::lexing::trees;
 use mbe_text::printing::print_tree;
 use mbe_tt::tt::TopSubtree;
 use std::alloc::{AllocError, Global};
 use std::io;
 use std::io::Write;
+use test_rows::{Fields, Rows, each, holds, rows};
 
 // Every other call is interrupted. The others take at most seven bytes, and fail once there is no room.
 #[derive(Drop)]
@@ -65,23 +65,19 @@ fn is_printed(alloc: Global, text: &str, want: &str) -> bool {
     true
 }
 
-// A text with its lines.
-struct Lines(&'static str, &'static str);
+#[derive(Clone, Copy)]
+struct Lines;
 
-impl Row for Lines {
-    fn is_so(&self, alloc: Global) -> bool {
-        is_printed(alloc, self.0, self.1)
-    }
-
-    fn text(&self) -> &'static str {
-        self.0
+impl Rows for Lines {
+    fn is_so(&self, alloc: Global, [text, want, ..]: Fields) -> Result<bool, AllocError> {
+        Ok(is_printed(alloc, text, want))
     }
 }
 
 // Texts with their lines. Lines of 127, 128 and 129 bytes are among them, and an identifier and a string of more.
-static PRINTED: [Lines; 6] = [
-    Lines("", "SUBTREE $$ 0@0..0 0@0..0\n"),
-    Lines(
+const PRINTED: &str = rows![
+    ("", "SUBTREE $$ 0@0..0 0@0..0\n"),
+    (
         "'a(é)",
         "SUBTREE $$ 0@0..6 0@0..6
   PUNCH   ' [joint] 0@0..1
@@ -90,25 +86,25 @@ static PRINTED: [Lines; 6] = [
     IDENT   é 0@3..5
 ",
     ),
-    Lines(
+    (
         "abcdefghijklmnopqrstuvwxyzabcdefghijklmnopqrstuvwxyzabcdefghijklmnopqrstuvwxyzabcdefghijklmnopqrstuvwxyzabc",
         "SUBTREE $$ 0@0..107 0@0..107
   IDENT   abcdefghijklmnopqrstuvwxyzabcdefghijklmnopqrstuvwxyzabcdefghijklmnopqrstuvwxyzabcdefghijklmnopqrstuvwxyzabc 0@0..107
 ",
     ),
-    Lines(
+    (
         "abcdefghijklmnopqrstuvwxyzabcdefghijklmnopqrstuvwxyzabcdefghijklmnopqrstuvwxyzabcdefghijklmnopqrstuvwxyzabcd",
         "SUBTREE $$ 0@0..108 0@0..108
   IDENT   abcdefghijklmnopqrstuvwxyzabcdefghijklmnopqrstuvwxyzabcdefghijklmnopqrstuvwxyzabcdefghijklmnopqrstuvwxyzabcd 0@0..108
 ",
     ),
-    Lines(
+    (
         "abcdefghijklmnopqrstuvwxyzabcdefghijklmnopqrstuvwxyzabcdefghijklmnopqrstuvwxyzabcdefghijklmnopqrstuvwxyzabcde",
         "SUBTREE $$ 0@0..109 0@0..109
   IDENT   abcdefghijklmnopqrstuvwxyzabcdefghijklmnopqrstuvwxyzabcdefghijklmnopqrstuvwxyzabcdefghijklmnopqrstuvwxyzabcde 0@0..109
 ",
     ),
-    Lines(
+    (
         "\"abcdefghijklmnopqrstuvwxyz abcdefghijklmnopqrstuvwxyz abcdefghijklmnopqrstuvwxyz abcdefghijklmnopqrstuvwxyz abcdefghijklmnopqrstuvwxyz\"u8",
         "SUBTREE $$ 0@0..138 0@0..138
   LITERAL Str abcdefghijklmnopqrstuvwxyz abcdefghijklmnopqrstuvwxyz abcdefghijklmnopqrstuvwxyz abcdefghijklmnopqrstuvwxyz abcdefghijklmnopqrstuvwxyzu8 0@0..138
@@ -118,7 +114,7 @@ static PRINTED: [Lines; 6] = [
 
 #[test]
 fn trees_have_their_lines(rt: HostRuntime) {
-    each(&rt, rt.alloc(), &PRINTED);
+    each(&rt, rt.alloc(), &Lines, PRINTED, 6);
 }
 
 // The lines of seventy groups, each in the one before.
@@ -133,12 +129,11 @@ fn push_groups(want: &mut String) -> Result<(), AllocError> {
     Ok(())
 }
 
-fn is_indented(alloc: Global) -> bool {
-    let Ok(text) = "[".repeat(alloc, 70) else {
-        return false;
-    };
+fn is_indented(alloc: Global) -> Result<bool, AllocError> {
+    let text = "[".repeat(alloc, 70)?;
     let mut want = String::new(alloc);
-    push_groups(&mut want).is_ok() && is_printed(alloc, text.as_str(), want.as_str())
+    push_groups(&mut want)?;
+    Ok(is_printed(alloc, text.as_str(), want.as_str()))
 }
 
 // Two spaces for each group around, of which seventy are more than a line has at once.

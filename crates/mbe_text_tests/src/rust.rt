@@ -1,6 +1,5 @@
 // The tokens of whole Rust: texts with what rustc makes of them, or its message and the byte at fault.
-use crate::each::{Row, each, none};
-use crate::rust_rows::{RANDOM_2018, RANDOM_2021, RANDOM_2024};
+use crate::rust_rows::{COUNT_2018, COUNT_2021, COUNT_2024, RANDOM_2018, RANDOM_2021, RANDOM_2024};
 use mbe_text::dialect::Dialect;
 use mbe_text::lexer::{LexError, lex_as};
 use mbe_text::scanner::LexFault;
@@ -8,6 +7,7 @@ use mbe_tt::span::Edition;
 use mbe_tt::span::Edition::{Edition2018, Edition2021, Edition2024};
 use mbe_tt::tt::{DelimiterKind, Leaf, Punct, Spacing, TopSubtree, TtElement};
 use std::alloc::{AllocError, Global};
+use test_rows::{Fields, Rows, each, rows};
 
 fn push_punct(punct: &Punct, line: &mut String) -> Result<(), AllocError> {
     match punct.spacing {
@@ -67,185 +67,118 @@ fn shown(alloc: Global, edition: Edition, text: &str) -> Result<String, AllocErr
     Ok(line)
 }
 
-// A text of an edition, and what is shown of it.
-struct Text(Edition, &'static str, &'static str);
+// Texts of an edition, and what is shown of them.
+#[derive(Clone, Copy)]
+struct Texts(Edition);
 
-impl Row for Text {
-    fn is_so(&self, alloc: Global) -> bool {
-        match shown(alloc, self.0, self.1) {
-            Ok(line) => line.as_str() == self.2,
-            Err(AllocError) => false,
-        }
-    }
-
-    fn text(&self) -> &'static str {
-        self.1
+impl Rows for Texts {
+    fn is_so(&self, alloc: Global, [text, want, ..]: Fields) -> Result<bool, AllocError> {
+        Ok(shown(alloc, self.0, text)?.as_str() == want)
     }
 }
 
-static ROWS: &[Text] = &[
-    Text(
-        Edition2021,
-        "1em",
-        "expected at least one digit in exponent at 0",
-    ),
-    Text(
-        Edition2021,
-        "1e+",
-        "expected at least one digit in exponent at 0",
-    ),
-    Text(
-        Edition2021,
-        "1e_",
-        "expected at least one digit in exponent at 0",
-    ),
-    Text(Edition2021, "1e_3 1e3 1E-3 1.5e2", "1e_3 1e3 1E-3 1.5e2 "),
-    Text(
-        Edition2021,
-        "0 1.5e",
-        "expected at least one digit in exponent at 2",
-    ),
-    Text(Edition2021, "0b", "no valid digits found for number at 0"),
-    Text(Edition2021, "0x_", "no valid digits found for number at 0"),
-    Text(
-        Edition2021,
-        "0b12",
-        "invalid digit for a literal of this base at 3",
-    ),
-    Text(
-        Edition2021,
-        "0o8",
-        "invalid digit for a literal of this base at 2",
-    ),
-    Text(
-        Edition2021,
-        "0x1.5",
-        "float literal of this base is not supported at 0",
-    ),
-    Text(
-        Edition2021,
-        "0b1e3",
-        "float literal of this base is not supported at 0",
-    ),
-    Text(Edition2021, "0x1e3 0xfgh", "0x1e3 0xfgh "),
-    Text(
-        Edition2021,
+const ROWS_2021: &str = rows![
+    ("1em", "expected at least one digit in exponent at 0"),
+    ("1e+", "expected at least one digit in exponent at 0"),
+    ("1e_", "expected at least one digit in exponent at 0"),
+    ("1e_3 1e3 1E-3 1.5e2", "1e_3 1e3 1E-3 1.5e2 "),
+    ("0 1.5e", "expected at least one digit in exponent at 2"),
+    ("0b", "no valid digits found for number at 0"),
+    ("0x_", "no valid digits found for number at 0"),
+    ("0b12", "invalid digit for a literal of this base at 3"),
+    ("0o8", "invalid digit for a literal of this base at 2"),
+    ("0x1.5", "float literal of this base is not supported at 0"),
+    ("0b1e3", "float literal of this base is not supported at 0"),
+    ("0x1e3 0xfgh", "0x1e3 0xfgh "),
+    (
         "1.foo 0..1 x.0.1 1. 1.0.0",
-        "1 . foo 0 .. 1 x . 0.1 1. 1.0 . 0 ",
+        "1 . foo 0 .. 1 x . 0.1 1. 1.0 . 0 "
     ),
-    Text(Edition2021, "1_u8 1_ 1._5 1__", "1_u8 1_ 1 . _5 1__ "),
-    Text(
-        Edition2021,
-        "\"a\"_",
-        "underscore literal suffix is not allowed at 3",
-    ),
-    Text(Edition2021, "k#x", "prefix is unknown at 0"),
-    Text(Edition2021, "z\"x\"", "prefix is unknown at 0"),
-    Text(Edition2021, "r'x'", "prefix is unknown at 0"),
-    Text(Edition2021, "a'b", "prefix is unknown at 0"),
-    Text(
-        Edition2018,
-        "k#x z\"x\" c\"x\" cr#\"x\"#",
-        "k # x z \"x\" c \"x\" cr # \"x\" # ",
-    ),
-    Text(
-        Edition2021,
+    ("1_u8 1_ 1._5 1__", "1_u8 1_ 1 . _5 1__ "),
+    ("\"a\"_", "underscore literal suffix is not allowed at 3"),
+    ("k#x", "prefix is unknown at 0"),
+    ("z\"x\"", "prefix is unknown at 0"),
+    ("r'x'", "prefix is unknown at 0"),
+    ("a'b", "prefix is unknown at 0"),
+    (
         "c\"x\" cr#\"x\"# br##\"a\"#\"## b'x' b\"x\"",
-        "c\"x\" cr#\"x\"# br##\"a\"#\"## b'x' b\"x\" ",
+        "c\"x\" cr#\"x\"# br##\"a\"#\"## b'x' b\"x\" "
     ),
-    Text(Edition2021, "r#crate", "cannot be a raw identifier at 0"),
-    Text(Edition2021, "r#_", "cannot be a raw identifier at 0"),
-    Text(Edition2021, "r#foo\"x\"", "r#foo \"x\" "),
-    Text(
-        Edition2021,
+    ("r#crate", "cannot be a raw identifier at 0"),
+    ("r#_", "cannot be a raw identifier at 0"),
+    ("r#foo\"x\"", "r#foo \"x\" "),
+    (
         "r#5",
-        "found invalid character; only `#` is allowed in raw string delimitation at 0",
+        "found invalid character; only `#` is allowed in raw string delimitation at 0"
     ),
-    Text(Edition2021, " r##\"x\"#", "unterminated raw string at 1"),
-    Text(Edition2021, "'r#foo", "'r#foo "),
-    Text(Edition2018, "'r#foo", "'r # foo "),
-    Text(Edition2021, "'r#crate", "cannot be a raw identifier at 0"),
-    Text(Edition2021, "'ab 'a", "'ab 'a "),
-    Text(
-        Edition2021,
+    (" r##\"x\"#", "unterminated raw string at 1"),
+    ("'r#foo", "'r#foo "),
+    ("'r#crate", "cannot be a raw identifier at 0"),
+    ("'ab 'a", "'ab 'a "),
+    (
         "'ab'",
-        "character literal may only contain one codepoint at 0",
+        "character literal may only contain one codepoint at 0"
     ),
-    Text(
-        Edition2021,
-        "'1a",
-        "lifetimes cannot start with a number at 0",
-    ),
-    Text(Edition2021, "''", "empty character literal at 1"),
-    Text(Edition2021, "'a#b", "prefix is unknown at 0"),
-    Text(Edition2021, "'\\q'", "unknown character escape at 2"),
-    Text(Edition2021, "\"\\q\"", "unknown character escape at 2"),
-    Text(
-        Edition2021,
-        "'\\u{110000}'",
-        "invalid unicode character escape at 1",
-    ),
-    Text(
-        Edition2021,
-        "\"\\u{d800}\"",
-        "invalid unicode character escape at 1",
-    ),
-    Text(
-        Edition2021,
-        "b\"\\u{1}\"",
-        "unicode escape in byte string at 2",
-    ),
-    Text(
-        Edition2021,
-        "b'é'",
-        "non-ASCII character in byte literal at 2",
-    ),
-    Text(
-        Edition2021,
+    ("'1a", "lifetimes cannot start with a number at 0"),
+    ("''", "empty character literal at 1"),
+    ("'a#b", "prefix is unknown at 0"),
+    ("'\\q'", "unknown character escape at 2"),
+    ("\"\\q\"", "unknown character escape at 2"),
+    ("'\\u{110000}'", "invalid unicode character escape at 1"),
+    ("\"\\u{d800}\"", "invalid unicode character escape at 1"),
+    ("b\"\\u{1}\"", "unicode escape in byte string at 2"),
+    ("b'é'", "non-ASCII character in byte literal at 2"),
+    (
         "c\"\\0\"",
-        "null characters in C string literals are not supported at 2",
+        "null characters in C string literals are not supported at 2"
     ),
-    Text(Edition2021, "\"a\"b\"c\"d", "\"a\"b \"c\"d "),
-    Text(Edition2024, "#\"x\"#", "invalid string literal at 0"),
-    Text(
-        Edition2024,
-        "##",
-        "reserved multi-hash token is forbidden at 0",
-    ),
-    Text(Edition2024, "###\"x\"###", "invalid string literal at 0"),
-    Text(Edition2021, "## #\"x\"#", "## # \"x\" # "),
-    Text(Edition2021, "/** a */ x", "# [ doc = r\" a \" ] x "),
-    Text(Edition2021, "/// a \"# b", "# [ doc = r##\" a \"# b\"## ] "),
-    Text(Edition2021, "//! a", "#! [ doc = r\" a\" ] "),
-    Text(Edition2021, "/**/ /***/ //// a", ""),
-    Text(
-        Edition2021,
+    ("\"a\"b\"c\"d", "\"a\"b \"c\"d "),
+    ("## #\"x\"#", "## # \"x\" # "),
+    ("/** a */ x", "# [ doc = r\" a \" ] x "),
+    ("/// a \"# b", "# [ doc = r##\" a \"# b\"## ] "),
+    ("//! a", "#! [ doc = r\" a\" ] "),
+    ("/**/ /***/ //// a", ""),
+    (
         "b'ab'",
-        "character literal may only contain one codepoint at 0",
+        "character literal may only contain one codepoint at 0"
     ),
-    Text(Edition2021, "b''", "empty character literal at 2"),
-    Text(Edition2021, "1'b", "1 'b "),
-    Text(Edition2021, "x \\", "unknown start of token at 2"),
-    Text(Edition2021, "\"x\"é é", "\"x\"é é "),
-    Text(
-        Edition2021,
-        "\"abc",
-        "unterminated double quote string at 0",
+    ("b''", "empty character literal at 2"),
+    ("1'b", "1 'b "),
+    ("x \\", "unknown start of token at 2"),
+    ("\"x\"é é", "\"x\"é é "),
+    ("\"abc", "unterminated double quote string at 0"),
+    ("/* a", "unterminated block comment at 0"),
+    ("(a", "this file contains an unclosed delimiter at 2"),
+    ("#! /bin/sh\n#![a]", "#! [ a ] "),
+    ("#! /* a */ [a]", "#! [ a ] "),
+    ("\u{feff}a", "a "),
+];
+
+const ROWS_2018: &str = rows![
+    (
+        "k#x z\"x\" c\"x\" cr#\"x\"#",
+        "k # x z \"x\" c \"x\" cr # \"x\" # "
     ),
-    Text(Edition2021, "/* a", "unterminated block comment at 0"),
-    Text(
-        Edition2021,
-        "(a",
-        "this file contains an unclosed delimiter at 2",
-    ),
-    Text(Edition2021, "#! /bin/sh\n#![a]", "#! [ a ] "),
-    Text(Edition2021, "#! /* a */ [a]", "#! [ a ] "),
-    Text(Edition2021, "\u{feff}a", "a "),
+    ("'r#foo", "'r # foo "),
+];
+
+const ROWS_2024: &str = rows![
+    ("#\"x\"#", "invalid string literal at 0"),
+    ("##", "reserved multi-hash token is forbidden at 0"),
+    ("###\"x\"###", "invalid string literal at 0"),
+];
+
+static TABLES: [(Edition, &str, usize); 3] = [
+    (Edition2021, ROWS_2021, 56),
+    (Edition2018, ROWS_2018, 2),
+    (Edition2024, ROWS_2024, 3),
 ];
 
 #[test]
-fn rows(rt: HostRuntime) {
-    each(&rt, rt.alloc(), ROWS);
+fn texts_have_the_tokens_of_rust(rt: HostRuntime) {
+    for &(edition, rows, count) in &TABLES {
+        each(&rt, rt.alloc(), &Texts(edition), rows, count);
+    }
 }
 
 // Whether the line without its white space is that.
@@ -259,40 +192,49 @@ fn is_squeezed(line: &str, want: &str) -> bool {
     left.next().is_none()
 }
 
-// Whether that is what rustc makes of the text: `ok` before its tokens without white space, or a fault.
-fn is_rustc(alloc: Global, edition: Edition, text: &str, want: &str) -> bool {
-    let Ok(line) = shown(alloc, edition, text) else {
-        return false;
-    };
-    match want.strip_prefix("ok ") {
-        Some(tokens) => is_squeezed(line.as_str(), tokens),
-        None => line.as_str() == want,
-    }
-}
+// What rustc makes of texts of an edition: `ok` before their tokens without white space, or a fault.
+#[derive(Clone, Copy)]
+struct Random(Edition);
 
-// The first text that isn't so. Each text comes before what rustc makes of it.
-fn first_wrong(alloc: Global, edition: Edition, texts: &[&'static str]) -> Option<&'static str> {
-    for pair in texts.chunks(2) {
-        if let [text, want] = pair
-            && !is_rustc(alloc, edition, text, want)
-        {
-            return Some(text);
-        }
+impl Rows for Random {
+    fn is_so(&self, alloc: Global, [text, want, ..]: Fields) -> Result<bool, AllocError> {
+        let line = shown(alloc, self.0, text)?;
+        Ok(match want.strip_prefix("ok ") {
+            Some(tokens) => is_squeezed(line.as_str(), tokens),
+            None => line.as_str() == want,
+        })
     }
-    None
 }
 
 #[test]
 fn random_texts_of_2018(rt: HostRuntime) {
-    none(&rt, first_wrong(rt.alloc(), Edition2018, RANDOM_2018));
+    each(
+        &rt,
+        rt.alloc(),
+        &Random(Edition2018),
+        RANDOM_2018,
+        COUNT_2018,
+    );
 }
 
 #[test]
 fn random_texts_of_2021(rt: HostRuntime) {
-    none(&rt, first_wrong(rt.alloc(), Edition2021, RANDOM_2021));
+    each(
+        &rt,
+        rt.alloc(),
+        &Random(Edition2021),
+        RANDOM_2021,
+        COUNT_2021,
+    );
 }
 
 #[test]
 fn random_texts_of_2024(rt: HostRuntime) {
-    none(&rt, first_wrong(rt.alloc(), Edition2024, RANDOM_2024));
+    each(
+        &rt,
+        rt.alloc(),
+        &Random(Edition2024),
+        RANDOM_2024,
+        COUNT_2024,
+    );
 }

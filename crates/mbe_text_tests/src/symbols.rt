@@ -1,11 +1,11 @@
 // The table of symbols: texts that it has and has not, many of them, and requests for memory that are refused.
-use crate::each::holds;
 use crate::lexing::trees;
 use mbe_text::lexer::{LexError, lex_in};
 use mbe_text::symbols::SymbolTable;
 use mbe_tt::tt::TopSubtree;
 use refusing::Refusing;
 use std::alloc::{AllocError, Allocator, Global};
+use test_rows::holds;
 
 // So many texts that the slots are made anew several times.
 const COUNT: usize = 300;
@@ -43,7 +43,7 @@ fn are_apart(alloc: Global) -> bool {
 
 #[test]
 fn each_text_has_a_symbol_of_its_own(rt: HostRuntime) {
-    holds(&rt, are_apart(rt.alloc()));
+    holds(&rt, Ok(are_apart(rt.alloc())));
 }
 
 // The trees of a text that isn't long, by the table.
@@ -77,7 +77,7 @@ fn are_same(alloc: Global) -> bool {
 
 #[test]
 fn one_table_for_many_texts(rt: HostRuntime) {
-    holds(&rt, are_same(rt.alloc()));
+    holds(&rt, Ok(are_same(rt.alloc())));
 }
 
 // Whether memory is there for the first text. Then the same text takes none, and another one does.
@@ -100,7 +100,7 @@ fn is_kept(global: Global) -> bool {
 
 #[test]
 fn a_text_that_the_table_has_takes_no_memory(rt: HostRuntime) {
-    holds(&rt, is_kept(rt.alloc()));
+    holds(&rt, Ok(is_kept(rt.alloc())));
 }
 
 // Asks for so many texts, each until there is memory, and says whether each symbol has its text.
@@ -151,5 +151,5 @@ fn stays_right(alloc: Global) -> bool {
 // Each request is refused in turn, those for more slots among them, and the table is used on.
 #[test]
 fn a_refusal_leaves_the_table_right(rt: HostRuntime) {
-    holds(&rt, stays_right(rt.alloc()));
+    holds(&rt, Ok(stays_right(rt.alloc())));
 }

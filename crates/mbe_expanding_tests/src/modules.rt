@@ -1,0 +1,146 @@
+// Which files hold a module. `tools/module-files.py` asks rustc of the same rows.
+use mbe_modules::choice::{Choice, chosen};
+use mbe_modules::paths::join;
+use mbe_modules::places::{Candidates, Place};
+use std::alloc::{AllocError, Global};
+use test_rows::{Fields, Rows, each, holds, rows};
+
+// A folder, a file's own name or nothing, the inline modules around, each `name` or `name=path`, and the module, in the
+// same way; then the candidates.
+const ROWS: &str = rows![
+    ("src", "", "", "a", "src/a.rs src/a/mod.rs"),
+    ("", "", "", "a", "a.rs a/mod.rs"),
+    ("/", "", "", "a", "/a.rs /a/mod.rs"),
+    ("src", "b", "", "a", "src/b/a.rs src/b/a/mod.rs"),
+    ("src/b", "", "", "a", "src/b/a.rs src/b/a/mod.rs"),
+    ("src", "", "x", "a", "src/x/a.rs src/x/a/mod.rs"),
+    ("src", "", "x y", "a", "src/x/y/a.rs src/x/y/a/mod.rs"),
+    ("src", "b", "x y", "a", "src/b/x/y/a.rs src/b/x/y/a/mod.rs"),
+    ("src", "", "", "a=foo.rs", "src/foo.rs"),
+    ("src", "b", "", "a=foo.rs", "src/foo.rs"),
+    ("src", "", "", "a=../foo.rs", "src/../foo.rs"),
+    ("src", "", "", "a=/foo.rs", "/foo.rs"),
+    ("src", "b", "x", "a=other.rs", "src/b/x/other.rs"),
+    ("src/a", "", "x", "a=other.rs", "src/a/x/other.rs"),
+    (
+        "src",
+        "b",
+        "x=thread",
+        "a",
+        "src/thread/a.rs src/thread/a/mod.rs",
+    ),
+    ("src", "", "x=thread y", "a=tls.rs", "src/thread/y/tls.rs"),
+];
+
+// The same in files that modules of files are in, each after a `>`.
+const IN_FILES: &str = rows![
+    ("src", "", ">a", "b", "src/a/b.rs src/a/b/mod.rs"),
+    ("src", "", ">a >b", "c", "src/a/b/c.rs src/a/b/c/mod.rs"),
+    ("src", "", ">a >b", "c=d.rs", "src/a/d.rs"),
+    ("src", "", ">a b", "c=d.rs", "src/a/b/d.rs"),
+];
+
+// A name, and the path that may follow it.
+fn parts(text: &str) -> (&str, Option<&str>) {
+    match text.split_once('=') {
+        Some((name, path)) => (name, Some(path)),
+        None => (text, None),
+    }
+}
+
+// A file's own name, or nothing.
+fn own_of(own: &str) -> Option<&str> {
+    if own.is_empty() { None } else { Some(own) }
+}
+
+fn place_of(alloc: Global, folder: &str, own: &str) -> Result<Place, AllocError> {
+    let own = match own_of(own) {
+        None => None,
+        Some(own) => Some(String::from_str(alloc, own)?),
+    };
+    Ok(Place {
+        home: String::new(alloc),
+        folder: String::from_str(alloc, folder)?,
+        own,
+    })
+}
+
+fn inside(alloc: Global, place: &Place, inline: &str) -> Result<Place, AllocError> {
+    if let Some(file) = inline.strip_prefix('>') {
+        return place.of_file(alloc, file);
+    }
+    let (name, path) = parts(inline);
+    place.inside(alloc, name, path)
+}
+
+// Whether these are the candidates of a module.
+fn is_shown(alloc: Global, place: &Place, module: &str, want: &str) -> Result<bool, AllocError> {
+    let (name, path) = parts(module);
+    match place.candidates(alloc, name, path)? {
+        Candidates::Included(path) | Candidates::Given(path) => Ok(path.as_str() == want),
+        Candidates::Usual(beside, nested) => {
+            Ok(want.split_once(' ') == Some((beside.as_str(), nested.as_str())))
+        }
+    }
+}
+
+#[derive(Clone, Copy)]
+struct Modules;
+
+impl Rows for Modules {
+    fn is_so(
+        &self,
+        alloc: Global,
+        [folder, own, around, module, want, ..]: Fields,
+    ) -> Result<bool, AllocError> {
+        let mut place = place_of(alloc, folder, own)?;
+        for inline in around.split_whitespace() {
+            place = inside(alloc, &place, inline)?;
+        }
+        is_shown(alloc, &place, module, want)
+    }
+}
+
+#[test]
+fn modules_have_files(rt: HostRuntime) {
+    each(&rt, rt.alloc(), &Modules, ROWS, 16);
+    each(&rt, rt.alloc(), &Modules, IN_FILES, 4);
+}
+
+// A file that modules are in, the file's own name or nothing, and the candidates of `mod a;` in it.
+const FILES: &str = rows![
+    ("src/lib.rs", "", "src/a.rs src/a/mod.rs"),
+    ("src/b.rs", "b", "src/b/a.rs src/b/a/mod.rs"),
+    ("src/b/mod.rs", "", "src/b/a.rs src/b/a/mod.rs"),
+    ("lib.rs", "", "a.rs a/mod.rs"),
+    ("/lib.rs", "", "/a.rs /a/mod.rs"),
+    ("../b.rs", "b", "../b/a.rs ../b/a/mod.rs"),
+];
+
+#[derive(Clone, Copy)]
+struct Files;
+
+impl Rows for Files {
+    fn is_so(&self, alloc: Global, [path, own, want, ..]: Fields) -> Result<bool, AllocError> {
+        let place = Place::in_file(alloc, path, own_of(own))?;
+        is_shown(alloc, &place, "a", want)
+    }
+}
+
+#[test]
+fn files_have_modules(rt: HostRuntime) {
+    each(&rt, rt.alloc(), &Files, FILES, 6);
+}
+
+fn is_joined(alloc: Global) -> Result<bool, AllocError> {
+    Ok(join(alloc, "a/", "b")?.as_str() == "a/b")
+}
+
+#[test]
+fn one_of_two_is_taken(rt: HostRuntime) {
+    holds(&rt, Ok(chosen(true, false) == Choice::Beside));
+    holds(&rt, Ok(chosen(false, true) == Choice::Nested));
+    holds(&rt, Ok(chosen(true, true) == Choice::Both));
+    holds(&rt, Ok(chosen(false, false) == Choice::Missing));
+    holds(&rt, is_joined(rt.alloc()));
+}

@@ -1,0 +1,43 @@
+// Trees of texts, and texts of trees.
+use mbe_rust_text::writing::Writer;
+use mbe_text::dialect::Dialect;
+use mbe_text::lexer::lex_as;
+use mbe_tt::span::Edition;
+use mbe_tt::tt::TopSubtree;
+use std::alloc::{AllocError, Global};
+
+pub const RUST: Dialect = Dialect::Rust(Edition::Edition2021);
+
+/// The trees of a text, if it is in the dialect.
+pub fn read(
+    alloc: Global,
+    dialect: Dialect,
+    text: &str,
+    file: u32,
+) -> Result<TopSubtree, AllocError> {
+    if text.len() > 100_000_000 {
+        return Err(AllocError);
+    }
+    match lex_as(alloc, dialect, text, file) {
+        Ok(tree) => Ok(tree),
+        Err(_) => Err(AllocError),
+    }
+}
+
+/// The trees of a text of Rust.
+pub fn rust(alloc: Global, text: &str) -> Result<TopSubtree, AllocError> {
+    read(alloc, RUST, text, 0)
+}
+
+/// The text of trees.
+pub fn written(alloc: Global, tree: &TopSubtree) -> Result<String, AllocError> {
+    let mut writer = Writer::new(alloc, 0);
+    writer.trees(tree.iter().remaining())?;
+    Ok(writer.into_text())
+}
+
+/// Whether trees are written as those of a text are.
+pub fn is_written(alloc: Global, tree: &TopSubtree, want: &str) -> Result<bool, AllocError> {
+    let want = written(alloc, &rust(alloc, want)?)?;
+    Ok(written(alloc, tree)? == want)
+}
