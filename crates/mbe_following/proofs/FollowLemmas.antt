@@ -26,6 +26,11 @@ put_put f h [] = refl
 put_put f h (g ∷ outer) =
     ap (λ (k : Forest). let x : Delimiter × Forest = (g.0, k) in x ∷ outer) (append_append g.1 f h)
 
+-- a file's trees after a tree
+pub file_written : (one more : Forest) (old b new : Levels) → b ≡ put one old → new ≡ put more b
+    → new ≡ put (append one more) old
+file_written one more old b new hb hn = hn ∙ ap (put more) hb ∙ put_put one more old
+
 -- where there is no tree, nothing is written
 pub nothing_alone : (t : Option Tree) (old : Levels) → t ≡ None → old ≡ put (alone t) old
 nothing_alone t old is = put-none old ∙ ap (λ x. put (alone x) old) (sym is)

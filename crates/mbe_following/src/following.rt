@@ -230,6 +230,30 @@ fn follow_taken<A: Allocator + Copy>(
     follow_inside(alloc, files, unfound, builder, at, taken.trees, levels)
 }
 
+// Writes the first tree, and after it the trees of a file that is included, followed, and returns what is left.
+#[cycle(following)]
+fn include_file<'t, A: Allocator + Copy>(
+    alloc: A,
+    files: &[File<'_, A>],
+    unfound: &mut Vec<Unfound<A>, A>,
+    builder: &mut TopSubtreeBuilder<A>,
+    around: &[usize],
+    left: Left<'t, A>,
+    taken: &Taken<'_, A>,
+    levels: u32,
+) -> Result<Left<'t, A>, AllocError>
+    requires some { 0 < length builder.old }
+    ensures { IfOk result (IsStep (spec.with_file (spec.one_tree (left_shown left.entry) [])
+        (spec.followed (map file_shown files.now) levels
+        (spec.in_taken around.now (taken_of taken.now)) (taken_of taken.now).trees))
+        builder.old (map unfound_shown unfound.old.items)
+        builder.new (map unfound_shown unfound.new.items)) }
+{
+    let next = copy_tree(builder, left)?;
+    follow_taken(alloc, files, unfound, builder, around, taken, levels)?;
+    Ok(next)
+}
+
 // Writes the tree that ends an `include!`, and the trees of its file, and returns what is left.
 #[cycle(following)]
 fn follow_included<'t, A: Allocator + Copy>(
@@ -249,19 +273,15 @@ fn follow_included<'t, A: Allocator + Copy>(
         builder.old (map unfound_shown unfound.old.items)
         builder.new (map unfound_shown unfound.new.items)) }
 {
-    let candidates = at.place.included(alloc, included.path)?;
-    let next = copy_tree(builder, left)?;
-    match take(alloc, files, at.around, included.path, &candidates)? {
-        Ok(found) => {
-            let around = at.around;
-            follow_taken(alloc, files, unfound, builder, around, &found, levels)?;
-        }
+    let (place, around, name) = (at.place, at.around, included.path);
+    let candidates = place.included(alloc, name)?;
+    match take(alloc, files, around, name, &candidates)? {
+        Ok(found) => include_file(alloc, files, unfound, builder, around, left, &found, levels),
         Err(wrong) => {
-            let (at, name) = (included.at, included.path);
-            note(alloc, unfound, at, name, candidates, wrong)?;
+            note(alloc, unfound, included.at, name, candidates, wrong)?;
+            copy_tree(builder, left)
         }
     }
-    Ok(next)
 }
 
 // Writes a tree that is no module, with the trees of the file that it includes, and returns what is left.

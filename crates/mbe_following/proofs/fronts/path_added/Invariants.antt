@@ -6,7 +6,7 @@ use Rattle.mbe_following.proofs.fronts.path_added.Given as goal
 
 abbrev pub invariant-added : goal.invariant-added
 invariant-added g l =
-    path_added l.left (trees l.rest) ≡ path_added (flat_len (trees l.argument)) (trees l.argument)
+    path_added l.left (trees l.rest) ≡ path_added (flat_len (trees l.fn.argument)) (trees l.fn.argument)
 
 abbrev pub decreases-added : goal.decreases-added
 decreases-added g l = l.left
