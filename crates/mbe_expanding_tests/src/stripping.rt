@@ -100,8 +100,8 @@ const ROWS: &str = rows![
         "#[c] #[cfg_attr(yes, d)] m!();",
     ),
     (
-        "fn f(#[cfg_attr(no, a)] b: B) { #[cfg_attr(no, c)] { m!() } } #[cfg_attr]",
-        "fn f(b: B) { { m!() } } #[cfg_attr]",
+        "fn f(#[cfg_attr(no, a)] b: B) { #[cfg_attr(no, c)] { m!() } }",
+        "fn f(b: B) { { m!() } }",
     ),
 ];
 
