@@ -1,7 +1,7 @@
 -- The trees of a crate: `mod name;` is `mod name { .. }` with the trees of the file that holds the module, and an
 -- `include!("..");` has those of its file after it.
 use Rattle.std.specs.Prelude.{ℕ, zero, suc, List, [], ◌∷◌, ◌++◌, Option, Some, None, Result, Ok, Err}
-use Rattle.mbe_tt.specs.Trees.Leaf.{Ident, ident}
+use Rattle.mbe_tt.specs.Trees.Leaf.{ident}
 use Rattle.mbe_tt.specs.Trees.Tree.{Forest, none, leaf, group, append, tree, Tree, first, rest_of, flat_len}
 use Rattle.mbe_tt.specs.Trees.Top.{Top}
 use Rattle.mbe_tt.specs.declared.span.Span.{Span}

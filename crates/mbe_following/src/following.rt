@@ -5,7 +5,6 @@
 ghost use Rattle.std.specs.Prelude.{◌≡◌, ◌<◌, ◌++◌, ◌∷◌, [], IfOk, OnOk, length, map, suc};
 ghost use Rattle.mbe_modules.specs.Shown.{candidates_shown, place_shown};
 ghost use Rattle.mbe_tt.specs.Buffers.Building.{put};
-ghost use Rattle.mbe_tt.specs.Views.Shown.{ident_of};
 ghost use Rattle.mbe_tt.specs.Views.View.{trees};
 ghost use Rattle.mbe_tt.specs.Trees.Tree.{first};
 ghost use Rattle.mbe_following.specs.Following as spec;

@@ -1,5 +1,4 @@
 use Rattle.std.proofs.Common.{rules, arith}
-use Rattle.mbe_tt.specs.Views.View.{trees}
 use Rattle.mbe_following.proofs.BelowLemmas.{added_on, added_here, added_none}
 use Rattle.mbe_following.proofs.fronts.path_added.Goals as goal
 
@@ -8,8 +7,7 @@ added-preserved g c = added_on c.added.left _ _ _ (omega arith) c.added.invarian
 
 pub returns-in-Some : goal.returns-in-Some
 returns-in-Some g c =
-    added_here c.added.left _ (trees c.after_next_comma.result) _ _ (omega arith) c.added.invariant
-    c.after_next_comma.ensures (search rules)
+    added_here c.added.left _ _ _ _ (omega arith) c.added.invariant c.after_next_comma-rest.ensures (search rules)
 
 pub returns : goal.returns
 returns g c = added_none c.added.left _ _ (omega arith) c.added.invariant
