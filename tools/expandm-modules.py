@@ -32,7 +32,7 @@ CRATES = {
     "path": (f"// main.rs\n{M1}#[path = \"x/y.rs\"]\nmod a;\nfn main() {{ println!(\"{{}}\", a::c::f()); }}\n// x/y.rs\npub mod c;\n// x/c.rs\npub fn f() -> u8 {{ x1!() }}", 0),
     "inline": (f"// main.rs\n{M1}mod a {{ pub mod b; }}\nmod c;\nfn main() {{ println!(\"{{}} {{}}\", a::b::f(), c::d::e::f()); }}\n// a/b.rs\npub fn f() -> u8 {{ x1!() }}\n// c.rs\npub mod d {{ pub mod e; }}\n// c/d/e.rs\npub fn f() -> u8 {{ x1!() + 1 }}", 0),
     "inline_path": (f"// main.rs\n{M1}#[path = \"w\"] mod a {{ pub mod b; #[path = \"v.rs\"] pub mod d; }}\nfn main() {{ println!(\"{{}} {{}}\", a::b::f(), a::d::f()); }}\n// w/b.rs\npub fn f() -> u8 {{ x1!() }}\n// w/v.rs\npub fn f() -> u8 {{ x1!() + 1 }}", 0),
-    "cfg": (f"// main.rs\n{M1}#[cfg(unix)] mod a;\n#[cfg(windows)] #[path = \"w.rs\"] mod a;\nfn main() {{ println!(\"{{}}\", a::f()); }}\n// a.rs\npub fn f() -> u8 {{ x1!() }}\n// w.rs\npub fn f() -> u8 {{ x1!() + 1 }}", 0),
+    "cfg": (f"// main.rs\n{M1}#[cfg(unix)] mod a;\n#[cfg(windows)] #[path = \"w.rs\"] mod a;\nfn main() {{ println!(\"{{}}\", a::f()); }}\n// a.rs\npub fn f() -> u8 {{ x1!() }}\n// w.rs\npub fn f() -> u8 {{ x1!() + 1 }}",1),
     "cfg_off": ("// main.rs\n#[cfg(windows)] #[macro_use] mod a;\n#[cfg(not(windows))] #[macro_use] mod b;\nfn main() { println!(\"{}\", x1!()); }\n// a.rs\nmacro_rules! x1 { () => { 7 } }\n// b.rs\nmacro_rules! x1 { () => { 8 } }", 0),
     "inner_cfg": (f"// main.rs\n{M1}mod a;\nmod b;\nfn main() {{ println!(\"{{}}\", b::f()); }}\n// a.rs\n#![cfg(windows)]\npub fn f() -> u8 {{ x1!() }}\n// b.rs\n#![allow(dead_code)]\npub fn f() -> u8 {{ x1!() }}\n", 1),
     "defines": ("// main.rs\n#[macro_use]\nmod a;\nx1!(x2, 4);\nmod b;\nfn main() { println!(\"{}\", b::f()); }\n// a.rs\nmacro_rules! x1 { ($n:ident, $e:expr) => { macro_rules! $n { () => { $e } } } }\n// b.rs\npub fn f() -> u8 { x2!() }", 0),
@@ -44,8 +44,19 @@ CRATES = {
     "own_in_module": ("// main.rs\nmod a;\nfn main() { println!(\"{:?} {}\", vec![1u8, 2], a::f()); }\n// a.rs\nmacro_rules! vec { ($($t:tt)*) => { 7 } }\npub fn f() -> u8 { vec![1] }", 0),
     "by_another_path": ("// main.rs\nmacro_rules! vec { ($($e:expr),*) => { std::vec![$($e + 1),*] } }\nmod a;\nfn main() { println!(\"{:?} {:?}\", vec![1u8], a::f()); }\n// a.rs\npub fn f() -> Vec<u8> { ::std::vec![5] }", 0),
     "used_in_braces": (f"// main.rs\nmod a;\nfn main() {{ println!(\"{{}} {{}}\", a::x1!(), self::a::x2!()); }}\n// a.rs\n{M1}macro_rules! x2 {{ () => {{ 2 }} }}\npub(crate) use {{x1 as x3, x1, x2}};\n", 0),
+    "cfg_path": (f"// main.rs\n{M1}#[cfg_attr(windows, path = \"w.rs\")]\n#[cfg_attr(unix, allow(dead_code), path = \"u.rs\")]\n#[path = \"a.rs\"]\nmod a;\nfn main() {{ println!(\"{{}}\", a::f()); }}\n// u.rs\npub fn f() -> u8 {{ x1!() + 1 }}\n// w.rs\npub fn f() -> u8 {{ x1!() + 2 }}\n// a.rs\npub fn f() -> u8 {{ x1!() + 3 }}", 2),
+    "cfg_no_path": (f"// main.rs\n{M1}#[cfg_attr(windows, path = \"w.rs\")]\nmod a;\nfn main() {{ println!(\"{{}}\", a::f()); }}\n// w.rs\npub fn f() -> u8 {{ x1!() + 2 }}\n// a.rs\npub fn f() -> u8 {{ x1!() + 3 }}", 1),
+    "include": (f"// main.rs\ninclude!(\"b.rs\");\nfn main() {{ println!(\"{{}} {{}}\", f(), x1!()); }}\n// b.rs\n{M1}fn f() -> u8 {{ x1!() + 1 }}", 0),
+    "include_after": (f"// main.rs\n{M1}#[allow(dead_code)]\ninclude! {{ r\"x/b.rs\" }}\nfn main() {{ println!(\"{{}} {{}}\", f(), x2!()); }}\n// x/b.rs\nfn f() -> u8 {{ x1!() + 1 }}\nmacro_rules! x2 {{ () => {{ x1!() + 4 }} }}\n", 0),
+    "include_mod": ("// main.rs\nmod a;\nfn main() { println!(\"{} {}\", a::f(), a::q::g()); }\n// a.rs\ninclude!(\"x/b.rs\");\npub fn f() -> u8 { x1!() }\n// x/b.rs\nmacro_rules! x1 { () => { 3 } }\npub mod q;\n// x/q.rs\npub fn g() -> u8 { x1!() * 2 }", 0),
+    "include_inline": (f"// main.rs\n{M1}mod a {{ include!(\"b.rs\"); }}\nfn main() {{ println!(\"{{}}\", a::f()); }}\n// b.rs\npub fn f() -> u8 {{ x1!() }}", 0),
+    "include_twice": ("// main.rs\ninclude!(\"m.rs\");\nmod a { include!(\"c.rs\"); }\nmod b { include!(\"c.rs\"); }\nfn main() { println!(\"{} {}\", a::f(), b::f()); }\n// m.rs\nmacro_rules! x1 { ($e:expr) => { $e - 1 } }\n// c.rs\npub fn f() -> u8 { x1!(9) }", 0),
+    "include_value": (f"// main.rs\n{M1}const A: u8 = include!(\"b.rs\");\nfn main() {{ println!(\"{{}}\", A + x1!()); }}\n// b.rs\n{{ x1!() + 1 }}", 1),
     "doc": (f"// main.rs\n//! A crate.\n{M1}/// Says.\nmod a;\nfn main() {{ println!(\"{{}}\", a::f()); }}\n// a.rs\n//! Says more.\n\n/// One.\npub fn f() -> u8 {{ x1!() }}", 0),
 }
+
+# The files of a crate that are no part of it, or that are included where no item may be: they aren't written, and their calls stay.
+NOT_READ = {"cfg": ["w.rs"], "cfg_off": ["a.rs"], "cfg_path": ["w.rs", "a.rs"], "cfg_no_path": ["w.rs"], "include_value": ["b.rs"]}
 
 
 def files_of(text):
@@ -109,12 +120,9 @@ def wrong(work, name):
     if before is None:
         return f"rustc refuses the crate: {why}"
     missing = [path for path, _ in files_of(text) if not os.path.exists(f"{work}/after/{name}/{path}")]
-    expected = ["w.rs"] if name == "cfg" else ["a.rs"] if name == "cfg_off" else []
-    if missing != expected:
+    if missing != NOT_READ.get(name, []):
         return f"not written: {missing}"
-    for path in missing:
-        with open(f"{work}/after/{name}/{path}", "w") as it:
-            it.write("")
+    write(f"{work}/after/{name}", "".join(f"// {path}\n{content}" for path, content in files_of(text) if path in missing))
     after, why = outcome(f"{work}/after/{name}")
     if after != before:
         return f"{before} becomes {after}: {why}"

@@ -189,8 +189,9 @@ fn followed(alloc: Global, row: &str) -> Result<(TopSubtree, Vec<Unfound>), Allo
     Ok((tree, unfound))
 }
 
+/// Whether the trees of a crate's root are those, and that is said of its modules.
 #[derive(Clone, Copy)]
-struct Crates;
+pub struct Crates;
 
 impl Rows for Crates {
     fn is_so(&self, alloc: Global, [files, want, wrong, ..]: Fields) -> Result<bool, AllocError> {

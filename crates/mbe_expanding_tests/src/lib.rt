@@ -11,6 +11,8 @@ mod following;
 #[cfg(test)]
 mod fronts;
 #[cfg(test)]
+mod including;
+#[cfg(test)]
 mod modules;
 #[cfg(test)]
 mod objects;

@@ -59,6 +59,7 @@ fn place_of(alloc: Global, folder: &str, own: &str) -> Result<Place, AllocError>
         Some(own) => Some(String::from_str(alloc, own)?),
     };
     Ok(Place {
+        home: String::new(alloc),
         folder: String::from_str(alloc, folder)?,
         own,
     })
@@ -76,7 +77,7 @@ fn inside(alloc: Global, place: &Place, inline: &str) -> Result<Place, AllocErro
 fn is_shown(alloc: Global, place: &Place, module: &str, want: &str) -> Result<bool, AllocError> {
     let (name, path) = parts(module);
     match place.candidates(alloc, name, path)? {
-        Candidates::Given(path) => Ok(path.as_str() == want),
+        Candidates::Included(path) | Candidates::Given(path) => Ok(path.as_str() == want),
         Candidates::Usual(beside, nested) => {
             Ok(want.split_once(' ') == Some((beside.as_str(), nested.as_str())))
         }

@@ -94,9 +94,14 @@ const ROWS: &str = rows![
         "macro_rules! m { (#[cfg($a:meta)] $b:item) => { #[cfg(no)] $b } }",
     ),
     ("#[cfg_attr(yes, cfg(no))] fn f() {} m!();", "m!();"),
+    ("#[cfg_attr(no, cfg(no))] m!();", "m!();"),
     (
-        "#[cfg_attr(no, cfg(no))] m!();",
-        "#[cfg_attr(no, cfg(no))] m!();",
+        "#![cfg_attr(no, a)] #[cfg_attr(no, b)] #[c] #[cfg_attr(yes, d)] m!();",
+        "#[c] #[cfg_attr(yes, d)] m!();",
+    ),
+    (
+        "fn f(#[cfg_attr(no, a)] b: B) { #[cfg_attr(no, c)] { m!() } }",
+        "fn f(b: B) { { m!() } }",
     ),
 ];
 
@@ -127,7 +132,7 @@ impl Rows for Stays {
 
 #[test]
 fn what_is_off_is_left_out(rt: HostRuntime) -> Result<(), Failed> {
-    each(rt.alloc(), &Stays, ROWS, 36)
+    each(rt.alloc(), &Stays, ROWS, 38)
 }
 
 fn are_left(alloc: Global, text: &str) -> Result<bool, AllocError> {

@@ -1,4 +1,4 @@
-// The modules of files whose content is in other files.
+// The modules and `include!`s of files whose content is in other files.
 ghost use Rattle.std.specs.Prelude.{IfOk, map};
 ghost use Rattle.mbe_expandm.specs.Modules.{AreModules};
 ghost use Rattle.mbe_expandm.specs.Returns.{plain};
@@ -14,8 +14,8 @@ use mbe_modules::places::{Candidates, Place};
 use mbe_text::symbols::SymbolTable;
 use std::alloc::{AllocError, Global};
 
-/// The modules of a text whose content is in other files, where its modules are looked for at that place. `AllocError` if out of
-/// memory.
+/// The modules and `include!`s of a text whose content is in other files, where its modules are looked for at that place.
+/// `AllocError` if out of memory.
 pub fn modules_in(
     alloc: Global,
     reading: &Reading<'_>,
@@ -39,27 +39,34 @@ pub fn modules_in(
 // The files that may hold a module, in words.
 fn candidates_text(alloc: Global, candidates: &Candidates) -> Result<String, AllocError> {
     match candidates {
-        Candidates::Given(path) => format!(in alloc; "`{path}`"),
+        Candidates::Included(path) | Candidates::Given(path) => format!(in alloc; "`{path}`"),
         Candidates::Usual(beside, nested) => format!(in alloc; "`{beside}` or `{nested}`"),
     }
 }
 
-// Why a module has no file, unless a note says it of the file.
-fn message(alloc: Global, unfound: &Unfound) -> Result<Option<String>, AllocError> {
+// What has no file, in words.
+fn subject(alloc: Global, unfound: &Unfound) -> Result<String, AllocError> {
     let name = unfound.name.as_str();
+    match &unfound.candidates {
+        Candidates::Included(_) => format!(in alloc; "`include!(\"{name}\")`"),
+        Candidates::Given(_) | Candidates::Usual(..) => format!(in alloc; "module `{name}`"),
+    }
+}
+
+// Why a module or an `include!` has no file, unless a note says it of the file.
+fn message(alloc: Global, unfound: &Unfound) -> Result<Option<String>, AllocError> {
+    let what = subject(alloc, unfound)?;
     let files = candidates_text(alloc, &unfound.candidates)?;
     let message = match unfound.wrong {
-        Wrong::Missing => format!(in alloc; "file not found for module `{name}`: {files}")?,
-        Wrong::Both => format!(in alloc; "two files are found for module `{name}`: {files}")?,
-        Wrong::Circular => format!(in alloc;
-            "circular modules: `{name}` is in its own file {files}"
-        )?,
+        Wrong::Missing => format!(in alloc; "file not found for {what}: {files}")?,
+        Wrong::Both => format!(in alloc; "two files are found for {what}: {files}")?,
+        Wrong::Circular => format!(in alloc; "circular: {what} is in its own file {files}")?,
         Wrong::NoRust => return Ok(None),
     };
     Ok(Some(message))
 }
 
-/// Notes of each module without its file why.
+/// Notes of each module and `include!` without its file why.
 pub fn note_unfound(
     alloc: Global,
     notes: &mut Vec<Note>,

@@ -84,7 +84,7 @@ impl Reached {
         }
     }
 
-    // Adds the files that may hold a module.
+    // Adds the files that may hold a module, or the one that is included.
     fn add_module<R: Files + AllocGlobal>(
         &mut self,
         rt: &R,
@@ -92,7 +92,9 @@ impl Reached {
         module: &Unfound,
     ) -> io::Result<()> {
         match &module.candidates {
-            Candidates::Given(path) => self.add(rt, root, path.as_str(), None),
+            Candidates::Included(path) | Candidates::Given(path) => {
+                self.add(rt, root, path.as_str(), None)
+            }
             Candidates::Usual(beside, nested) => {
                 self.add(rt, root, beside.as_str(), Some(module.name.as_str()))?;
                 self.add(rt, root, nested.as_str(), None)
@@ -108,7 +110,8 @@ impl Reached {
         number: usize,
     ) -> io::Result<Vec<Unfound>> {
         match (self.texts.get(number), self.places.get(number)) {
-            (Some(named), Some(Some(place))) if named.text.contains("mod") => {
+            (Some(named), Some(Some(place)))
+                if named.text.contains("mod") || named.text.contains("include") => {
                 Ok(modules_in(alloc, reading, place, named.text.as_str())?)
             }
             _ => Ok(Vec::new(alloc)),

@@ -8,8 +8,8 @@ use Rattle.mbe_tt.specs.declared.tt.Delimiter.{Delimiter}
 use Rattle.mbe_tt.proofs.Buffers.Built.{length-put}
 use Rattle.mbe_tt.proofs.Buffers.Grown.{put-none}
 use Rattle.mbe_following.specs.Following as spec
-use Rattle.mbe_following.specs.Following.{At, Followed, Step, Unfound, unchanged, whole, step, before, steps, followed, alone}
-use Rattle.mbe_following.specs.Fronts.{Module}
+use Rattle.mbe_following.specs.Following.{At, Followed, Step, Unfound, unchanged, step, before, steps, followed, alone}
+use Rattle.mbe_following.specs.Fronts.{Module, Left, fresh}
 use Rattle.mbe_following.specs.Steps.{Writes}
 use Rattle.mbe_following.specs.Taking.{File}
 
@@ -26,6 +26,11 @@ put_put f h [] = refl
 put_put f h (g ∷ outer) =
     ap (λ (k : Forest). let x : Delimiter × Forest = (g.0, k) in x ∷ outer) (append_append g.1 f h)
 
+-- a file's trees after a tree
+pub file_written : (one more : Forest) (old b new : Levels) → b ≡ put one old → new ≡ put more b
+    → new ≡ put (append one more) old
+file_written one more old b new hb hn = hn ∙ ap (put more) hb ∙ put_put one more old
+
 -- where there is no tree, nothing is written
 pub nothing_alone : (t : Option Tree) (old : Levels) → t ≡ None → old ≡ put (alone t) old
 nothing_alone t old is = put-none old ∙ ap (λ x. put (alone x) old) (sym is)
@@ -35,25 +40,25 @@ nothing_alone t old is = put-none old ∙ ap (λ x. put (alone x) old) (sym is)
 -- what is written of some trees, once what the others become is, is what is to be written of all; and so for modules
 -- without their files
 pub record Going (within : At → Forest → Followed) (files : List File) (at : At) (all : ℕ) (f : Forest) (old : Levels)
-    (noted : List Unfound) (most : ℕ) (left : spec.Left) (now : Levels) (found : List Unfound) : Type 0 where
-  pub same : put (steps within files at most left).kept now ≡ put (steps within files at all (whole f)).kept old
+    (noted : List Unfound) (most : ℕ) (left : Left) (now : Levels) (found : List Unfound) : Type 0 where
+  pub same : put (steps within files at most left).kept now ≡ put (steps within files at all (fresh f)).kept old
   pub said : found ++ (steps within files at most left).unfound
-      ≡ noted ++ (steps within files at all (whole f)).unfound
+      ≡ noted ++ (steps within files at all (fresh f)).unfound
   pub groups : length now ≡ length old
 
-steps_suc : (within : At → Forest → Followed) (files : List File) (at : At) (n : ℕ) (l : spec.Left)
+steps_suc : (within : At → Forest → Followed) (files : List File) (at : At) (n : ℕ) (l : Left)
     → before (step within files at l) (steps within files at n (step within files at l).left)
     ≡ steps within files at (suc n) l
 unfolding steps
 steps_suc within files at n l = refl
 
-steps_none : (within : At → Forest → Followed) (files : List File) (at : At) (l : spec.Left)
+steps_none : (within : At → Forest → Followed) (files : List File) (at : At) (l : Left)
     → unchanged none ≡ steps within files at 0 l
 unfolding steps
 steps_none within files at l = refl
 
 -- one front more, where some are left
-steps_more : (within : At → Forest → Followed) (files : List File) (at : At) (most : ℕ) (l : spec.Left) → 0 < most
+steps_more : (within : At → Forest → Followed) (files : List File) (at : At) (most : ℕ) (l : Left) → 0 < most
     → before (step within files at l) (steps within files at (most - 1) (step within files at l).left)
     ≡ steps within files at most l
 steps_more within files at most l some =
@@ -61,7 +66,7 @@ steps_more within files at most l some =
 
 -- one front on
 pub front_on : (within : At → Forest → Followed) (files : List File) (at : At) (all : ℕ) (f : Forest) (old : Levels)
-    (noted : List Unfound) (most : ℕ) (left after : spec.Left) (now next : Levels) (found more : List Unfound)
+    (noted : List Unfound) (most : ℕ) (left after : Left) (now next : Levels) (found more : List Unfound)
     → 0 < most
     → Going within files at all f old noted most left now found
     → next ≡ put (step within files at left).kept now → more ≡ found ++ (step within files at left).unfound
@@ -80,26 +85,26 @@ front_on within files at all f old noted most left after now next found more som
     }
 
 -- nothing is left
-no_steps : (within : At → Forest → Followed) (files : List File) (at : At) (most : ℕ) (l : spec.Left) → most ≡ 0
+no_steps : (within : At → Forest → Followed) (files : List File) (at : At) (most : ℕ) (l : Left) → most ≡ 0
     → unchanged none ≡ steps within files at most l
 no_steps within files at most l e = steps_none within files at l ∙ ap (λ n. steps within files at n l) (sym e)
 
 pub ended : (within : At → Forest → Followed) (files : List File) (at : At) (all : ℕ) (f : Forest) (old : Levels)
-    (noted : List Unfound) (most : ℕ) (left : spec.Left) (now : Levels) (found : List Unfound) → most ≡ 0
+    (noted : List Unfound) (most : ℕ) (left : Left) (now : Levels) (found : List Unfound) → most ≡ 0
     → Going within files at all f old noted most left now found
-    → now ≡ put (steps within files at all (whole f)).kept old
+    → now ≡ put (steps within files at all (fresh f)).kept old
 ended within files at all f old noted most left now found e h =
     put-none now ∙ ap (λ x. put x.kept now) (no_steps within files at most left e) ∙ h.same
 
 pub ended_unfound : (within : At → Forest → Followed) (files : List File) (at : At) (all : ℕ) (f : Forest)
-    (old : Levels) (noted : List Unfound) (most : ℕ) (left : spec.Left) (now : Levels) (found : List Unfound) → most ≡ 0
+    (old : Levels) (noted : List Unfound) (most : ℕ) (left : Left) (now : Levels) (found : List Unfound) → most ≡ 0
     → Going within files at all f old noted most left now found
-    → found ≡ noted ++ (steps within files at all (whole f)).unfound
+    → found ≡ noted ++ (steps within files at all (fresh f)).unfound
 ended_unfound within files at all f old noted most left now found e h =
     sym (append-nil found) ∙ ap (λ x. found ++ x.unfound) (no_steps within files at most left e) ∙ h.said
 
 pub followed_suc : (files : List File) (levels : ℕ) (at : At) (f : Forest)
-    → steps (followed files levels) files at (flat_len f) (whole f) ≡ followed files (suc levels) at f
+    → steps (followed files levels) files at (flat_len f) (fresh f) ≡ followed files (suc levels) at f
 unfolding followed
 followed_suc files levels at f = refl
 
@@ -163,7 +168,7 @@ all_kept (Err x) files levels at f old new noted e k = tt
 
 -- trees none of which is left
 pub all_written : (files : List File) (levels : ℕ) (at : At) (f : Forest) (old : Levels) (noted : List Unfound)
-    (most : ℕ) (left : spec.Left) (now : Levels) (found : List Unfound) → most ≡ 0
+    (most : ℕ) (left : Left) (now : Levels) (found : List Unfound) → most ≡ 0
     → Going (followed files levels) files at (flat_len f) f old noted most left now found
     → Writes (followed files (suc levels) at f) old noted now found
 all_written files levels at f old noted most left now found e h = record {

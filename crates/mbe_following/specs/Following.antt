@@ -1,14 +1,16 @@
--- The trees of a crate: `mod name;` is `mod name { .. }` with the trees of the file that holds the module.
+-- The trees of a crate: `mod name;` is `mod name { .. }` with the trees of the file that holds the module, and an
+-- `include!("..");` has those of its file after it.
 use Rattle.std.specs.Prelude.{ℕ, zero, suc, List, [], ◌∷◌, ◌++◌, Option, Some, None, Result, Ok, Err}
-use Rattle.mbe_tt.specs.Trees.Leaf.{Ident, ident}
+use Rattle.mbe_tt.specs.Trees.Leaf.{ident}
 use Rattle.mbe_tt.specs.Trees.Tree.{Forest, none, leaf, group, append, tree, Tree, first, rest_of, flat_len}
 use Rattle.mbe_tt.specs.Trees.Top.{Top}
 use Rattle.mbe_tt.specs.declared.span.Span.{Span}
 use Rattle.mbe_tt.specs.declared.tt.Delimiter.{Delimiter}
 use Rattle.mbe_tt.specs.declared.tt.DelimiterKind.TheVariants.{Brace}
-use Rattle.mbe_modules.specs.Places.{Place, Candidates, candidates, inside}
+use Rattle.mbe_modules.specs.Places.{Place, Candidates, candidates, included, inside}
 use Rattle.mbe_following.specs.declared.taking.Wrong.{Wrong}
-use Rattle.mbe_following.specs.Fronts.{Module, Body, Outside, Braces, module_of, path_after}
+use Rattle.mbe_following.specs.Fronts.{Module, Body, Outside, Braces, module_of}
+use Rattle.mbe_following.specs.Fronts.{Included, Left, after, fresh, included_here}
 use Rattle.mbe_following.specs.Taking.{File, Taken, taken}
 
 -- where trees are: the place of the modules in them, and the numbers of the files around them
@@ -16,7 +18,8 @@ pub record At : Type 0 where
   pub place : Place
   pub around : List ℕ
 
--- a module without its file: where its name is, the files that may hold it, and why none of them does
+-- a module without its file: where its name is, the files that may hold it, and why none of them does; and so for an
+-- `include!`, whose name is its text
 pub record Unfound : Type 0 where
   pub at : Span
   pub name : List ℕ
@@ -31,11 +34,6 @@ pub record Followed : Type 0 where
 abbrev pub unchanged : Forest → Followed
 unchanged f = record { kept = f; unfound = [] }
 
--- what is left of trees, and the `#[path]` that precedes it
-pub record Left : Type 0 where
-  pub rest : Forest
-  pub path : Option (List ℕ)
-
 -- what a front becomes, the modules in it without their files, and what is left
 pub record Step : Type 0 where
   pub kept : Forest
@@ -48,7 +46,7 @@ alone (Some t) = tree t none
 
 abbrev pub after_first : Left → Option Tree → Left
 after_first l None = l
-after_first l (Some t) = record { rest = rest_of l.rest; path = path_after l.path l.rest t }
+after_first l (Some t) = after l t (rest_of l.rest)
 
 -- a tree stays as it is
 abbrev pub one_tree : Left → List Unfound → Step
@@ -63,7 +61,7 @@ abbrev pub in_braces : Module → Delimiter → Followed → Step
 in_braces m d content = record {
   kept = module_with m d content.kept;
   unfound = content.unfound;
-  left = record { rest = m.rest; path = None };
+  left = fresh m.rest;
 }
 
 -- braces in place of a `;`
@@ -74,14 +72,14 @@ braces semicolon = record { opening = semicolon; close = semicolon; kind = Brace
 abbrev pub in_taken : List ℕ → Taken → At
 in_taken around t = record { place = t.place; around = around ++ t.number ∷ [] }
 
-abbrev pub unfound_of : Ident → Candidates → Wrong → Unfound
-unfound_of name c wrong = record { at = name.span; name = name.sym; candidates = c; wrong = wrong }
+abbrev pub unfound_of : Span → List ℕ → Candidates → Wrong → Unfound
+unfound_of at name c wrong = record { at = at; name = name; candidates = c; wrong = wrong }
 
 -- the trees of its file are a module's content; without its file `mod name;` stays
 abbrev pub outside_step : (At → Forest → Followed) → At → Left → Module → Span → Candidates → Result Taken Wrong → Step
 outside_step within at l m semicolon c (Ok t) =
     in_braces m (braces semicolon) (within (in_taken at.around t) t.trees)
-outside_step within at l m semicolon c (Err wrong) = one_tree l (unfound_of m.name c wrong ∷ [])
+outside_step within at l m semicolon c (Err wrong) = one_tree l (unfound_of m.name.span m.name.sym c wrong ∷ [])
 
 abbrev pub body_step : (At → Forest → Followed) → List File → At → Left → Module → Body → Step
 body_step within files at l m (Braces d content) =
@@ -90,8 +88,25 @@ body_step within files at l m (Outside semicolon) =
     let c = candidates at.place m.name.sym l.path in
     outside_step within at l m semicolon c (taken files at.around m.name.sym c)
 
+-- after the tree that ends an `include!` are the trees of its file
+abbrev pub with_file : Step → Followed → Step
+with_file one more =
+    record { kept = append one.kept more.kept; unfound = one.unfound ++ more.unfound; left = one.left }
+
+abbrev pub included_by : (At → Forest → Followed) → At → Left → Included → Candidates → Result Taken Wrong → Step
+included_by within at l i c (Ok t) = with_file (one_tree l []) (within (in_taken at.around t) t.trees)
+included_by within at l i c (Err wrong) = one_tree l (unfound_of i.at i.path c wrong ∷ [])
+
+abbrev pub included_step : (At → Forest → Followed) → List File → At → Left → Included → Step
+included_step within files at l i =
+    let c = included at.place i.path in included_by within at l i c (taken files at.around i.path c)
+
+abbrev pub tree_step : (At → Forest → Followed) → List File → At → Left → Option Included → Step
+tree_step within files at l None = one_tree l []
+tree_step within files at l (Some i) = included_step within files at l i
+
 abbrev pub step_by : (At → Forest → Followed) → List File → At → Left → Option Module → Step
-step_by within files at l None = one_tree l []
+step_by within files at l None = tree_step within files at l (included_here l)
 step_by within files at l (Some m) = body_step within files at l m m.body
 
 -- one front
@@ -107,13 +122,10 @@ steps within files at zero l = unchanged none
 steps within files at (suc n) l =
     before (step within files at l) (steps within files at n (step within files at l).left)
 
-abbrev pub whole : Forest → Left
-whole f = record { rest = f; path = None }
-
 -- What trees become in which so many modules may be in one another. Each front has a flat token at least.
 unfoldable pub followed : List File → ℕ → At → Forest → Followed
 followed files zero at f = unchanged f
-followed files (suc levels) at f = steps (followed files levels) files at (flat_len f) (whole f)
+followed files (suc levels) at f = steps (followed files levels) files at (flat_len f) (fresh f)
 
 -- where the trees of a crate's root are: the file of that number
 abbrev pub at_root : ℕ → Place → At

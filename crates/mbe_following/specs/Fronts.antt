@@ -1,9 +1,11 @@
--- Modules at the front of trees, and the `#[path = ".."]` before them.
-use Rattle.std.specs.Prelude.{ℕ, Bool, true, false, ◌==◌, nat_lt, if◌then◌else◌, codes, List, Option, Some, None, option_and_then}
+-- Modules and `include!` at the front of trees, and what precedes them.
+use Rattle.std.specs.Prelude.{ℕ, zero, suc, Bool, true, false, ◌==◌, nat_lt, if◌then◌else◌, codes, List, Option, Some, None}
+use Rattle.std.specs.Prelude.{option_and_then, option_map}
 use Rattle.std.specs.List.{list_any}
 use Rattle.std.specs.Option.{option_or}
 use Rattle.mbe_tt.specs.Trees.Leaf.{Leaf, Ident, Literal, literal, punct, ident, is_text}
-use Rattle.mbe_tt.specs.Trees.Tree.{Forest, rest_of, Tree, Leaf_tree, Group_tree, front_punct, front_ident, front_group, front_literal}
+use Rattle.mbe_tt.specs.Trees.Tree.{Forest, rest_of, Tree, Leaf_tree, Group_tree, front_punct, front_ident, front_group, front_literal, first, flat_len}
+use Rattle.mbe_cfg.specs.Fronts.{after_next_comma, is_empty}
 use Rattle.mbe_tt.specs.declared.span.Span.{Span}
 use Rattle.mbe_tt.specs.declared.tt.Delimiter.{Delimiter}
 use Rattle.mbe_tt.specs.declared.tt.DelimiterKind.{DelimiterKind}
@@ -100,9 +102,27 @@ bracketed f = option_and_then (λ g. of_brackets g.0.kind g.1) (front_group f)
 abbrev pub value : Forest → Option (List ℕ)
 value f = option_and_then leaf_text (option_and_then front_literal (after_char 61 f))
 
--- the text of `path = ".."` in the brackets of an attribute
+-- the text of `path = ".."` at the front
+abbrev pub path_given : Forest → Option (List ℕ)
+path_given f =
+    option_and_then (λ i. if is_text i.sym (codes "path") then value (rest_of f) else None) (front_ident f)
+
+-- the text of the first `path = ".."` after a comma, of so many commas at most
+unfoldable pub path_added : ℕ → Forest → Option (List ℕ)
+path_added zero f = None
+path_added (suc n) f = option_or (path_given (after_next_comma f)) (path_added n (after_next_comma f))
+
+-- what a `cfg_attr` adds is after the first comma; its condition holds, else it isn't there any more
+abbrev pub added_in : Forest → Option (List ℕ)
+added_in f = option_and_then (λ g. path_added (flat_len g.1) g.1) (front_group f)
+
+abbrev pub path_of_cfg_attr : Forest → Option (List ℕ)
+path_of_cfg_attr f =
+    option_and_then (λ i. if is_text i.sym (codes "cfg_attr") then added_in (rest_of f) else None) (front_ident f)
+
+-- the text of `path = ".."` in the brackets of an attribute, or of the first that a `cfg_attr` there adds
 abbrev pub path_in : Forest → Option (List ℕ)
-path_in f = option_and_then (λ i. if is_text i.sym (codes "path") then value (rest_of f) else None) (front_ident f)
+path_in f = option_or (path_given f) (path_of_cfg_attr f)
 
 -- the text of the `#[path = ".."]` at the front, if one is there
 abbrev pub path_at : Forest → Option (List ℕ)
@@ -116,5 +136,74 @@ ends_item (Leaf_tree (ident i)) = false
 ends_item (Group_tree d inside) = is_brace d.kind
 
 -- the text of the first `#[path = ".."]` before an item, after one tree more
-abbrev pub path_after : Option (List ℕ) → Forest → Tree → Option (List ℕ)
-path_after path f t = if ends_item t then None else option_or path (path_at f)
+abbrev pub path_after : Option (List ℕ) → Forest → Option (List ℕ)
+path_after path f = option_or path (path_at f)
+
+-- ---- `include!("..")`
+
+-- what an `include!` names, and where its text is
+pub record Included : Type 0 where
+  pub at : Span
+  pub path : List ℕ
+
+abbrev pub text_of : Leaf → Option Included
+text_of (literal l) = option_map (λ t. record { at = l.span; path = t }) (plain_text l)
+text_of (punct p) = None
+text_of (ident i) = None
+
+-- no trees, or a comma
+abbrev pub is_end_by : Forest → Option Forest → Bool
+is_end_by f None = is_empty f
+is_end_by f (Some rest) = is_empty rest
+
+abbrev pub is_end : Forest → Bool
+is_end f = is_end_by f (after_char 44 f)
+
+-- the text of a string that no more follows than a comma
+abbrev pub only_text : Forest → Option Included
+only_text f = option_and_then (λ l. if is_end (rest_of f) then text_of l else None) (front_literal f)
+
+-- the text in the group after a `!`
+abbrev pub text_in_call : Forest → Option Included
+text_in_call f = option_and_then (λ g. only_text g.1) (option_and_then front_group (after_char 33 f))
+
+-- the text of the `include!("..")` at the front, if one is there
+abbrev pub include_at : Forest → Option Included
+include_at f =
+    option_and_then (λ i. if is_text i.sym (codes "include") then text_in_call (rest_of f) else None) (front_ident f)
+
+abbrev pub are_brackets : DelimiterKind → Bool
+are_brackets Bracket = true
+are_brackets Brace = false
+are_brackets Parenthesis = false
+are_brackets Invisible = false
+
+abbrev pub is_brackets : Tree → Bool
+is_brackets (Leaf_tree l) = false
+is_brackets (Group_tree d inside) = are_brackets d.kind
+
+-- an item may go on with `include!` after an attribute
+abbrev pub include_after : Option Included → Tree → Forest → Option Included
+include_after included t rest = option_or included (if is_brackets t then include_at rest else None)
+
+-- ---- what is left
+
+-- what is left of trees, the `#[path]` that precedes it, and the `include!` whose end is still to come
+pub record Left : Type 0 where
+  pub rest : Forest
+  pub path : Option (List ℕ)
+  pub included : Option Included
+
+-- where an item may begin
+abbrev pub fresh : Forest → Left
+fresh f = record { rest = f; path = None; included = include_at f }
+
+-- after the first tree
+abbrev pub after : Left → Tree → Forest → Left
+after l t rest =
+    if ends_item t then fresh rest
+    else record { rest = rest; path = path_after l.path l.rest; included = include_after l.included t rest }
+
+-- the `include!` that the first tree ends, if it does
+abbrev pub included_here : Left → Option Included
+included_here l = option_and_then (λ t. if ends_item t then l.included else None) (first l.rest)

@@ -10,11 +10,12 @@ use Rattle.mbe_following.specs.Taking as taking
 use Rattle.mbe_following.specs.declared.fronts.Module.{Module}
 use Rattle.mbe_following.specs.declared.fronts.Body.{Body}
 use Rattle.mbe_following.specs.declared.fronts.Body.TheVariants as b
+use Rattle.mbe_following.specs.declared.fronts.Included.{Included}
+use Rattle.mbe_following.specs.declared.fronts.Left.{Left}
 use Rattle.mbe_following.specs.declared.taking.File.{File}
 use Rattle.mbe_following.specs.declared.taking.Taken.{Taken}
 use Rattle.mbe_following.specs.declared.taking.Wrong.{Wrong}
 use Rattle.mbe_following.specs.declared.following.At.{At}
-use Rattle.mbe_following.specs.declared.following.Left.{Left}
 use Rattle.mbe_following.specs.declared.following.Unfound.{Unfound}
 
 abbrev pub body_shown : {A : Type 0} → Body A → fronts.Body
@@ -42,8 +43,15 @@ taken_shown (Err wrong) = Err wrong
 abbrev pub at_shown : {A : Type 0} → At A → following.At
 at_shown a = record { place = place_shown a.place.now; around = a.around.now }
 
-abbrev pub left_shown : {A : Type 0} → Left A → following.Left
-left_shown l = record { rest = trees l.rest; path = option_map (λ t. t.now) l.path }
+abbrev pub included_shown : Included → fronts.Included
+included_shown i = record { at = i.at; path = i.path.now }
+
+abbrev pub left_shown : {A : Type 0} → Left A → fronts.Left
+left_shown l = record {
+  rest = trees l.rest;
+  path = option_map (λ t. t.now) l.path;
+  included = option_map included_shown l.included;
+}
 
 abbrev pub unfound_shown : {A : Type 0} → Unfound A → following.Unfound
 unfound_shown u = record {

@@ -3,7 +3,7 @@ use Rattle.std.specs.Prelude.{◌≡◌, List, ◌++◌}
 use Rattle.mbe_tt.specs.Buffers.Building.{Levels, put}
 use Rattle.mbe_following.specs.Following.{Followed, Step, Unfound}
 use Rattle.mbe_following.specs.Shown.{left_shown}
-use Rattle.mbe_following.specs.declared.following.Left.{Left}
+use Rattle.mbe_following.specs.declared.fronts.Left.{Left}
 
 -- what trees become is written, and the modules in them without their files are noted
 pub record Writes (becomes : Followed) (old : Levels) (before : List Unfound) (new : Levels)

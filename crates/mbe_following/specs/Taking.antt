@@ -3,7 +3,7 @@ use Rattle.std.specs.Prelude.{ℕ, zero, suc, Bool, false, ◌==◌, if◌then�
 use Rattle.std.specs.List.{list_any, slice_get}
 use Rattle.std.specs.Str.{bytes_eq}
 use Rattle.mbe_tt.specs.Trees.Tree.{Forest}
-use Rattle.mbe_modules.specs.Places.{Place, Candidates, Given, Usual, in_file}
+use Rattle.mbe_modules.specs.Places.{Place, Candidates, Included, Given, Usual, in_file}
 use Rattle.mbe_following.specs.declared.taking.Wrong.{Wrong}
 use Rattle.mbe_following.specs.declared.taking.Wrong.TheVariants.{Missing, Both, Circular, NoRust}
 
@@ -54,8 +54,10 @@ taken_usual files around name beside nested (Some n) None = taken_file files aro
 taken_usual files around name beside nested None (Some n) = taken_file files around n (in_file nested None)
 taken_usual files around name beside nested (Some n) (Some m) = Err Both
 
--- The file that holds the module of that name, of the files that were read, where these files are around it.
+-- The file that holds the module of that name, or what is included, of the files that were read, where these files are
+-- around it.
 abbrev pub taken : List File → List ℕ → List ℕ → Candidates → Result Taken Wrong
+taken files around name (Included path) = taken_given files around path (number_of files path)
 taken files around name (Given path) = taken_given files around path (number_of files path)
 taken files around name (Usual beside nested) =
     taken_usual files around name beside nested (number_of files beside) (number_of files nested)

@@ -1,39 +1,37 @@
-// The trees of a crate: each `mod name;` with the trees of the file that holds the module.
+// The trees of a crate: each `mod name;` with the trees of the file that holds the module, and each `include!("..");` with those
+// of its file after it.
 //
 // Trees are gone through from the front. Of groups, only the braces of modules are looked into.
-ghost use Rattle.std.specs.Prelude.{◌≡◌, ◌<◌, ◌++◌, IfOk, OnOk, length, map, suc};
+ghost use Rattle.std.specs.Prelude.{◌≡◌, ◌<◌, ◌++◌, ◌∷◌, [], IfOk, OnOk, length, map, suc};
 ghost use Rattle.mbe_modules.specs.Shown.{candidates_shown, place_shown};
 ghost use Rattle.mbe_tt.specs.Buffers.Building.{put};
-ghost use Rattle.mbe_tt.specs.Views.Shown.{ident_of};
 ghost use Rattle.mbe_tt.specs.Views.View.{trees};
 ghost use Rattle.mbe_tt.specs.Trees.Tree.{first};
 ghost use Rattle.mbe_following.specs.Following as spec;
-ghost use Rattle.mbe_following.specs.Fronts.{Outside};
-ghost use Rattle.mbe_following.specs.Shown.{at_shown, file_shown, left_shown};
+ghost use Rattle.mbe_following.specs.Fronts.{Outside, included_here};
+ghost use Rattle.mbe_following.specs.Shown.{at_shown, file_shown, included_shown, left_shown};
 ghost use Rattle.mbe_following.specs.Shown.{module_shown, taken_of, unfound_shown};
 ghost use Rattle.mbe_following.specs.Steps.{IsStep, Writes};
 
-use crate::fronts::{Body, Module, module_of, path_after};
+use crate::fronts::{Body, Included, Left, Module, module_of};
 use crate::taking::{File, Taken, Wrong, take};
 use mbe_modules::places::{Candidates, Place};
 use mbe_tt::span::Span;
-use mbe_tt::tt::{
-    Delimiter, DelimiterKind, Ident, Leaf, TokenTreesView, TopSubtree, TopSubtreeBuilder,
-};
+use mbe_tt::tt::{Delimiter, DelimiterKind, Leaf, TokenTreesView, TopSubtree, TopSubtreeBuilder};
 use std::alloc::{AllocError, Allocator, Global};
 
-/// How many modules may be in one another. What is deeper stays as it is.
+/// How many modules and included files may be in one another. What is deeper stays as it is.
 pub const LEVELS: u32 = 1000;
 
-/// A module without its file.
+/// A module or an `include!` without its file.
 #[derive(Drop)]
 pub struct Unfound<A: Allocator = Global> {
-    /// Where its name is.
+    /// Where its name is, or its text.
     pub at: Span,
     pub name: String<A>,
-    /// The files that may hold it.
+    /// The files that may be it.
     pub candidates: Candidates<A>,
-    /// Why none of them does.
+    /// Why none of them is.
     pub wrong: Wrong,
 }
 
@@ -43,14 +41,6 @@ pub struct Unfound<A: Allocator = Global> {
 struct At<'p, A: Allocator = Global> {
     place: &'p Place<A>,
     around: &'p [usize],
-}
-
-// What is left after a front, and the `#[path]` that precedes that.
-#[derive(Drop)]
-#[derive_where(Clone, Copy)]
-struct Left<'t, A: Allocator = Global> {
-    rest: TokenTreesView<'t, A>,
-    path: Option<&'t str>,
 }
 
 // Braces in place of a `;`.
@@ -64,22 +54,40 @@ fn braces(semicolon: Span) -> Delimiter
     }
 }
 
-// What is said of a module of that name that has no file.
-fn unfound_of<A: Allocator + Copy>(
+// Notes at the end what of that name has no file.
+fn note<A: Allocator + Copy>(
     alloc: A,
-    name: &Ident<A>,
+    unfound: &mut Vec<Unfound<A>, A>,
+    at: Span,
+    name: &str,
     candidates: Candidates<A>,
     wrong: Wrong,
-) -> Result<Unfound<A>, AllocError>
-    ensures { IfOk result (λ u. unfound_shown u
-        ≡ spec.unfound_of (ident_of name.now) (candidates_shown candidates) wrong) }
+) -> Result<(), AllocError>
+    ensures { OnOk result (map unfound_shown unfound.new.items ≡ map unfound_shown unfound.old.items
+        ++ spec.unfound_of at name.now (candidates_shown candidates) wrong ∷ []) }
 {
-    Ok(Unfound {
-        at: name.span,
-        name: String::from_str(alloc, name.sym.as_str())?,
+    let name = String::from_str(alloc, name)?;
+    unfound.push(Unfound {
+        at,
+        name,
         candidates,
         wrong,
-    })
+    })?;
+    Ok(())
+}
+
+// These numbers, and one more.
+fn with_number<A: Allocator>(
+    alloc: A,
+    around: &[usize],
+    number: usize,
+) -> Result<Vec<usize, A>, AllocError>
+    ensures { IfOk result (λ v. v.items ≡ around.now ++ number ∷ []) }
+{
+    let mut numbers = Vec::new(alloc);
+    numbers.extend_from_slice(around)?;
+    numbers.push(number)?;
+    Ok(numbers)
 }
 
 // Writes the first tree as it is, if there is one, and returns what is left.
@@ -96,14 +104,10 @@ fn copy_tree<'t, A: Allocator>(
     let Some(tree) = iter.peek() else {
         return Ok(left);
     };
-    let path = path_after(left.path, left.rest, &tree);
     if let Some(view) = iter.next_as_view() {
         builder.extend_with_tt(view)?;
     }
-    Ok(Left {
-        rest: iter.remaining(),
-        path,
-    })
+    Ok(left.after(&tree, iter.remaining()))
 }
 
 // Writes a module with its content, which is these trees followed, and returns what is left.
@@ -130,10 +134,7 @@ fn follow_module<'t, A: Allocator + Copy>(
     builder.open(delimiter.kind, delimiter.opening)?;
     follow_inside(alloc, files, unfound, builder, at, content, levels)?;
     builder.close(delimiter.close);
-    Ok(Left {
-        rest: module.rest,
-        path: None,
-    })
+    Ok(Left::fresh(module.rest))
 }
 
 // Writes a module with the trees of its file, followed, and returns what is left.
@@ -156,9 +157,7 @@ fn follow_file<'t, A: Allocator + Copy>(
         builder.old (map unfound_shown unfound.old.items)
         builder.new (map unfound_shown unfound.new.items)) }
 {
-    let mut numbers = Vec::new(alloc);
-    numbers.extend_from_slice(around)?;
-    numbers.push(taken.number)?;
+    let numbers = with_number(alloc, around, taken.number)?;
     let at = At {
         place: &taken.place,
         around: numbers.as_slice(),
@@ -199,9 +198,114 @@ fn follow_outside<'t, A: Allocator + Copy>(
             )
         }
         Err(wrong) => {
-            unfound.push(unfound_of(alloc, module.name, candidates, wrong)?)?;
+            note(alloc, unfound, module.name.span, name, candidates, wrong)?;
             copy_tree(builder, left)
         }
+    }
+}
+
+// Writes the trees of a file that is included, followed.
+#[cycle(following)]
+fn follow_taken<A: Allocator + Copy>(
+    alloc: A,
+    files: &[File<'_, A>],
+    unfound: &mut Vec<Unfound<A>, A>,
+    builder: &mut TopSubtreeBuilder<A>,
+    around: &[usize],
+    taken: &Taken<'_, A>,
+    levels: u32,
+) -> Result<(), AllocError>
+    requires some { 0 < length builder.old }
+    ensures { OnOk result (Writes (spec.followed (map file_shown files.now) levels
+        (spec.in_taken around.now (taken_of taken.now)) (taken_of taken.now).trees)
+        builder.old (map unfound_shown unfound.old.items)
+        builder.new (map unfound_shown unfound.new.items)) }
+{
+    let numbers = with_number(alloc, around, taken.number)?;
+    let at = At {
+        place: &taken.place,
+        around: numbers.as_slice(),
+    };
+    follow_inside(alloc, files, unfound, builder, at, taken.trees, levels)
+}
+
+// Writes the first tree, and after it the trees of a file that is included, followed, and returns what is left.
+#[cycle(following)]
+fn include_file<'t, A: Allocator + Copy>(
+    alloc: A,
+    files: &[File<'_, A>],
+    unfound: &mut Vec<Unfound<A>, A>,
+    builder: &mut TopSubtreeBuilder<A>,
+    around: &[usize],
+    left: Left<'t, A>,
+    taken: &Taken<'_, A>,
+    levels: u32,
+) -> Result<Left<'t, A>, AllocError>
+    requires some { 0 < length builder.old }
+    ensures { IfOk result (IsStep (spec.with_file (spec.one_tree (left_shown left.entry) [])
+        (spec.followed (map file_shown files.now) levels
+        (spec.in_taken around.now (taken_of taken.now)) (taken_of taken.now).trees))
+        builder.old (map unfound_shown unfound.old.items)
+        builder.new (map unfound_shown unfound.new.items)) }
+{
+    let next = copy_tree(builder, left)?;
+    follow_taken(alloc, files, unfound, builder, around, taken, levels)?;
+    Ok(next)
+}
+
+// Writes the tree that ends an `include!`, and the trees of its file, and returns what is left.
+#[cycle(following)]
+fn follow_included<'t, A: Allocator + Copy>(
+    alloc: A,
+    files: &[File<'_, A>],
+    unfound: &mut Vec<Unfound<A>, A>,
+    builder: &mut TopSubtreeBuilder<A>,
+    at: At<'_, A>,
+    left: Left<'t, A>,
+    included: Included<'_>,
+    levels: u32,
+) -> Result<Left<'t, A>, AllocError>
+    requires some { 0 < length builder.old }
+    ensures { IfOk result (IsStep (spec.included_step
+        (spec.followed (map file_shown files.now) levels) (map file_shown files.now)
+        (at_shown at.entry) (left_shown left.entry) (included_shown included.entry))
+        builder.old (map unfound_shown unfound.old.items)
+        builder.new (map unfound_shown unfound.new.items)) }
+{
+    let (place, around, name) = (at.place, at.around, included.path);
+    let candidates = place.included(alloc, name)?;
+    match take(alloc, files, around, name, &candidates)? {
+        Ok(found) => include_file(alloc, files, unfound, builder, around, left, &found, levels),
+        Err(wrong) => {
+            note(alloc, unfound, included.at, name, candidates, wrong)?;
+            copy_tree(builder, left)
+        }
+    }
+}
+
+// Writes a tree that is no module, with the trees of the file that it includes, and returns what is left.
+#[cycle(following)]
+fn follow_tree<'t, A: Allocator + Copy>(
+    alloc: A,
+    files: &[File<'_, A>],
+    unfound: &mut Vec<Unfound<A>, A>,
+    builder: &mut TopSubtreeBuilder<A>,
+    at: At<'_, A>,
+    left: Left<'t, A>,
+    levels: u32,
+) -> Result<Left<'t, A>, AllocError>
+    requires some { 0 < length builder.old }
+    ensures { IfOk result (IsStep (spec.tree_step
+        (spec.followed (map file_shown files.now) levels) (map file_shown files.now)
+        (at_shown at.entry) (left_shown left.entry) (included_here (left_shown left.entry)))
+        builder.old (map unfound_shown unfound.old.items)
+        builder.new (map unfound_shown unfound.new.items)) }
+{
+    match left.included_here() {
+        Some(included) => {
+            follow_included(alloc, files, unfound, builder, at, left, included, levels)
+        }
+        None => copy_tree(builder, left),
     }
 }
 
@@ -224,7 +328,7 @@ fn follow_front<'t, A: Allocator + Copy>(
         builder.new (map unfound_shown unfound.new.items)) }
 {
     let Some(module) = module_of(left.rest) else {
-        return copy_tree(builder, left);
+        return follow_tree(alloc, files, unfound, builder, at, left, levels);
     };
     match module.body {
         Body::Outside(semicolon) => follow_outside(
@@ -285,10 +389,7 @@ fn follow_trees<A: Allocator + Copy>(
         builder.old (map unfound_shown unfound.old.items)
         builder.new (map unfound_shown unfound.new.items)) }
 {
-    let mut left = Left {
-        rest: tokens,
-        path: None,
-    };
+    let mut left = Left::fresh(tokens);
     let mut most = tokens.flat_len();
     'fronts: while most > 0 {
         most -= 1;
@@ -298,9 +399,10 @@ fn follow_trees<A: Allocator + Copy>(
 }
 
 /// The trees of a crate: those of its root with each `mod name;` as `mod name { .. }`, with the trees of the one file that may
-/// hold the module and was read. The root is the file of that number, and its modules are looked for at that place. Where a
-/// module has no such file, `mod name;` stays, and comes at the end of `unfound`. `AllocError` if out of memory: then some
-/// of these may be there.
+/// hold the module and was read; and after each `include!("..");` that is an item those of the file that it names. The root is
+/// the file of that number, and its modules are looked for at that place. Where a module has no such file, `mod name;` stays, and
+/// comes at the end of `unfound`, as an `include!` without its file does. `AllocError` if out of memory: then some of these may
+/// be there.
 pub fn follow<A: Allocator + Copy>(
     alloc: A,
     files: &[File<'_, A>],

@@ -1,4 +1,4 @@
-// Which file that was read holds a module.
+// Which file that was read holds a module, or what is included.
 ghost use Rattle.std.specs.Prelude.{◌≡◌, ◌==◌, IfOk, map, option_map};
 ghost use Rattle.std.specs.List.{list_any, slice_get};
 ghost use Rattle.std.specs.String.{string_bytes};
@@ -20,20 +20,20 @@ pub struct File<'f, A: Allocator = Global> {
     pub trees: Option<TokenTreesView<'f, A>>,
 }
 
-/// Why a module has no file.
+/// Why a module or an `include!` has no file.
 #[derive(Clone, Copy, Debug, Drop, PartialEq, Eq)]
 pub enum Wrong {
-    /// None was read that may hold it.
+    /// None was read that may be it.
     Missing,
     /// Two were.
     Both,
-    /// The module is in that file itself.
+    /// It is in that file itself.
     Circular,
     /// The file isn't Rust.
     NoRust,
 }
 
-/// A file that holds a module.
+/// A file that holds a module, or what is included.
 #[derive(Drop)]
 pub struct Taken<'f, A: Allocator = Global> {
     pub number: usize,
@@ -103,7 +103,7 @@ fn taken_file<'f, A: Allocator + Copy>(
     }
 }
 
-// The file that `#[path]` names, if it was read.
+// The file that `#[path]` or `include!` names, if it was read.
 fn taken_given<'f, A: Allocator + Copy>(
     alloc: A,
     files: &[File<'f, A>],
@@ -150,8 +150,8 @@ fn taken_usual<'f, A: Allocator + Copy>(
     }
 }
 
-/// The file that holds the module of that name, of those that were read and may, where the files of these numbers are around the
-/// module. `AllocError` if out of memory.
+/// The file that holds the module of that name, or what is included, of those that were read and may, where the files of these
+/// numbers are around it. `AllocError` if out of memory.
 pub fn take<'f, A: Allocator + Copy>(
     alloc: A,
     files: &[File<'f, A>],
@@ -163,7 +163,9 @@ pub fn take<'f, A: Allocator + Copy>(
         around.now name.now (candidates_shown candidates.now)) }
 {
     match candidates {
-        Candidates::Given(path) => taken_given(alloc, files, around, path.as_str()),
+        Candidates::Included(path) | Candidates::Given(path) => {
+            taken_given(alloc, files, around, path.as_str())
+        }
         Candidates::Usual(beside, nested) => {
             taken_usual(alloc, files, around, name, beside.as_str(), nested.as_str())
         }

@@ -7,8 +7,13 @@ use Rattle.mbe_modules.specs.declared.places.Candidates.TheVariants as c
 use Rattle.mbe_modules.specs.Places as spec
 
 abbrev pub place_shown : {A : Type 0} → Place A → spec.Place
-place_shown p = record { folder = string_bytes p.folder; own = option_map string_bytes p.own }
+place_shown p = record {
+  home = string_bytes p.home;
+  folder = string_bytes p.folder;
+  own = option_map string_bytes p.own;
+}
 
 abbrev pub candidates_shown : {A : Type 0} → Candidates A → spec.Candidates
+candidates_shown (c.Included path) = spec.Included (string_bytes path)
 candidates_shown (c.Given path) = spec.Given (string_bytes path)
 candidates_shown (c.Usual one other) = spec.Usual (string_bytes one) (string_bytes other)

@@ -11,16 +11,20 @@ use std::alloc::{AllocError, Allocator, Global};
 ///
 /// `folder` is the folder of the file, and the names of the inline modules from there on. In a file whose modules are
 /// in a folder of its own name, as `a/b.rs`, `own` is that name, `b`, until an inline module adds it; in a crate's root, a
-/// `mod.rs` and a file that `#[path]` names, it is `None`.
+/// `mod.rs` and a file that `#[path]` or `include!` names, it is `None`.
 #[derive(Drop)]
 pub struct Place<A: Allocator = Global> {
+    /// The folder of the file, which files that `include!` names are relative to.
+    pub home: String<A>,
     pub folder: String<A>,
     pub own: Option<String<A>>,
 }
 
-/// The files that may hold a module.
+/// The files that may hold a module, or what is included.
 #[derive(Drop)]
 pub enum Candidates<A: Allocator = Global> {
+    /// The one that `include!` names.
+    Included(String<A>),
     /// The one that `#[path]` names.
     Given(String<A>),
     /// `x.rs`, and `x/mod.rs`, of which one has to be there.
@@ -48,7 +52,11 @@ impl<A: Allocator + Copy> Place<A> {
             Some(path) => join(alloc, self.folder.as_str(), path)?,
             None => self.in_own_folder(alloc, name)?,
         };
-        Ok(Place { folder, own: None })
+        Ok(Place {
+            home: String::from_str(alloc, self.home.as_str())?,
+            folder,
+            own: None,
+        })
     }
 
     // A path in the folder of the modules.
@@ -77,6 +85,15 @@ impl<A: Allocator + Copy> Place<A> {
         }
     }
 
+    /// The file that `include!` of that text names. `AllocError` if out of memory.
+    pub fn included(&self, alloc: A, path: &str) -> Result<Candidates<A>, AllocError>
+        ensures { IfOk result (λ c. candidates_shown c
+            ≡ spec.included (place_shown self.now) path.now) }
+    {
+        let joined = join(alloc, self.home.as_str(), path)?;
+        Ok(Candidates::Included(joined))
+    }
+
     // `name.rs` and `name/mod.rs`.
     fn usual(&self, alloc: A, name: &str) -> Result<Candidates<A>, AllocError>
         ensures { IfOk result (λ c. candidates_shown c
@@ -89,12 +106,12 @@ impl<A: Allocator + Copy> Place<A> {
         Ok(Candidates::Usual(beside, nested))
     }
 
-    /// The place of the modules of `name.rs`, which was found for `mod name;` here. That of `name/mod.rs` is `inside`
-    /// without a path. `AllocError` if out of memory.
+    /// The place of the modules of `name.rs`, which was found for `mod name;` here. `AllocError` if out of memory.
     pub fn of_file(&self, alloc: A, name: &str) -> Result<Place<A>, AllocError>
         ensures { IfOk result (λ p. place_shown p ≡ spec.of_file (place_shown self.now) name.now) }
     {
         Ok(Place {
+            home: self.own_folder(alloc)?,
             folder: self.own_folder(alloc)?,
             own: Some(String::from_str(alloc, name)?),
         })
@@ -111,6 +128,7 @@ impl<A: Allocator + Copy> Place<A> {
             None => None,
         };
         Ok(Place {
+            home: String::from_str(alloc, folder_of(path))?,
             folder: String::from_str(alloc, folder_of(path))?,
             own,
         })

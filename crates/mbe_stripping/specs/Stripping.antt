@@ -1,19 +1,21 @@
--- Trees without what attributes are on whose `cfg` doesn't hold.
+-- Trees without what attributes are on whose `cfg` doesn't hold, and without `cfg_attr`s that add nothing.
 use Rattle.std.specs.Prelude.{ℕ, zero, suc, Bool, true, false, not, nat_lt, if◌then◌else◌}
 use Rattle.std.specs.Result.{result_err}
-use Rattle.std.specs.Prelude.{List, [], ◌∷◌, ◌++◌, Option, Some, None, option_and_then, Result, Ok, Err}
+use Rattle.std.specs.Prelude.{List, [], ◌∷◌, ◌++◌, Option, Some, None, option_and_then, Result, Ok, Err, codes}
 use Rattle.mbe_tt.specs.Fragments.Grammar.{Grammar}
 use Rattle.mbe_tt.specs.Trees.Top.{Top}
+use Rattle.mbe_tt.specs.Trees.Leaf.{is_text}
 use Rattle.mbe_tt.specs.Trees.Tree.{Forest, Tree, Leaf_tree, Group_tree, none, leaf, group, append, one_leaf, flat_len}
+use Rattle.mbe_tt.specs.Trees.Tree.{front_ident, rest_of}
 use Rattle.mbe_tt.specs.declared.tt.Delimiter.{Delimiter}
-use Rattle.mbe_tt.specs.declared.tt.DelimiterKind.TheVariants.{Bracket}
+use Rattle.mbe_tt.specs.declared.tt.DelimiterKind.TheVariants.{Bracket, Parenthesis}
 use Rattle.mbe_calls.specs.Fronts as calls
 use Rattle.mbe_cfg.specs.declared.fault.Fault.{Fault}
 use Rattle.mbe_cfg.specs.declared.predicate.TheConstants.{DEPTH}
 use Rattle.mbe_cfg.specs.declared.settings.Settings.{Settings}
 use Rattle.mbe_cfg.specs.Attributes.{attribute, attributes}
 use Rattle.mbe_cfg.specs.Fronts.{Group, after_char, group_at, bracketed}
-use Rattle.mbe_cfg.specs.Predicates.{Read}
+use Rattle.mbe_cfg.specs.Predicates.{Read, predicate}
 use Rattle.mbe_stripping.specs.Extents.{after_subject}
 
 -- ---- whether attributes hold
@@ -49,6 +51,37 @@ after_inner g f (Some attribute) = none
 
 abbrev pub after_off : Grammar → Forest → Forest
 after_off g f = after_inner g f (inner f)
+
+-- ---- `cfg_attr`s that add nothing
+
+abbrev pub fails_by : Read → Bool
+fails_by (Ok v) = not v.holds
+fails_by (Err fault) = false
+
+-- a predicate with a fault doesn't fail
+abbrev pub fails : Settings → Group → Bool
+fails s argument = fails_by (predicate s DEPTH argument.close argument.inside)
+
+-- the parentheses of a `cfg_attr`
+abbrev pub cfg_attr_argument : Forest → Option Group
+cfg_attr_argument f =
+    option_and_then (λ i. if is_text i.sym (codes "cfg_attr") then group_at Parenthesis (rest_of f) else None)
+    (front_ident f)
+
+abbrev pub fails_of : Settings → Option Group → Bool
+fails_of s None = false
+fails_of s (Some argument) = fails s argument
+
+-- an attribute in these brackets is a `cfg_attr` whose predicate doesn't hold
+abbrev pub adds_nothing : Settings → Group → Bool
+adds_nothing s g = fails_of s (cfg_attr_argument g.inside)
+
+abbrev pub without : Settings → Group → Option Forest
+without s g = if adds_nothing s g then Some g.rest else None
+
+-- what is after the attribute at the front, where that adds nothing
+abbrev pub after_nothing : Settings → Forest → Option Forest
+after_nothing s f = option_and_then (without s) (bracketed f)
 
 -- ---- what is wrong in attributes
 
@@ -97,12 +130,20 @@ whole f rest = record { kept = up_to (flat_len rest) f; faults = []; rest = rest
 abbrev pub with_fault : List Fault → Stripped → Forest → Step
 with_fault faults t rest = record { kept = t.kept; faults = faults ++ t.faults; rest = rest }
 
+-- an attribute that adds nothing is left out, but for what is wrong in it
+abbrev pub nothing_or_tree : (Forest → Stripped) → Settings → Forest → Tree → Forest → Option Forest → Step
+nothing_or_tree within s f t rest (Some after) = with_fault (as_list (fault_at s f)) (unchanged none) after
+nothing_or_tree within s f t rest None = with_fault (as_list (fault_at s f)) (tree_stripped within t) rest
+
+abbrev pub other_step : (Forest → Stripped) → Settings → Forest → Tree → Forest → Step
+other_step within s f t rest = nothing_or_tree within s f t rest (after_nothing s f)
+
 abbrev pub off_or_tree : (Forest → Stripped) → Settings → Grammar → Forest → Tree → Forest → Bool → Step
 off_or_tree within s g f t rest true = record { kept = none; faults = []; rest = after_off g f }
-off_or_tree within s g f t rest false = with_fault (as_list (fault_at s f)) (tree_stripped within t) rest
+off_or_tree within s g f t rest false = other_step within s f t rest
 
 -- A definition and a call stay whole. Any other tree stays with what stays of what it holds, unless it begins something
--- that is off.
+-- that is off, or an attribute that adds nothing.
 abbrev pub step_by : (Forest → Stripped) → Settings → Grammar → Forest → calls.Front → Step
 step_by within s g f calls.End = record { kept = none; faults = []; rest = f }
 step_by within s g f (calls.Definition d) = whole f d.rest

@@ -1,4 +1,4 @@
-// Trees without what attributes are on whose `cfg` doesn't hold.
+// Trees without what attributes are on whose `cfg` doesn't hold, and without `cfg_attr`s that add nothing.
 //
 // Trees are gone through from the front. Definitions and calls of macros stay whole: what their groups hold is no Rust yet.
 ghost use Rattle.std.specs.Prelude.{◌≡◌, ◌<◌, ◌++◌, IfOk, OnOk, length, option_map, suc};
@@ -14,7 +14,7 @@ use mbe_calls::calls::{Front, front_of};
 use mbe_cfg::attributes::{attribute, attributes};
 use mbe_cfg::fault::Fault;
 use mbe_cfg::fronts::{Group, after_char, bracketed, group_at};
-use mbe_cfg::predicate::DEPTH;
+use mbe_cfg::predicate::{DEPTH, predicate};
 use mbe_cfg::settings::Settings;
 use mbe_tt::grammar::FragmentGrammar;
 use mbe_tt::tt::{
@@ -54,6 +54,54 @@ fn is_off<A: Allocator>(settings: &Settings<'_>, tokens: TokenTreesView<'_, A>) 
     match let_through(settings, tokens) {
         Ok(holds) => !holds,
         Err(_fault) => false,
+    }
+}
+
+// The parentheses of a `cfg_attr`.
+fn cfg_attr_argument<'t, A: Allocator>(tokens: TokenTreesView<'t, A>) -> Option<Group<'t, A>>
+    ensures { option_map group_shown result ≡ spec.cfg_attr_argument (trees tokens.entry) }
+{
+    let mut iter = tokens.iter();
+    let name = iter.expect_ident().ok()?;
+    if name.sym.as_str() == "cfg_attr" {
+        group_at(DelimiterKind::Parenthesis, iter.remaining())
+    } else {
+        None
+    }
+}
+
+// Whether the predicate of a `cfg_attr` doesn't hold. One with a fault does.
+fn fails<A: Allocator>(settings: &Settings<'_>, argument: Group<'_, A>) -> bool
+    ensures { result ≡ spec.fails settings.now (group_shown argument.entry) }
+{
+    let Ok(verdict) = predicate(settings, DEPTH, argument.close, argument.inside) else {
+        return false;
+    };
+    !verdict.holds
+}
+
+// Whether the attribute in these brackets is a `cfg_attr` whose predicate doesn't hold.
+fn adds_nothing<A: Allocator>(settings: &Settings<'_>, group: Group<'_, A>) -> bool
+    ensures { result ≡ spec.adds_nothing settings.now (group_shown group.entry) }
+{
+    match cfg_attr_argument(group.inside) {
+        Some(argument) => fails(settings, argument),
+        None => false,
+    }
+}
+
+// What is after the attribute at the front, where that adds nothing.
+fn after_nothing<'t, A: Allocator>(
+    settings: &Settings<'_>,
+    tokens: TokenTreesView<'t, A>,
+) -> Option<TokenTreesView<'t, A>>
+    ensures { option_map trees result ≡ spec.after_nothing settings.now (trees tokens.entry) }
+{
+    let group = bracketed(tokens)?;
+    if adds_nothing(settings, group) {
+        Some(group.rest)
+    } else {
+        None
     }
 }
 
@@ -160,11 +208,42 @@ fn strip_front<'t, A: Allocator + Copy, G: FragmentGrammar>(
             if is_off(settings, tokens) {
                 return after_off(grammar, tokens);
             }
-            keep_fault(settings, faults, tokens)?;
-            strip_tree(settings, grammar, faults, builder, tree, levels)?;
-            Ok(rest)
+            strip_other(
+                settings, grammar, faults, builder, tokens, tree, rest, levels,
+            )
         }
     }
+}
+
+// Writes what stays of the first tree, which begins nothing that is off, and returns what is left after it.
+#[cycle(stripping)]
+fn strip_other<'t, A: Allocator + Copy, G: FragmentGrammar>(
+    settings: &Settings<'_>,
+    grammar: &G,
+    faults: &mut Vec<Fault, A>,
+    builder: &mut TopSubtreeBuilder<A>,
+    tokens: TokenTreesView<'t, A>,
+    tree: TtElement<'_, A>,
+    rest: TokenTreesView<'t, A>,
+    levels: u32,
+) -> Result<TokenTreesView<'t, A>, AllocError>
+    requires some { 0 < length builder.old }
+    ensures kept { OnOk result (builder.new ≡ put
+        (spec.other_step (spec.stripped settings.now (G.grammar grammar.now) levels) settings.now
+        (trees tokens.entry) (element_tree tree.entry) (trees rest.entry)).kept builder.old) }
+    ensures faults { OnOk result (faults.new.items ≡ faults.old.items ++
+        (spec.other_step (spec.stripped settings.now (G.grammar grammar.now) levels) settings.now
+        (trees tokens.entry) (element_tree tree.entry) (trees rest.entry)).faults) }
+    ensures rest { IfOk result (λ r. trees r ≡
+        (spec.other_step (spec.stripped settings.now (G.grammar grammar.now) levels) settings.now
+        (trees tokens.entry) (element_tree tree.entry) (trees rest.entry)).rest) }
+{
+    keep_fault(settings, faults, tokens)?;
+    if let Some(after) = after_nothing(settings, tokens) {
+        return Ok(after);
+    }
+    strip_tree(settings, grammar, faults, builder, tree, levels)?;
+    Ok(rest)
 }
 
 // Writes what stays of a tree.
@@ -277,7 +356,7 @@ fn strip_trees<A: Allocator + Copy, G: FragmentGrammar>(
 }
 
 /// The tree without what attributes are on, in it, whose `cfg` doesn't hold under these settings, where the grammar says what is
-/// an item. What attributes with a fault are on stays; of each attribute that stays, what is wrong in it comes at the end of
+/// an item, and without each `cfg_attr` whose predicate doesn't. What attributes with a fault are on stays; of each attribute that stays, what is wrong in it comes at the end of
 /// `faults`, in the attributes' order. `AllocError` if out of memory: then some of the faults may be there.
 pub fn strip<A: Allocator + Copy, G: FragmentGrammar>(
     alloc: A,

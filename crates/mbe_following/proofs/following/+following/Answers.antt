@@ -1,4 +1,4 @@
-use Rattle.std.proofs.Common.{refl, ap, ◌∙◌, map, arith}
+use Rattle.std.proofs.Common.{ap, ◌∙◌, map, arith}
 use Rattle.mbe_tt.specs.Buffers.Building.{put}
 use Rattle.mbe_tt.specs.Trees.Leaf.{ident}
 use Rattle.mbe_tt.specs.Trees.Tree.{flat_len, one_leaf}
@@ -6,7 +6,7 @@ use Rattle.mbe_tt.specs.Views.Shown.{ident_of}
 use Rattle.mbe_tt.specs.Views.View.{trees}
 use Rattle.mbe_following.specs.Following.{followed}
 use Rattle.mbe_following.specs.Shown.{at_shown, file_shown, left_shown, module_shown, unfound_shown}
-use Rattle.mbe_following.proofs.FollowLemmas.{all_kept, all_written, front_on, module_written, not_closed, one_open}
+use Rattle.mbe_following.proofs.FollowLemmas.{all_kept, all_written, file_written, front_on, module_written, not_closed, one_open}
 use Rattle.mbe_following.proofs.following.+following.Goals as goal
 
 pub follow_inside-returns-then-levels-eq0 : goal.follow_inside-returns-then-levels-eq0
@@ -33,7 +33,14 @@ follow_module-returns g t c = record {
       ∙ ap (λ i. put (one_leaf (ident (ident_of i))) c.push.new.self) c.in_ok-clone-2.ensures.cases)
       c.in_ok-open.ensures.ok c.in_ok-follow_inside.ensures.kept c.close.ensures;
   unfound = c.in_ok-follow_inside.ensures.unfound;
-  is_left = refl;
+  is_left = c.fresh.ensures;
+}
+
+pub include_file-returns : goal.include_file-returns
+include_file-returns g t c = record {
+  kept = file_written _ _ c.args.builder.now _ _ c.in_ok-next.ensures.kept c.in_ok-follow_taken.ensures.kept;
+  unfound = c.in_ok-follow_taken.ensures.unfound;
+  is_left = c.in_ok-next.ensures.left;
 }
 
 pub follow_trees-fronts-preserved : goal.follow_trees-fronts-preserved

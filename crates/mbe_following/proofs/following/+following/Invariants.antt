@@ -7,22 +7,34 @@ use Rattle.mbe_following.proofs.FollowLemmas.{Going}
 use Rattle.mbe_following.proofs.following.+following.Given as goal
 
 abbrev pub decreases-follow_trees : goal.decreases-follow_trees
-decreases-follow_trees g l = 6 * l.levels + 5
+decreases-follow_trees g l = 7 * l.levels + 6
 
 abbrev pub decreases-follow_front : goal.decreases-follow_front
-decreases-follow_front g l = 6 * l.levels + 4
+decreases-follow_front g l = 7 * l.levels + 5
+
+abbrev pub decreases-follow_tree : goal.decreases-follow_tree
+decreases-follow_tree g l = 7 * l.levels + 4
+
+abbrev pub decreases-follow_included : goal.decreases-follow_included
+decreases-follow_included g l = 7 * l.levels + 3
+
+abbrev pub decreases-include_file : goal.decreases-include_file
+decreases-include_file g l = 7 * l.levels + 2
+
+abbrev pub decreases-follow_taken : goal.decreases-follow_taken
+decreases-follow_taken g l = 7 * l.levels + 1
 
 abbrev pub decreases-follow_outside : goal.decreases-follow_outside
-decreases-follow_outside g l = 6 * l.levels + 3
+decreases-follow_outside g l = 7 * l.levels + 3
 
 abbrev pub decreases-follow_file : goal.decreases-follow_file
-decreases-follow_file g l = 6 * l.levels + 2
+decreases-follow_file g l = 7 * l.levels + 2
 
 abbrev pub decreases-follow_module : goal.decreases-follow_module
-decreases-follow_module g l = 6 * l.levels + 1
+decreases-follow_module g l = 7 * l.levels + 1
 
 abbrev pub decreases-follow_inside : goal.decreases-follow_inside
-decreases-follow_inside g l = 6 * l.levels
+decreases-follow_inside g l = 7 * l.levels
 
 abbrev pub invariant-follow_trees-fronts : goal.invariant-follow_trees-fronts
 invariant-follow_trees-fronts g l =

@@ -1,12 +1,14 @@
 use Rattle.std.proofs.Common.{◌++◌, refl, ap, sym, ◌∙◌, append-nil, arith}
 use Rattle.std.proofs.lemmas.Result.{on_ok_weaker}
 use Rattle.mbe_tt.specs.Buffers.Building.{put}
-use Rattle.mbe_tt.specs.Trees.Tree.{flat_len}
+use Rattle.std.specs.Prelude.{Option, option_map}
+use Rattle.mbe_tt.specs.Trees.Tree.{Forest, flat_len}
+use Rattle.mbe_tt.proofs.Buffers.Grown.{put-none}
 use Rattle.mbe_tt.specs.Views.Element.{element_tree}
 use Rattle.mbe_tt.specs.Views.View.{trees}
 use Rattle.mbe_calls.specs.Fronts.{End}
 use Rattle.mbe_calls.specs.Shown.{front_shown}
-use Rattle.mbe_stripping.specs.Stripping.{Stripped, stripped}
+use Rattle.mbe_stripping.specs.Stripping.{Stripped, stripped, nothing_or_tree}
 use Rattle.mbe_stripping.proofs.StripLemmas.{on_ok, no_kept, off_kept, front_on, ended, ended_faults, stripped_suc, stripped_none}
 use Rattle.mbe_stripping.proofs.stripping.+stripping.Goals as goal
 
@@ -23,6 +25,13 @@ strip_front-returns-then-is_off-clause-kept g t c =
     c.args.settings.now (g.G.FragmentGrammar.grammar c.args.grammar.now) (trees c.args.tokens) (trees c.in-Tree.rest)
     (element_tree c.in-Tree.tree) c.args.builder.now (sym c.front_of.ensures ∙ ap front_shown c.in-Tree.is)
     (sym c.is_off.ensures ∙ c.if-is_off.true))
+
+pub strip_other-returns-in-Some-clause-kept : goal.strip_other-returns-in-Some-clause-kept
+strip_other-returns-in-Some-clause-kept g t c =
+    put-none c.args.builder.now ∙ ap (λ (x : Option Forest). put (nothing_or_tree (stripped c.args.settings.now
+    (g.G.FragmentGrammar.grammar c.args.grammar.now) c.args.levels) c.args.settings.now (trees c.args.tokens)
+    (element_tree c.args.tree) (trees c.args.rest) x).kept c.args.builder.now)
+    (sym (ap (option_map trees) c.in-Some.is) ∙ c.after_nothing.ensures)
 
 pub strip_inside-returns-then-levels-eq0-clause-faults : goal.strip_inside-returns-then-levels-eq0-clause-faults
 strip_inside-returns-then-levels-eq0-clause-faults g t c =

@@ -6,19 +6,22 @@ use Rattle.mbe_stripping.proofs.StripLemmas.{Left}
 use Rattle.mbe_stripping.proofs.stripping.+stripping.Given as goal
 
 abbrev pub decreases-strip_trees : goal.decreases-strip_trees
-decreases-strip_trees g l = 5 * l.levels + 4
+decreases-strip_trees g l = 6 * l.levels + 5
 
 abbrev pub decreases-strip_front : goal.decreases-strip_front
-decreases-strip_front g l = 5 * l.levels + 3
+decreases-strip_front g l = 6 * l.levels + 4
+
+abbrev pub decreases-strip_other : goal.decreases-strip_other
+decreases-strip_other g l = 6 * l.levels + 3
 
 abbrev pub decreases-strip_tree : goal.decreases-strip_tree
-decreases-strip_tree g l = 5 * l.levels + 2
+decreases-strip_tree g l = 6 * l.levels + 2
 
 abbrev pub decreases-strip_group : goal.decreases-strip_group
-decreases-strip_group g l = 5 * l.levels + 1
+decreases-strip_group g l = 6 * l.levels + 1
 
 abbrev pub decreases-strip_inside : goal.decreases-strip_inside
-decreases-strip_inside g l = 5 * l.levels
+decreases-strip_inside g l = 6 * l.levels
 
 abbrev pub invariant-strip_trees-fronts : goal.invariant-strip_trees-fronts
 invariant-strip_trees-fronts g l =
