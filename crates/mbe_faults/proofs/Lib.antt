@@ -2,6 +2,3 @@ pub mod FrontLemmas
 pub mod PlaceLemmas
 pub mod PlaceLaws
 pub mod RuleLemmas
-pub mod EmptyLemmas
-pub mod EmptyRules
-pub mod OpSizes

@@ -1,7 +1,6 @@
 // Where a definition is refused.
 #![tactic(auto)]
 
-pub mod empty;
 pub mod front;
 pub mod rules;
 pub mod suffix;
