@@ -1,6 +1,6 @@
 // Modules and `include!` at the front of trees, and what precedes them.
 ghost use Rattle.std.specs.Prelude.{◌≡◌, option_map};
-ghost use Rattle.mbe_tt.specs.Trees.Tree.{flat_len};
+ghost use Rattle.mbe_tt.specs.Trees.Tree.{first, flat_len};
 ghost use Rattle.mbe_tt.specs.Views.Element.{element_tree};
 ghost use Rattle.mbe_tt.specs.Views.Shown.{ident_of, leaf_of, literal_of};
 ghost use Rattle.mbe_tt.specs.Views.View.{trees};
