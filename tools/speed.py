@@ -26,8 +26,8 @@ call, so that none is matched, less a run that only lexes the same text. A token
 With --calls the table is of calls that fail and calls that fit: millions of instructions of a whole run, and of matching and writing alone,
 which is what the run takes more than one in which no rule has the style of the call. ORIGINAL may be an older `mbex`.
 
-With --optional the table is of N times `$(a)?`, and of N times `$(k $x:ident)?`, on N times `a`: the most memory of a run in megabytes, and its
-seconds. A program that doesn't end with an answer has "none".
+With --optional the table is of N times `$(a)?` on N times `a`, and of N times `$(k $x:ident)?` on N times `k a`: the most memory of a run in
+megabytes, and its seconds. A program that doesn't end with an answer has "none".
 """
 import argparse
 import os
@@ -282,11 +282,12 @@ def calls(both, asked):
         print("| " + " | ".join(row) + " |", flush=True)
 
 
-OPTIONAL = {"`$(a)?`": "$(a)? ", "`$(k $x:ident)?`": "$(k $x{}:ident)? "}
+# A part, and what fits it.
+OPTIONAL = {"`$(a)?`": ("$(a)? ", "a "), "`$(k $x:ident)?`": ("$(k $x{}:ident)? ", "k a ")}
 
 
 def optional(both, asked, sizes):
-    """The table of patterns of optional tokens, each of which may take any of the argument's, or is skipped there."""
+    """The table of patterns of optional parts, each of which may take any of the argument's."""
     folder = tempfile.mkdtemp()
 
     def run(program, rule, argument):
@@ -297,12 +298,12 @@ def optional(both, asked, sizes):
 
     print("| Part | n | Megabytes | Seconds | Original's megabytes | Original's seconds |")
     print("|---|---|---|---|---|---|")
-    for name, part in OPTIONAL.items():
+    for name, (part, fitting) in OPTIONAL.items():
         if asked and not any(word in name for word in asked):
             continue
         for size in sizes:
             rule = definition(one("".join(part.format(i) for i in range(size))))
-            taken = [value for it in both for value in run(it, rule, "a " * size)]
+            taken = [value for it in both for value in run(it, rule, fitting * size)]
             print("| " + " | ".join([name, f"{size:,}", *taken]) + " |", flush=True)
 
 
