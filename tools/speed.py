@@ -5,7 +5,7 @@
     python3 tools/speed.py MBEX ORIGINAL --phases [--case WORD]..
     python3 tools/speed.py MBEX ORIGINAL --reading [--size N]..
     python3 tools/speed.py MBEX ORIGINAL --calls [--case WORD]..
-    python3 tools/speed.py MBEX ORIGINAL --optional [--case WORD].. [--size N]..
+    python3 tools/speed.py MBEX ORIGINAL --optional [--size N]..
 
 MBEX is the program that `rt run` leaves in crates/mbex/out, ORIGINAL a program with the same face over the Rust crate. Each run
 lexes both texts, reads the definition, expands, and prints. It writes a table in Markdown: for each case and size the
@@ -26,8 +26,8 @@ call, so that none is matched, less a run that only lexes the same text. A token
 With --calls the table is of calls that fail and calls that fit: millions of instructions of a whole run, and of matching and writing alone,
 which is what the run takes more than one in which no rule has the style of the call. ORIGINAL may be an older `mbex`.
 
-With --optional the table is of N times `$(a)?` on N times `a`, and of N times `$(k $x:ident)?` on N times `k a`: the most memory of a run in
-megabytes, and its seconds. A program that doesn't end with an answer has "none".
+With --optional the table is of N times `$(a)?` on N times `a`: the most memory of a run in megabytes, and its seconds. A program that
+doesn't end with an answer has "none".
 """
 import argparse
 import os
@@ -282,12 +282,8 @@ def calls(both, asked):
         print("| " + " | ".join(row) + " |", flush=True)
 
 
-# A part, and what fits it.
-OPTIONAL = {"`$(a)?`": ("$(a)? ", "a "), "`$(k $x:ident)?`": ("$(k $x{}:ident)? ", "k a ")}
-
-
-def optional(both, asked, sizes):
-    """The table of patterns of optional parts, each of which may take any of the argument's."""
+def optional(both, sizes):
+    """The table of patterns of optional tokens, each of which may take any of the argument's."""
     folder = tempfile.mkdtemp()
 
     def run(program, rule, argument):
@@ -296,15 +292,11 @@ def optional(both, asked, sizes):
         memory, seconds = it.stderr.split()[-2:]
         return ["none" if it.returncode else f"{int(memory) / 1024:,.0f}", seconds.decode()]
 
-    print("| Part | n | Megabytes | Seconds | Original's megabytes | Original's seconds |")
-    print("|---|---|---|---|---|---|")
-    for name, (part, fitting) in OPTIONAL.items():
-        if asked and not any(word in name for word in asked):
-            continue
-        for size in sizes:
-            rule = definition(one("".join(part.format(i) for i in range(size))))
-            taken = [value for it in both for value in run(it, rule, fitting * size)]
-            print("| " + " | ".join([name, f"{size:,}", *taken]) + " |", flush=True)
+    print("| n | Megabytes | Seconds | Original's megabytes | Original's seconds |")
+    print("|---|---|---|---|---|")
+    for size in sizes:
+        taken = [value for it in both for value in run(it, f"({'$(a)? ' * size}) => {{}}", "a " * size)]
+        print("| " + " | ".join([f"{size:,}", *taken]) + " |", flush=True)
 
 
 def is_worth_a_ratio(our, other, least):
@@ -378,7 +370,7 @@ def main():
         calls(both, asked.case)
         return
     if asked.optional:
-        optional(both, asked.case, asked.size or OPTIONAL_SIZES)
+        optional(both, asked.size or OPTIONAL_SIZES)
         return
     if asked.phases:
         phases(both, asked.case)
