@@ -2,6 +2,7 @@
 """Measures `mbex` beside the original. Outside the gate, from any folder:
 
     python3 tools/speed.py MBEX ORIGINAL [--case WORD].. [--size N].. [--requests] [--times]
+    python3 tools/speed.py MBEX ORIGINAL --phases [--case WORD]..
     python3 tools/speed.py MBEX ORIGINAL --reading [--size N]..
     python3 tools/speed.py MBEX ORIGINAL --calls [--case WORD]..
     python3 tools/speed.py MBEX ORIGINAL --optional [--size N]..
@@ -13,6 +14,11 @@ the bytes of memory a token at the peak, above what the program takes for an emp
 together. With --requests a column more counts requests for memory of either, with --times one more has nanoseconds a token of either,
 the least of nine runs, above the least of an empty argument: for a machine that does nothing else. Both programs must print the
 same.
+
+With --phases the table is of the phases of a run, of these cases at 5,000 and of some more. Lexing is a run in which no rule has the style of
+the call, on the text of the definition and of the argument, less one on nothing. Reading, with checking and dropping, is such a run of the same rules
+with that style on the same argument, less the lexing of their texts. Matching, with the bindings and dropping them, is what a run of the rules with
+empty templates takes besides these two. Writing is what a run with the templates takes besides those three: the text to print too.
 
 With --reading the table is of reading a definition alone, with checking and dropping it: a run in which no rule has the style of the
 call, so that none is matched, less a run that only lexes the same text. A token is a flat token of the pattern.
@@ -38,34 +44,43 @@ def words(count, name="a"):
     return [f"{name}{i % 97}" for i in range(count)]
 
 
-def rules(count, pattern):
-    """Rules that don't fit, of a word that differs from the argument's, before the last one, which does."""
-    return "; ".join([pattern.format(f"w{i}") for i in range(count - 1)] + [pattern.format("last")])
+def rules(count, pattern, template, last="last"):
+    """Rules that don't fit, of a word that differs from the argument's, before the last one, which has this word."""
+    return [(pattern.format(word), template) for word in [f"w{i}" for i in range(count - 1)] + [last]]
+
+
+PLAIN = ("{} $x:ident = $y:tt", "a $x b $y")
+REPEATING = ("{} $( $x:ident = $y:tt ),* $(;)?", "$( $x $y )*")
 
 
 def plain_rules(n):
-    count = n // 14
-    return rules(count, "({} $x:ident = $y:tt) => {{ a $x b $y }}"), "last p = 1"
+    return rules(n // 14, *PLAIN), "last p = 1"
 
 
 def repeating_rules(n):
-    count = n // 29
-    return rules(count, "({} $( $x:ident = $y:tt ),* $(;)?) => {{ $( $x $y )* }}"), "last p = 1, q = 2"
+    return rules(n // 29, *REPEATING), "last p = 1, q = 2"
 
 
 def long_pattern(n):
     names = [f"$x{i}:ident" if i % 10 == 0 else f"t{i % 53}" for i in range(n)]
-    return f"({' '.join(names)}) => {{}}", " ".join("q" if i % 10 == 0 else f"t{i % 53}" for i in range(n))
+    return one(" ".join(names)), " ".join("q" if i % 10 == 0 else f"t{i % 53}" for i in range(n))
+
+
+def one(pattern, template=""):
+    return [(pattern, template)]
+
+
+def same(text):
+    """A pattern that is its own argument."""
+    return one(text), text
 
 
 def puncts(n):
-    text = " ".join("+ - *".split()[i % 3] for i in range(n))
-    return f"({text}) => {{}}", text
+    return same(" ".join("+ - *".split()[i % 3] for i in range(n)))
 
 
 def groups(n):
-    text = " ".join("( " * 100 + ") " * 100 for _ in range(max(1, n // 200)))
-    return f"({text}) => {{}}", text
+    return same(" ".join("( " * 100 + ") " * 100 for _ in range(max(1, n // 200))))
 
 
 def fragments(n):
@@ -73,22 +88,23 @@ def fragments(n):
     kinds = [("$x{}:ty;", "u8;"), ("$x{}:expr;", "a + 1;"), ("$x{}:path;", "a::b;"), ("$x{}:pat;", "(b);")]
     count = max(1, n // 12)
     pattern = " ".join(kinds[i % 4][0].format(i) for i in range(count))
-    return f"({pattern}) => {{}}", " ".join(kinds[i % 4][1] for i in range(count))
+    return one(pattern), " ".join(kinds[i % 4][1] for i in range(count))
 
 
 def nested(n):
     lists = [" ".join(words(100)) for _ in range(max(1, n // 100))]
-    return "($($($x:ident)*);*) => {$($($x)*)*}", ";".join(lists)
+    return one("$($($x:ident)*);*", "$($($x)*)*"), ";".join(lists)
 
 
 def expressions(n):
-    return "($($x:ident = $e:expr;)*) => {}", " ".join(f"{word} = {i % 9} + b;" for i, word in enumerate(words(n)))
+    return one("$($x:ident = $e:expr;)*"), " ".join(f"{word} = {i % 9} + b;" for i, word in enumerate(words(n)))
 
 
 def many_rules_of_an_expression(n):
-    return rules(200, "($e:expr ; {}) => {{ $e }}"), " + ".join(words(n // 2)) + " ; last"
+    return rules(200, "$e:expr ; {}", "$e"), " + ".join(words(n // 2)) + " ; last"
 
 
+# What makes the rules, each a pattern and a template, and the argument, of a size.
 CASES = {
     "plain rules, the last of which fits": plain_rules,
     "rules with repetitions, the last of which fits": repeating_rules,
@@ -96,18 +112,48 @@ CASES = {
     "a pattern of puncts": puncts,
     "groups 100 deep": groups,
     "fragments of the grammar": fragments,
-    "`($($x:ident),*) => {}`": lambda n: ("($($x:ident),*) => {}", ",".join(words(n))),
-    "`($($x:ident)*) => {$($x)*}`": lambda n: ("($($x:ident)*) => {$($x)*}", " ".join(words(n))),
+    "`($($x:ident),*) => {}`": lambda n: (one("$($x:ident),*"), ",".join(words(n))),
+    "`($($x:ident)*) => {$($x)*}`": lambda n: (one("$($x:ident)*", "$($x)*"), " ".join(words(n))),
     "`($($x:ident = $e:expr;)*) => {}`": expressions,
     "repetitions in repetitions": nested,
     "two lists side by side": lambda n: (
-        "($($x:ident)* ; $($y:ident)*) => {$($x $y)*}",
+        one("$($x:ident)* ; $($y:ident)*", "$($x $y)*"),
         f"{' '.join(words(n))} ; {' '.join(words(n, 'b'))}",
     ),
-    "counts": lambda n: ("($($x:ident)*) => {${count($x)} $(${index()} ${len()})*}", " ".join(words(n))),
-    "a list of expressions": lambda n: ("($($e:expr),*) => {[$($e),*]}", ", ".join(f"{w} + 1" for w in words(n))),
+    "counts": lambda n: (one("$($x:ident)*", "${count($x)} $(${index()} ${len()})*"), " ".join(words(n))),
+    "a list of expressions": lambda n: (one("$($e:expr),*", "[$($e),*]"), ", ".join(f"{w} + 1" for w in words(n))),
     "200 rules with an expression": many_rules_of_an_expression,
-    "one `$x:tt`": lambda n: ("($x:tt) => {$x}", f"({' '.join(words(n))})"),
+    "one `$x:tt`": lambda n: (one("$x:tt", "$x"), f"({' '.join(words(n))})"),
+}
+
+
+def different(count, name="n"):
+    return [f"{name}{i}" for i in range(count)]
+
+
+THOUSAND = " ".join(different(999, "t"))
+VARIABLES = " ".join(f"$v{i}:tt" for i in range(250))
+SKIPPED = " ".join(f"$v{i}:ident" if i % 5 == 1 else f"w{i}" for i in range(500))
+FIVE = " ".join(f"${it}:ident" for it in "abcde")
+
+# More cases for the table of phases.
+PHASES = {
+    "200 plain rules, the last of which fits": (rules(200, *PLAIN), "last p = 1"),
+    "200 plain rules, none of which fits": (rules(200, *PLAIN), "other p = 1"),
+    "10,000 plain rules, the last of which fits": (rules(10_000, *PLAIN), "last p = 1"),
+    "10,000 rules with repetitions, the last of which fits": (rules(10_000, *REPEATING), "last p = 1, q = 2"),
+    "50 rules of 1,000 words, the last of which fits": (rules(50, "{} " + THOUSAND, "done"), "last " + THOUSAND),
+    "50 rules of 250 variables, the last of which fits": (rules(50, "{} " + VARIABLES, "done"), "last " + " ".join(different(250, "t"))),
+    "`$($(500 words)? a)*` on 2,000 `a`": (one("$($(" + " ".join(different(500, "w")) + ")? a)*"), "a " * 2_000),
+    "`$($(400 words, 100 variables)? a)*` on 2,000 `a`": (one(f"$($({SKIPPED})? a)*"), "a " * 2_000),
+    "`$($x:ident),*` of 5,000 names, each another": (one("$($x:ident),*"), ", ".join(different(5_000))),
+    "`$($x:ident),*` of 5,000 names, each another, written": (one("$($x:ident),*", "$($x)*"), ", ".join(different(5_000))),
+    "five variables a round, 1,000 rounds, written": (one(f"$({FIVE});*", "$($a $b $c $d $e)*"), ";".join(["a b c d e"] * 1_000)),
+    "500 times `$($x:ident)?` on nothing": (one(" ".join(f"$($x{i}:ident)?" for i in range(500))), ""),
+    "5,000 words": same(" ".join(words(5_000))),
+    "5,000 literals": same(" ".join(str(i % 97) for i in range(5_000))),
+    "500 times `$x:expr;`": (one(" ".join(f"$x{i}:expr;" for i in range(500))), "a + 1; " * 500),
+    "a template of 20,000 words": (one("", " ".join(words(20_000))), ""),
 }
 
 
@@ -142,6 +188,11 @@ CALLS = {
     "fits: `$(a)* $(b)*` on 10,000 of each": ("two", "$(a)* $(b)*", "a " * 10_000 + "b " * 10_000),
     "fits: 300 times `$(a)?` on 300 `a`": ("three", "$(a)? " * 300, "a " * 300),
 }
+
+
+def definition(pairs, style=""):
+    """The text of rules, each a pattern and a template."""
+    return "; ".join(f"{style}({pattern}) => {{{template}}}" for pattern, template in pairs)
 
 
 def flat_tokens(text):
@@ -248,6 +299,56 @@ def optional(both, sizes):
         print("| " + " | ".join([f"{size:,}", *taken]) + " |", flush=True)
 
 
+def is_worth_a_ratio(our, other, least):
+    """Less than a hundredth of the run is no more than tokens of the style and the printed error, and less than half a megabyte is pages."""
+    return min(our, other) > 0 and max(our, other) > least
+
+
+# No call has this style, so a rule with it is read and not matched.
+STYLE = "attr() "
+
+
+def phases(both, asked):
+    """The table of the phases of a run."""
+    folder = tempfile.mkdtemp()
+
+    def phases_of(program, rules_of_case, argument):
+        def run(rule, text):
+            return instructions(command_of(folder, program, rule, text)) / 1e6
+
+        nothing = run(STYLE + "() => {}", "")
+
+        def lexing(rule):
+            return run(STYLE + "() => {}", f"{rule} {argument}") - nothing
+
+        def parts(pairs):
+            plain, styled = definition(pairs), definition(pairs, STYLE)
+            lexed = lexing(plain)
+            read = run(styled, argument) - nothing - lexing(styled)
+            whole = run(plain, argument)
+            return whole, lexed, read, whole - nothing - lexed - read
+
+        whole, lexed, read, expanded = parts(rules_of_case)
+        empty = [(pattern, "") for pattern, _ in rules_of_case]
+        matched = expanded if empty == rules_of_case else parts(empty)[-1]
+        memory = peak(command_of(folder, program, definition(rules_of_case), argument))
+        return [whole, lexed, read, matched, expanded - matched], memory - peak(command_of(folder, program, "() => {}", ""))
+
+    names = ["Whole run", "Lexing", "Reading", "Matching", "Writing"]
+    print("| Case | " + " | ".join(f"{it}, millions, original's, ratio" for it in names) + " | Megabytes, original's, ratio |")
+    print("|" + "---|" * (len(names) + 2))
+    cases = {name: make(5_000) for name, make in CASES.items()} | PHASES
+    for name, (pairs, argument) in cases.items():
+        if asked and not any(word in name for word in asked):
+            continue
+        ours, others = (phases_of(it, pairs, argument) for it in both)
+        row = [name]
+        least = others[0][0] / 100
+        for our, other, low in [*[(*it, least) for it in zip(ours[0], others[0])], (ours[1] / 2**20, others[1] / 2**20, 0.5)]:
+            row.append(f"{our:,.2f}, {other:,.2f}, {our / other:.2f}" if is_worth_a_ratio(our, other, low) else "")
+        print("| " + " | ".join(row) + " |", flush=True)
+
+
 def main():
     parser = argparse.ArgumentParser()
     parser.add_argument("mbex")
@@ -259,6 +360,7 @@ def main():
     parser.add_argument("--reading", action="store_true")
     parser.add_argument("--calls", action="store_true")
     parser.add_argument("--optional", action="store_true")
+    parser.add_argument("--phases", action="store_true")
     asked = parser.parse_args()
     both = [os.path.abspath(asked.mbex), os.path.abspath(asked.original)]
     if asked.reading:
@@ -269,6 +371,9 @@ def main():
         return
     if asked.optional:
         optional(both, asked.size or OPTIONAL_SIZES)
+        return
+    if asked.phases:
+        phases(both, asked.case)
         return
     folder = tempfile.mkdtemp()
 
@@ -286,13 +391,14 @@ def main():
         if asked.case and not any(word in case for word in asked.case):
             continue
         for size in asked.size or SIZES:
-            rule, argument = make(size)
+            pairs, argument = make(size)
+            rule = definition(pairs)
             tokens = flat_tokens(rule) + flat_tokens(argument)
             commands = files(rule, argument)
-            same = "" if printed(commands[0]) == printed(commands[1]) else " (prints differ)"
+            differ = "" if printed(commands[0]) == printed(commands[1]) else " (prints differ)"
             ours, others = (instructions(it) / tokens for it in commands)
             taken = [(peak(it) - base) / tokens for it, base in zip(commands, least)]
-            row = [case + same, f"{size:,}", f"{tokens:,}", f"{ours:,.0f}", f"{others:,.0f}", f"{ours / others:.2f}"]
+            row = [case + differ, f"{size:,}", f"{tokens:,}", f"{ours:,.0f}", f"{others:,.0f}", f"{ours / others:.2f}"]
             row += [f"{it:,.0f}" for it in taken]
             if asked.requests:
                 row.append(", ".join(f"{requests(it) / tokens:.2f}" for it in commands))
