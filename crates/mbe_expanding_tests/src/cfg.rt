@@ -1,4 +1,5 @@
-// What attributes mean is as rustc 1.95 says, whom `tools/cfg-forms.py` asks: attributes, and whether what they are on is compiled, under `--cfg yes --cfg 'mode="fast"' --cfg 'feature="std"'`.
+// What attributes mean, as rustc 1.95 says, whom `tools/cfg-forms.py` asks: whether what they are on is compiled, under
+// `--cfg yes --cfg 'mode="fast"' --cfg 'feature="std"'`.
 use crate::texts::rust;
 use mbe_cfg::attributes::attributes;
 use mbe_cfg::predicate::Verdict;
