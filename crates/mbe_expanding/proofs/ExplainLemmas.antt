@@ -1,5 +1,6 @@
 -- What a rule says of an argument, from what it wants there.
-use Rattle.std.proofs.Common.{◌≡◌, ◌∙◌, ℕ, List, map, Option, Some, None, Result, Ok, Err, ap, sym, subst}
+use Rattle.std.proofs.Common.{◌≡◌, ◌⊎◌, ◌∙◌, ℕ, Bool, true, false, List, map, Option, Some, None, Result, Ok, Err, ap, sym, subst, inl, inr}
+use Rattle.std.proofs.lemmas.Bool.{true≢false}
 use Rattle.std.specs.Prelude.{IfOk, option_map, slice_get}
 use Rattle.std.proofs.lemmas.Option.{same_Some}
 use Rattle.mbe_tt.specs.declared.span.Span.{Span}
@@ -7,14 +8,16 @@ use Rattle.mbe_tt.specs.declared.tt.Delimiter.{Delimiter}
 use Rattle.mbe_tt.specs.Trees.Tree.{Forest, flat_len}
 use Rattle.mbe_tt.specs.Fragments.Grammar.{Grammar}
 use Rattle.mbe_semantics.specs.Syntax.Definition.{Rule}
+use Rattle.mbe_semantics.specs.Syntax.Op.{Ops}
 use Rattle.mbe_semantics.specs.Readings.Input.{input_of}
-use Rattle.mbe_semantics.specs.Readings.Verdict.{Verdict, IsVerdict, many_readings, stop_of}
+use Rattle.mbe_semantics.specs.Readings.Verdict.{Verdict, IsVerdict, one_reading, many_readings, ambiguous, stuck, stop_of}
 use Rattle.mbe_matcher.specs.declared.matching.Verdict as code
+use Rattle.mbe_matcher.specs.declared.matching.Verdict.TheVariants.{OneReading, Ambiguous, Stuck}
 use Rattle.mbe_matcher.specs.Matched.{verdict_seen}
 use Rattle.mbe_matcher.specs.Wanted.{Wanted}
-use Rattle.mbe_parting.specs.Parting.{IsParting}
+use Rattle.mbe_parting.specs.Parting.{IsParting, Parting}
 use Rattle.mbe_parting.proofs.Beginnings.{readings-part}
-use Rattle.mbe.specs.Explaining.{Explains, WantsThere}
+use Rattle.mbe.specs.Explaining.{Explains, HasPattern, WantsThere}
 use Rattle.mbe_explaining.specs.declared.saying.Said.{Said}
 use Rattle.mbe_explaining.specs.Saying.{part_of, part_seen, pair_of, parts_seen, said_seen}
 use Rattle.mbe_explaining.specs.SpanAt.{span_at}
@@ -65,3 +68,27 @@ part_somewhere g rules argument index r e h none =
     let two = v.1 in
     let p = readings-part (input_of g argument) r.reads (flat_len argument) two.0 two.1 two.2 two.3 two.4 in
     none p.0 p.1
+
+-- two readings part, or none do, by the pattern of the rule with this index
+pub parts_there : (g : Grammar) (rules : List Rule) (argument : Forest) (index : ℕ) (pattern : Ops) (tokens : Forest)
+    (p : Option Parting) → HasPattern rules index pattern → tokens ≡ argument → IsParting g pattern tokens p
+    → (r : Rule) × (slice_get rules index ≡ Some r) × IsParting g r.reads argument p
+parts_there g rules argument index pattern tokens p h same it = (
+  h.0,
+  h.1,
+  subst (λ x. IsParting g x argument p) (sym h.2) (subst (λ f. IsParting g pattern f p) same it),
+)
+
+abbrev is_many : Verdict → Bool
+is_many one_reading = false
+is_many many_readings = true
+is_many (ambiguous q) = false
+is_many (stuck q) = false
+
+-- a verdict of the matcher that isn't that of several readings
+pub not_many : (v : code.Verdict) → (v ≡ OneReading)
+    ⊎ ((x : ℕ) × (v ≡ Ambiguous x)) ⊎ ((x : ℕ) × (v ≡ Stuck x))
+    → verdict_seen v ≡ many_readings → ⊥
+not_many v (inl w) e = true≢false (sym (ap is_many e) ∙ ap (λ x. is_many (verdict_seen x)) w)
+not_many v (inr (inl w)) e = true≢false (sym (ap is_many e) ∙ ap (λ x. is_many (verdict_seen x)) w.1)
+not_many v (inr (inr w)) e = true≢false (sym (ap is_many e) ∙ ap (λ x. is_many (verdict_seen x)) w.1)
