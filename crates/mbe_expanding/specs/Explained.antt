@@ -31,8 +31,8 @@ abbrev pub PartsThere : Grammar → List Rule → Forest → ℕ → Parting →
 PartsThere g rules argument index p =
     (r : Rule) × (slice_get rules index ≡ Some r) × PartFirst (input_of g argument) r.reads (flat_len argument) p
 
--- The place of the rule's verdict, and two parts of the rule: where several readings are, the place where two of them part
--- first, and by what they go on; else the place where the match stops, and of an ambiguity two that clash there.
+-- The place of the rule's verdict, and two parts of the rule: where several readings are, the place where two of them
+-- part first, and by what they go on; else the place where the match stops, and of an ambiguity two that clash there.
 pub data PointsTo (g : Grammar) (rules : List Rule) (argument : Forest) (index : ℕ)
     : Verdict → ℕ → Option (Wanted × Wanted) → Type 0 where
   at_parting : (p : Parting) → PartsThere g rules argument index p

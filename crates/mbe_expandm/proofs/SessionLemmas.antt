@@ -89,7 +89,8 @@ is_there (x ∷ xs) n h e = some_is_none (sym (slice_get-get_or (x ∷ xs) n x h
 printed_by : {T E : Type 0} (edition : Edition) (c : Conditions) (depth : Option ℕ) (fuel : ℕ)
     (call : Option Position) (follows : Bool) (given : ℕ) (texts : List Text) (files : List Source)
     (e : Setting) (s t : State) (before after : Option (List ℕ)) (r : Result T E) (found : Option Source)
-    → IsBegun edition c depth fuel follows given texts files e s → given - 1 < length files → slice_get files (given - 1) ≡ found
+    → IsBegun edition c depth fuel follows given texts files e s → given - 1 < length files
+    → slice_get files (given - 1) ≡ found
     → IfSome found (λ root. WritesOne before after r
     (λ out. RootBecomes e 1000 call follows files (given - 1) root s out t))
     → WritesOne before after r (IsPrinted edition c depth fuel call follows given texts)

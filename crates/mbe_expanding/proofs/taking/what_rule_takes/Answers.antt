@@ -30,6 +30,7 @@ returns-in-Some g c =
     let pattern = template_of c.pattern.result.now in
     record {
       takes = IfOk-weaker c.all_taken.result _ _
-          (λ v e. some_taken h rules argument c.args.index (map taken_seen v.items) (bound_by c.in-Some.bindings) pattern
+          (λ v e. some_taken h rules argument c.args.index (map taken_seen v.items)
+          (bound_by c.in-Some.bindings) pattern
           binds c.pattern.ensures e) c.all_taken.ensures;
     }
