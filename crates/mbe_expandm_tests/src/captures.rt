@@ -1,6 +1,6 @@
 // Names that hygiene keeps apart. Which ones these are was worked out by the rules of hygiene.
 use crate::runs::none;
-use crate::texts::{Row, defined, first_unlike, noted};
+use crate::texts::{Row, becomes, defined, first_unlike, noted};
 use std::alloc::{AllocError, Global};
 
 // A definition, a call of it, and the notes: each with the byte of the call's line, or of the definition's (from 0), where it is.
@@ -164,4 +164,34 @@ fn renamed() -> &'static [Row] {
 #[test]
 fn locals_are_told_apart(rt: HostRuntime) {
     none(&rt, first_unlike(rt.alloc(), renamed()));
+}
+
+// The example of docs/EXPANDM.md.
+static SWAP_SUM: &str = "\
+macro_rules! swap_sum { ($x:expr, $y:expr) => {{ let a = $x; let b = $y; b - a }}; }
+fn f(a: i32) -> i32 { swap_sum!(a, swap_sum!(1, 2)) }
+";
+
+static SWAPPED: &str = "\
+fn f(a: i32) -> i32 { {
+    let a_1 = a;
+    let b_1 = ({
+        let a_2 = 1;
+        let b_2 = 2;
+        b_2 - a_2
+    });
+    b_1 - a_1
+} }
+";
+
+fn unswapped(alloc: Global) -> Result<Option<&'static str>, AllocError> {
+    let (rules, _) = SWAP_SUM.split_once('\n').unwrap_or(("", ""));
+    let want = format!(in alloc; "{rules}\n{SWAPPED}")?;
+    let is_so = becomes(alloc, "--depth 9", SWAP_SUM, (want.as_str(), 0))?;
+    Ok((!is_so).then_some(SWAP_SUM))
+}
+
+#[test]
+fn the_example_is_expanded(rt: HostRuntime) {
+    none(&rt, unswapped(rt.alloc()));
 }

@@ -45,8 +45,8 @@ pub(crate) fn noted(alloc: Global, text: &str) -> Result<String, AllocError> {
     notes_in(alloc, text, &session)
 }
 
-// Whether a text becomes that by these words, with so many notes.
-fn becomes(
+/// Whether a text becomes that by these words, with so many notes.
+pub(crate) fn becomes(
     alloc: Global,
     words: &str,
     text: &str,
