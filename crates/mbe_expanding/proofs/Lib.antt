@@ -12,5 +12,6 @@ pub mod MarkLemmas
 pub mod ReplaceLemmas
 pub mod StepLemmas
 pub mod TakenLemmas
+pub mod TypeLemmas
 pub mod UsingLemmas
 pub mod WriteLemmas

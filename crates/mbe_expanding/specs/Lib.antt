@@ -7,4 +7,5 @@ pub mod Replacing
 pub mod Scopes
 pub mod Shown
 pub mod Taking
+pub mod Typing
 pub mod Using

@@ -10,4 +10,5 @@ mod origins;
 pub mod scope;
 pub mod settings;
 pub mod taking;
+mod typing;
 mod using;

@@ -11,6 +11,7 @@ ghost use Rattle.mbe_expanding.specs.Scopes.{with_shown, with_left};
 ghost use Rattle.mbe_expanding.specs.Shown.{definition_of, scope_of};
 ghost use Rattle.mbe_expanding.specs.declared.scope.Reach.TheVariants.{Text};
 
+use crate::typing::typed_buffer;
 use mbe::DeclarativeMacro;
 use mbe_calls::calls::{Defined, Form};
 use mbe_tt::span::{Edition, Span};
@@ -115,12 +116,16 @@ fn rules_of<A: Allocator + Copy>(
     ensures { IfOk result (λ m. IsReadIn edition (form_shown defined.entry.form)
         (defined_shown defined.entry) (macro_of m)) }
 {
-    let body = buffer_of(alloc, defined.group.delimiter, defined.rules)?;
+    let (delimiter, rules) = (defined.group.delimiter, defined.rules);
     match defined.form {
-        Form::Rules => rules_in(alloc, edition, &body),
-        Form::Body => macro_in(alloc, edition, None, &body),
-        Form::Arguments(group, pattern) => {
-            let pattern = buffer_of(alloc, group.delimiter, pattern)?;
+        Form::Rules => rules_in(alloc, edition, &typed_buffer(alloc, delimiter, rules, rules)?),
+        Form::Body => {
+            let body = typed_buffer(alloc, delimiter, rules, rules)?;
+            macro_in(alloc, edition, None, &body)
+        }
+        Form::Arguments(group, arguments) => {
+            let pattern = buffer_of(alloc, group.delimiter, arguments)?;
+            let body = typed_buffer(alloc, delimiter, arguments, rules)?;
             macro_in(alloc, edition, Some(pattern), &body)
         }
     }
