@@ -7,7 +7,7 @@ use std::alloc::{AllocError, Global};
 // each; and how many notes there are.
 type Row = (&'static str, &'static str, &'static str, usize);
 
-static ROWS: [Row; 14] = [
+static ROWS: [Row; 19] = [
     (
         "src/lib.rs",
         "src/lib.rs: macro_rules! m { () => { 1 } } mod a; x = m!();|src/a.rs: y = m!();",
@@ -42,6 +42,36 @@ static ROWS: [Row; 14] = [
         "src/lib.rs",
         "src/lib.rs: mod a; mod b;|src/a.rs: macro_rules! m { () => { 3 } } pub(crate) use m;|src/b.rs: use crate::a::m; x = m!(); y = crate::a::m!();",
         "mod a; mod b;|macro_rules! m { () => { 3 } } pub(crate) use m;|use crate::a::m; x = 3; y = 3;|",
+        0,
+    ),
+    (
+        "src/lib.rs",
+        "src/lib.rs: mod a; x = m!();|src/a.rs: macro_rules! m { () => { 1 } } y = m!();",
+        "mod a; x = m!();|macro_rules! m { () => { 1 } } y = 1;|",
+        0,
+    ),
+    (
+        "src/lib.rs",
+        "src/lib.rs: #[macro_use] mod a; x = m!(); y = n!();|src/a.rs: #[macro_use] mod b; mod c;|src/a/b.rs: macro_rules! m { () => { 1 } }|src/a/c.rs: macro_rules! n { () => { m!() } } z = n!();",
+        "#[macro_use] mod a; x = 1; y = n!();|#[macro_use] mod b; mod c;|macro_rules! m { () => { 1 } }|macro_rules! n { () => { m!() } } z = 1;|",
+        0,
+    ),
+    (
+        "src/lib.rs",
+        "src/lib.rs: mod a; x = a::m!(); y = self::a::m!(); z = log::n!();|src/a.rs: macro_rules! m { () => { 1 } } macro_rules! n { () => { 2 } } pub(crate) use {m as k, m};",
+        "mod a; x = 1; y = 1; z = log::n!();|macro_rules! m { () => { 1 } } macro_rules! n { () => { 2 } } pub(crate) use {m as k, m};|",
+        0,
+    ),
+    (
+        "src/lib.rs",
+        "src/lib.rs: macro_rules! m { () => { 1 } } use m::k; fn f() { macro_rules! n { () => { 2 } } } use n; x = log::m!() + log::n!();",
+        "macro_rules! m { () => { 1 } } use m::k; fn f() { macro_rules! n { () => { 2 } } } use n; x = log::m!() + log::n!();|",
+        0,
+    ),
+    (
+        "src/lib.rs",
+        "src/lib.rs: mod a; x = a::m!();|src/a.rs: macro_rules! m { () => { 1 } } macro_rules! m { () => { 2 } } pub(crate) use m;",
+        "mod a; x = 2;|macro_rules! m { () => { 1 } } macro_rules! m { () => { 2 } } pub(crate) use m;|",
         0,
     ),
     (
