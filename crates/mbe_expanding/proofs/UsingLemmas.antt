@@ -16,15 +16,15 @@ name_nowhere name none h = refl
 name_nowhere name (leaf l rest) h = absurd (cc)
 name_nowhere name (group d inside rest) h = absurd (cc)
 
+name_skipped : (name : List ℕ) (f : Forest) → is_name name f ≡ false → has_name name (rest_of f) ≡ has_name name f
+unfolding has_name
+name_skipped name none h = refl
+name_skipped name (leaf l rest) h = sym (ap (λ b. b || has_name name rest) h)
+name_skipped name (group d inside rest) h = refl
+
 pub name_further : (name : List ℕ) (f rest : Forest) → is_name name f ≡ false → rest ≡ rest_of f
     → has_name name rest ≡ has_name name f
-name_further name f rest h is = ap (has_name name) is ∙ skips name f h
-  where
-    skips : (name : List ℕ) (f : Forest) → is_name name f ≡ false → has_name name (rest_of f) ≡ has_name name f
-    unfolding has_name
-    skips name none h = refl
-    skips name (leaf l rest) h = sym (ap (λ b. b || has_name name rest) h)
-    skips name (group d inside rest) h = refl
+name_further name f rest h is = ap (has_name name) is ∙ name_skipped name f h
 
 pub use_here : (name : List ℕ) (f : Forest) → is_use name f ≡ true → is_used_in name f ≡ true
 unfolding is_used_in
@@ -38,12 +38,12 @@ use_nowhere name none h = refl
 use_nowhere name (leaf l rest) h = absurd (cc)
 use_nowhere name (group d inside rest) h = absurd (cc)
 
+use_skipped : (name : List ℕ) (f : Forest) → is_use name f ≡ false → is_used_in name (rest_of f) ≡ is_used_in name f
+unfolding is_used_in
+use_skipped name none h = refl
+use_skipped name (leaf l rest) h = sym (ap (λ b. b || is_used_in name rest) h)
+use_skipped name (group d inside rest) h = refl
+
 pub use_further : (name : List ℕ) (f rest : Forest) → is_use name f ≡ false → rest ≡ rest_of f
     → is_used_in name rest ≡ is_used_in name f
-use_further name f rest h is = ap (is_used_in name) is ∙ skips name f h
-  where
-    skips : (name : List ℕ) (f : Forest) → is_use name f ≡ false → is_used_in name (rest_of f) ≡ is_used_in name f
-    unfolding is_used_in
-    skips name none h = refl
-    skips name (leaf l rest) h = sym (ap (λ b. b || is_used_in name rest) h)
-    skips name (group d inside rest) h = refl
+use_further name f rest h is = ap (is_used_in name) is ∙ use_skipped name f h
