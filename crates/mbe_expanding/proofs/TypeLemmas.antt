@@ -35,13 +35,13 @@ steps_suc : (inner : Forest → Forest) (rules : Forest) (n : ℕ) (f : Forest)
 unfolding steps
 steps_suc inner rules n f = refl
 
+steps_zero : (inner : Forest → Forest) (rules f : Forest) → none ≡ steps inner rules 0 f
+unfolding steps
+steps_zero inner rules f = refl
+
 steps_none : (inner : Forest → Forest) (rules : Forest) (n : ℕ) (f : Forest) → n ≡ 0
     → none ≡ steps inner rules n f
-steps_none inner rules n f e = at_zero inner rules f ∙ ap (λ k. steps inner rules k f) (sym e)
-  where
-    at_zero : (inner : Forest → Forest) (rules f : Forest) → none ≡ steps inner rules 0 f
-    unfolding steps
-    at_zero inner rules f = refl
+steps_none inner rules n f e = steps_zero inner rules f ∙ ap (λ k. steps inner rules k f) (sym e)
 
 -- one front more, where some are left
 steps_more : (inner : Forest → Forest) (rules : Forest) (most : ℕ) (f : Forest) → 0 < most
@@ -63,6 +63,11 @@ front_on inner rules all f old most left after now next some h e r =
       groups = ap length e ∙ length_put one.kept now ∙ h.groups;
     }
 
+typed_suc : (rules : Forest) (levels : ℕ) (f : Forest)
+    → steps (typed_in rules levels) rules (flat_len f) f ≡ typed_in rules (suc levels) f
+unfolding typed_in
+typed_suc rules levels f = refl
+
 -- nothing is left
 pub all_written : (rules : Forest) (levels : ℕ) (f : Forest) (old : Levels) (most : ℕ) (left : Forest) (now : Levels)
     → most ≡ 0 → Going (typed_in rules levels) rules (flat_len f) f old most left now
@@ -70,19 +75,14 @@ pub all_written : (rules : Forest) (levels : ℕ) (f : Forest) (old : Levels) (m
 all_written rules levels f old most left now e h =
     put-none now ∙ ap (λ x. put x now) (steps_none (typed_in rules levels) rules most left e) ∙ h.same
     ∙ ap (λ x. put x old) (typed_suc rules levels f)
-  where
-    typed_suc : (rules : Forest) (levels : ℕ) (f : Forest)
-        → steps (typed_in rules levels) rules (flat_len f) f ≡ typed_in rules (suc levels) f
-    unfolding typed_in
-    typed_suc rules levels f = refl
+
+typed_zero : (rules f : Forest) → f ≡ typed_in rules 0 f
+unfolding typed_in
+typed_zero rules f = refl
 
 -- too deep
 pub as_they_are : (rules : Forest) (levels : ℕ) (f : Forest) → levels ≡ 0 → f ≡ typed_in rules levels f
-as_they_are rules levels f e = at_zero rules f ∙ ap (λ n. typed_in rules n f) (sym e)
-  where
-    at_zero : (rules f : Forest) → f ≡ typed_in rules 0 f
-    unfolding typed_in
-    at_zero rules f = refl
+as_they_are rules levels f e = typed_zero rules f ∙ ap (λ n. typed_in rules n f) (sym e)
 
 -- ---- groups
 
@@ -102,20 +102,20 @@ two_put l f opened one mid o m = m ∙ ap (put f) o ∙ put_put (one_leaf l) f o
 pub Looks : ℕ → List ℕ → Forest → Forest → Type 0
 Looks levels name f rest = declares_by (declares (levels - 1) name) name rest ≡ declares levels name f
 
+declares_suc : (n : ℕ) (name : List ℕ) (f : Forest) → declares_by (declares n name) name f ≡ declares (suc n) name f
+unfolding declares
+declares_suc n name f = refl
+
+declares_zero : (name : List ℕ) (f : Forest) → false ≡ declares 0 name f
+unfolding declares
+declares_zero name f = refl
+
 pub looks_begin : (levels : ℕ) (name : List ℕ) (f : Forest) → 0 < levels → Looks levels name f f
 looks_begin levels name f some =
-    at_suc (levels - 1) name f ∙ ap (λ n. declares n name f) (sym (one_more levels some))
-  where
-    at_suc : (n : ℕ) (name : List ℕ) (f : Forest) → declares_by (declares n name) name f ≡ declares (suc n) name f
-    unfolding declares
-    at_suc n name f = refl
+    declares_suc (levels - 1) name f ∙ ap (λ n. declares n name f) (sym (one_more levels some))
 
 pub looks_nowhere : (levels : ℕ) (name : List ℕ) (f : Forest) → levels ≡ 0 → false ≡ declares levels name f
-looks_nowhere levels name f e = at_zero name f ∙ ap (λ n. declares n name f) (sym e)
-  where
-    at_zero : (name : List ℕ) (f : Forest) → false ≡ declares 0 name f
-    unfolding declares
-    at_zero name f = refl
+looks_nowhere levels name f e = declares_zero name f ∙ ap (λ n. declares n name f) (sym e)
 
 same_some : {A : Type 0} (x y : A) → Some x ≡ Some y → x ≡ y
 same_some x y e = cc
