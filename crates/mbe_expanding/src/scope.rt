@@ -118,7 +118,11 @@ fn rules_of<A: Allocator + Copy>(
 {
     let (delimiter, rules) = (defined.group.delimiter, defined.rules);
     match defined.form {
-        Form::Rules => rules_in(alloc, edition, &typed_buffer(alloc, delimiter, rules, rules)?),
+        Form::Rules => rules_in(
+            alloc,
+            edition,
+            &typed_buffer(alloc, delimiter, rules, rules)?,
+        ),
         Form::Body => {
             let body = typed_buffer(alloc, delimiter, rules, rules)?;
             macro_in(alloc, edition, None, &body)

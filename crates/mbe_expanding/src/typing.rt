@@ -24,9 +24,8 @@ fn is_char<A: Allocator>(char: char, tokens: TokenTreesView<'_, A>) -> bool
 {
     match tokens.iter().next() {
         Some(TtElement::Leaf(Leaf::Punct(punct))) => punct.char == char,
-        Some(TtElement::Leaf(Leaf::Ident(_) | Leaf::Literal(_)) | TtElement::Subtree(..)) | None => {
-            false
-        }
+        Some(TtElement::Leaf(Leaf::Ident(_) | Leaf::Literal(_)) | TtElement::Subtree(..)) | None =>
+            { false }
     }
 }
 
@@ -35,9 +34,8 @@ fn is_word<A: Allocator>(word: &str, tokens: TokenTreesView<'_, A>) -> bool
 {
     match tokens.iter().next() {
         Some(TtElement::Leaf(Leaf::Ident(ident))) => ident.sym.as_str() == word,
-        Some(TtElement::Leaf(Leaf::Punct(_) | Leaf::Literal(_)) | TtElement::Subtree(..)) | None => {
-            false
-        }
+        Some(TtElement::Leaf(Leaf::Punct(_) | Leaf::Literal(_)) | TtElement::Subtree(..)) | None =>
+            { false }
     }
 }
 
@@ -94,9 +92,8 @@ fn is_type<A: Allocator>(rules: TokenTreesView<'_, A>, tokens: TokenTreesView<'_
 {
     match tokens.iter().next() {
         Some(TtElement::Leaf(Leaf::Ident(ident))) => declares(ident.sym.as_str(), rules, PATTERNS),
-        Some(TtElement::Leaf(Leaf::Punct(_) | Leaf::Literal(_)) | TtElement::Subtree(..)) | None => {
-            false
-        }
+        Some(TtElement::Leaf(Leaf::Punct(_) | Leaf::Literal(_)) | TtElement::Subtree(..)) | None =>
+            { false }
     }
 }
 

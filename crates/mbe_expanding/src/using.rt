@@ -12,9 +12,8 @@ fn begins_path<A: Allocator>(tokens: TokenTreesView<'_, A>) -> bool
 {
     match tokens.iter().next() {
         Some(TtElement::Leaf(Leaf::Punct(punct))) => punct.char == ':',
-        Some(TtElement::Leaf(Leaf::Ident(_) | Leaf::Literal(_)) | TtElement::Subtree(..)) | None => {
-            false
-        }
+        Some(TtElement::Leaf(Leaf::Ident(_) | Leaf::Literal(_)) | TtElement::Subtree(..)) | None =>
+            { false }
     }
 }
 
@@ -27,9 +26,8 @@ fn is_name<A: Allocator>(name: &str, tokens: TokenTreesView<'_, A>) -> bool
         Some(TtElement::Leaf(Leaf::Ident(ident))) => {
             ident.sym.as_str() == name && !begins_path(iter.remaining())
         }
-        Some(TtElement::Leaf(Leaf::Punct(_) | Leaf::Literal(_)) | TtElement::Subtree(..)) | None => {
-            false
-        }
+        Some(TtElement::Leaf(Leaf::Punct(_) | Leaf::Literal(_)) | TtElement::Subtree(..)) | None =>
+            { false }
     }
 }
 
@@ -69,9 +67,8 @@ fn is_use<A: Allocator>(name: &str, tokens: TokenTreesView<'_, A>) -> bool
         Some(TtElement::Leaf(Leaf::Ident(ident))) => {
             ident.sym.as_str() == "use" && is_tree_of(name, iter.remaining())
         }
-        Some(TtElement::Leaf(Leaf::Punct(_) | Leaf::Literal(_)) | TtElement::Subtree(..)) | None => {
-            false
-        }
+        Some(TtElement::Leaf(Leaf::Punct(_) | Leaf::Literal(_)) | TtElement::Subtree(..)) | None =>
+            { false }
     }
 }
 
