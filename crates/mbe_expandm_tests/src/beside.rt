@@ -4,7 +4,23 @@ use crate::runs::none;
 use crate::texts::{Row, first_unlike};
 
 // A definition, what follows it, and what that becomes.
-static ROWS: [Row; 17] = [
+static ROWS: [Row; 20] = [
+    // A type before a `<`, by rustc: `1 as u32 << 8` has generic arguments, and `1 as (u32) << 8` is a shift.
+    (
+        "m { ($x:expr, $t:ty) => { f($x as $t << 8, $x as *const $t < p, $x as $t) } }",
+        "m!(1, u32);",
+        "f(1 as (u32) << 8, 1 as *const (u32) < p, 1 as u32);",
+    ),
+    (
+        "m { ($t:ident) => { f(x as $t<u8>) } }",
+        "m!(V);",
+        "f(x as V <u8>);",
+    ),
+    (
+        "m { ($($t:ty),*) => { f($(x as $t < 8),*) } }",
+        "m!(u8, V<u8>);",
+        "f(x as (u8) < 8, x as (V<u8>) < 8);",
+    ),
     (
         "m { ($x:expr) => { |y| y + $x } }",
         "f = m!(1)(2);",
