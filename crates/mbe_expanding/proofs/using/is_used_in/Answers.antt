@@ -4,12 +4,12 @@ use Rattle.mbe_expanding.proofs.using.is_used_in.Goals as goal
 
 pub returns-then-is_use : goal.returns-then-is_use
 returns-then-is_use g c =
-    sym (use_here c.args.name c.trees.rest (search rules)) ∙ c.trees.invariant
+    sym (use_here c.args.name.now c.trees.rest (search rules)) ∙ c.trees.invariant
 
-pub returns : goal.returns
-returns g c =
-    sym (use_nowhere c.args.name c.trees.rest (search rules)) ∙ c.trees.invariant
+pub returns-in-None : goal.returns-in-None
+returns-in-None g c =
+    sym (use_nowhere c.args.name.now c.trees.rest c.in-None.ensures.value) ∙ c.trees.invariant
 
 pub trees-preserved : goal.trees-preserved
 trees-preserved g c =
-    use_further c.args.name c.trees.rest _ (search rules) (search rules) ∙ c.trees.invariant
+    use_further c.args.name.now c.trees.rest _ (search rules) (search rules) ∙ c.trees.invariant
