@@ -11,7 +11,8 @@ use Rattle.mbe_tt.proofs.builder.TopSubtreeBuilder.push.Goals as goal
 
 pub invariant_of-self-2 : goal.invariant_of-self-2
 invariant_of-self-2 g c =
-    let room : length (entries_of c.push_reserved.new.self.items) + c.self.inside.depth ≤ vec_capacity c.push_reserved.new.self =
+    let room : length (entries_of c.push_reserved.new.self.items) + c.self.inside.depth
+    ≤ vec_capacity c.push_reserved.new.self =
     omega (
       arith,
       length-shown c.push_reserved.new.self.items,
@@ -26,7 +27,8 @@ invariant_of-self-2 g c =
 
 pub returns-clause-ok : goal.returns-clause-ok
 returns-clause-ok g c =
-    let room : length (entries_of c.push_reserved.new.self.items) + c.self.inside.depth ≤ vec_capacity c.push_reserved.new.self =
+    let room : length (entries_of c.push_reserved.new.self.items) + c.self.inside.depth
+    ≤ vec_capacity c.push_reserved.new.self =
     omega (
       arith,
       length-shown c.push_reserved.new.self.items,
