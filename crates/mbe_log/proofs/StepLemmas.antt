@@ -191,8 +191,8 @@ bound_pair {A} C R part number before middle after name other x y flat differ s 
     let first = command_head (code.TheVariants.Fragment name x) (flat_gives C R flat no_commands cs p) in
     let one : Commands = command no_commands (Command.binds name (fragment_seen x)) in
     let rest : Gives (log_of C R) one (entry_seen {A = A} (code.TheVariants.Fragment other y) ∷ []) cs =
-    subst (λ c. Gives (log_of C R) (command no_commands c) (entry_seen {A = A} (code.TheVariants.Fragment other y) ∷ []) cs)
-    first.1 first.2 in
+    subst (λ c. Gives (log_of C R) (command no_commands c)
+    (entry_seen {A = A} (code.TheVariants.Fragment other y) ∷ []) cs) first.1 first.2 in
     let second = command_head (code.TheVariants.Fragment other y) rest in
     let e : command one (Command.binds other (fragment_seen y)) ≡ cs =
     subst (λ c. command one c ≡ cs) second.1 (end_of second.2) in
