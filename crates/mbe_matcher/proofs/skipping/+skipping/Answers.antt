@@ -1,9 +1,9 @@
-use Rattle.std.proofs.Common.{◌≡◌, ◌+◌, ◌∷◌, [], ap, sym, ◌∙◌, arith, rules, length}
+use Rattle.std.proofs.Common.{◌≡◌, ◌+◌, ap, ◌∙◌, arith, rules, length}
 use Rattle.mbe_semantics.specs.Matching.Dots.{dots}
 use Rattle.mbe_ops.specs.Views.{op_of, ops_of}
 use Rattle.mbe_ops.proofs.EqualityLemmas.{op_weight, ops_weight}
 use Rattle.mbe_ops.proofs.OpViews.{view-open, view-open_repeat, view-subtree, view-repeat}
-use Rattle.mbe_matcher.proofs.SkipLemmas.{none_of, skips_none, skips_one, skips_plain, skips_all, skips_as}
+use Rattle.mbe_matcher.proofs.SkipLemmas.{none_of, skips_none, skips_one, skips_plain, skips_all}
 use Rattle.mbe_matcher.proofs.skipping.+skipping.Goals as goal
 
 pub skip_op-skip_ops-requires : goal.skip_op-skip_ops-requires
