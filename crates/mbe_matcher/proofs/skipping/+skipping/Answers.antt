@@ -81,7 +81,8 @@ skip_ops-ops-preserved g t c =
     let counted = ap dots here in
     let before = c.ops.invariant in
     let leaf = c.is_leaf.ensures c.if-not-is_leaf.false in
-    let so_far = skips_plain _ _ _ _ _ _ (ops_of c.in-Some.rest.now) (op_of c.in-Some.op.now) here leaf.0 before.so_far in
+    let so_far = skips_plain _ _ _ _ _ _ (ops_of c.in-Some.rest.now) (op_of c.in-Some.op.now) here leaf.0
+    before.so_far in
     record {
       entries = before.entries;
       lighter = omega (arith, weight, before.lighter);
