@@ -81,7 +81,12 @@ fn template_within<A: Allocator + Copy, E: Copy + Fn(SyntaxContext) -> Edition>(
         match peeked {
             TtElement::Leaf(Leaf::Ident(ident)) => {
                 let _word = src.next();
-                ops.push(Op::Ident(ident.clone()?))?;
+                let sym = ident.sym.clone()?;
+                ops.push(Op::Ident(Ident {
+                    sym,
+                    is_raw: ident.is_raw,
+                    span: ident.span,
+                }))?;
             }
             TtElement::Leaf(Leaf::Literal(literal)) => {
                 let _literal = src.next();
