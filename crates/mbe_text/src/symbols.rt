@@ -60,11 +60,25 @@ impl<A: Allocator + Copy> SymbolTable<A> {
         self.add(hash, text)
     }
 
-    // The symbol of a text with this hash, if the table finds one.
+    // The symbol of a text with this hash, if the table finds one. Nearly all are in the first slot where they are looked for.
+    #[inline(always)]
     fn find(&self, hash: u32, text: &str) -> Option<&Symbol<A>>
         ensures { IfSome result (λ s. s.now ≡ text.now) }
     {
-        'slots: for step in 0..TRIES {
+        let slot = self.slots.get(position(hash, 0, self.slots.len()))?;
+        let symbol = self.symbols.get(slot.number as usize)?;
+        if slot.hash == hash && symbol.as_str() == text {
+            return Some(symbol);
+        }
+        self.find_further(hash, text)
+    }
+
+    // The same, in the slots after the first.
+    #[inline(never)]
+    fn find_further(&self, hash: u32, text: &str) -> Option<&Symbol<A>>
+        ensures { IfSome result (λ s. s.now ≡ text.now) }
+    {
+        'slots: for step in 1..TRIES {
             let slot = self.slots.get(position(hash, step, self.slots.len()))?;
             let symbol = self.symbols.get(slot.number as usize)?;
             if slot.hash == hash && symbol.as_str() == text {
@@ -75,6 +89,7 @@ impl<A: Allocator + Copy> SymbolTable<A> {
     }
 
     // A new symbol of a text with this hash, which the table keeps where it finds a slot for it.
+    #[inline(never)]
     fn add(&mut self, hash: u32, text: &str) -> Result<Symbol<A>, AllocError>
         ensures { IfOk result (λ s. s ≡ text.now) }
     {
