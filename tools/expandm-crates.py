@@ -12,6 +12,7 @@ is printed for each: the calls that were expanded, the reports, whether it build
 To take less time: the dev-dependencies A and B are left out, with the tests that need them; with `--alone` only packages without dependencies and
 build scripts count, rustc compiles them, and their own tests, without Cargo, and those of the folder `tests` are left out.
 DIR keeps the copies (NAME and NAME.after) and what rustc said (NAME.log).
+Build scripts run as whoever runs this: as root, one of them put a file in the place of /dev/null.
 """
 import glob
 import json
