@@ -19,8 +19,6 @@ use Rattle.mbe.specs.Recovering.{IsUnfit, IsRecovered, ComesNear, IsNearest}
 use Rattle.mbe.specs.declared.expander.Candidate.{Candidate}
 use Rattle.mbe.specs.declared.expander.Choice.{Choice}
 use Rattle.mbe.specs.declared.expander.Choice.TheVariants as chosen
-use Rattle.mbe.specs.declared.expander.Considered.{Considered}
-use Rattle.mbe.specs.declared.expander.Considered.TheVariants as considered
 use Rattle.mbe.specs.declared.expander.Nearness.{Nearness}
 use Rattle.mbe.specs.declared.expander.Remains.{Remains}
 use Rattle.mbe.specs.declared.expander.Remains.TheVariants as remains
@@ -71,17 +69,6 @@ IsTried g Marks call_site input r (tried.Applies tree) =
     (top_group tree)
 IsTried g Marks call_site input r (tried.Fails n remains) =
     (Applies g r.style input.1 r → ⊥) × IsNearness g call_site input r n × IsRemains g Marks call_site input r remains
-
--- what the rule with this index comes to
-abbrev pub IsConsidered : {A : Type 0} → Grammar → (Span → Span → Type 0) → MacroCallStyle → Span → Top → ℕ → Rule
-    → Considered A → Type 0
-IsConsidered g Marks style call_site input n r considered.OtherStyle = r.style ≡ style → ⊥
-IsConsidered g Marks style call_site input n r (considered.Applies tree index) =
-    (a : Applies g style input.1 r) × IsSubstitution g Marks call_site (environment_of a.items) r.writes
-    (top_group tree) × (index ≡ arm_of n)
-IsConsidered g Marks style call_site input n r (considered.Fails c) =
-    (r.style ≡ style) × (Applies g style input.1 r → ⊥) × IsNearness g call_site input r c.nearness
-    × IsRemains g Marks call_site input r c.remains × (rule_of c.rule.now ≡ r) × (c.idx ≡ n)
 
 -- what the rules come to: without a rule that applies, the closest one of the style
 abbrev pub IsChosen : {A : Type 0} → Grammar → (Span → Span → Type 0) → MacroCallStyle → Span → Top → List Rule

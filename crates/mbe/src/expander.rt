@@ -14,7 +14,7 @@ ghost use Rattle.mbe_parser.specs.RuleViews.{rule_of, rules_seen};
 ghost use Rattle.mbe_semantics.specs.Bindings.Environment.{binding_total};
 ghost use Rattle.mbe_log.specs.BindingViews.{bound_by};
 ghost use Rattle.mbe_transcriber.specs.Beside.{IsWhatIsLeft};
-ghost use Rattle.mbe.specs.Choice.{AreChecked, IsTried, IsConsidered, IsChosen, IsRemains, is_nearer, nearer_of};
+ghost use Rattle.mbe.specs.Choice.{AreChecked, IsTried, IsChosen, IsRemains, is_nearer, nearer_of};
 ghost use Rattle.mbe.specs.Recovering.{IsRecovered, Recovers};
 
 use mbe_errors::error::{ExpandError, ExpandErrorKind};
@@ -30,6 +30,17 @@ use mbe_tt::grammar::FragmentGrammar;
 use mbe_tt::span::{DelimSpan, Span};
 use mbe_tt::tt::{SubtreeView, TopSubtree};
 use std::alloc::{AllocError, Allocator};
+
+// One call: what the rules are tried on, and how.
+#[derive(Drop)]
+struct Call<'a, A: Allocator, G, M> {
+    alloc: A,
+    grammar: &'a G,
+    input: SubtreeView<'a, A>,
+    marker: M,
+    style: MacroCallStyle,
+    site: Span,
+}
 
 // What is left of a rule that doesn't apply, for the case that none does.
 #[derive(Drop)]
@@ -76,14 +87,6 @@ enum Tried<'a, A: Allocator> {
     Fails(Nearness, Remains<'a, A>),
 }
 
-// What a rule with its index comes to in a call.
-#[derive(Drop)]
-enum Considered<'a, A: Allocator> {
-    OtherStyle,
-    Applies(TopSubtree<A>, MatchedArmIndex),
-    Fails(Candidate<'a, A>),
-}
-
 // What all rules come to in a call.
 #[derive(Drop)]
 enum Choice<'a, A: Allocator> {
@@ -99,58 +102,66 @@ pub(crate) fn expand_rules<A: Allocator + Copy, G: FragmentGrammar, M: Fn(Span) 
     rules: &[Rule<A>],
     input: SubtreeView<'_, A>,
     marker: M,
-    call_style: MacroCallStyle,
-    call_site: Span,
+    style: MacroCallStyle,
+    site: Span,
 ) -> Result<ExpandResult<(TopSubtree<A>, MatchedArmIndex), A>, AllocError>
     requires checked { AreChecked (rules_seen rules.now) }
     requires may_mark { MayMark (M.pre marker) }
     ensures expands { IfOk result (λ r. Expands (G.grammar grammar.now) (M.post marker)
-        (rules_seen rules.now) call_style (group_of input.entry).1 call_site
+        (rules_seen rules.now) style (group_of input.entry).1 site
         (top_group r.value.0) r.value.1 (errors_of r.err)) }
-    ensures recovers { IfOk result (λ r. Recovers (G.grammar grammar.now) call_site
-        (group_of input.entry) (M.post marker) (rules_seen rules.now) call_style
+    ensures recovers { IfOk result (λ r. Recovers (G.grammar grammar.now) site
+        (group_of input.entry) (M.post marker) (rules_seen rules.now) style
         (top_group r.value.0) r.value.1 (errors_of r.err)) }
 {
-    let choice = choose(alloc, grammar, rules, input, marker, call_style, call_site)?;
+    let call = Call {
+        alloc,
+        grammar,
+        input,
+        marker,
+        style,
+        site,
+    };
+    let choice = choose(&call, rules)?;
     match choice {
         Choice::Expanded(tree, index) => Ok(ValueResult {
             value: (tree, index),
             err: None,
         }),
-        Choice::Closest(candidate) => recovered(
-            alloc, grammar, candidate, input, marker, call_site,
-        ),
-        Choice::NoRule => no_rule(alloc, call_site),
+        Choice::Closest(candidate) => recovered(&call, candidate),
+        Choice::NoRule => no_rule(alloc, site),
     }
 }
 
 // Which rule a call goes by.
 fn choose<'a, A: Allocator + Copy, G: FragmentGrammar, M: Fn(Span) -> Span + Copy>(
-    alloc: A,
-    grammar: &G,
+    call: &Call<'a, A, G, M>,
     rules: &'a [Rule<A>],
-    input: SubtreeView<'a, A>,
-    marker: M,
-    call_style: MacroCallStyle,
-    call_site: Span,
 ) -> Result<Choice<'a, A>, AllocError>
     requires checked { AreChecked (rules_seen rules.now) }
-    requires may_mark { MayMark (M.pre marker) }
-    ensures { IfOk result (IsChosen (G.grammar grammar.now) (M.post marker) call_style call_site
-        (group_of input.entry) (rules_seen rules.now)) }
+    requires may_mark { MayMark (M.pre call.now.marker) }
+    ensures { IfOk result (IsChosen (G.grammar call.now.grammar.now) (M.post call.now.marker)
+        call.now.style call.now.site (group_of call.now.input) (rules_seen rules.now)) }
 {
-    let trees = input.iter().remaining().len();
+    let trees = call.input.iter().remaining().len();
     let mut nearest: Option<Candidate<'_, A>> = None;
     for (idx, rule) in rules.iter().enumerate() {
-        let come_to = consider(
-            alloc, grammar, idx, rule, input, trees, marker, call_style, call_site,
-        )?;
-        match come_to {
-            Considered::OtherStyle => continue,
-            Considered::Applies(tree, index) => {
+        if rule.style != call.style {
+            continue;
+        }
+        let tried = try_rule(call, rule, trees)?;
+        match tried {
+            Tried::Applies(tree) => {
+                let index = arm_index(idx);
                 return Ok(Choice::Expanded(tree, index));
             }
-            Considered::Fails(next) => {
+            Tried::Fails(nearness, remains) => {
+                let next = Candidate {
+                    idx,
+                    rule,
+                    nearness,
+                    remains,
+                };
                 nearest = Some(nearer(nearest, next));
             }
         }
@@ -158,39 +169,6 @@ fn choose<'a, A: Allocator + Copy, G: FragmentGrammar, M: Fn(Span) -> Span + Cop
     match nearest {
         Some(candidate) => Ok(Choice::Closest(candidate)),
         None => Ok(Choice::NoRule),
-    }
-}
-
-// What the rule with this index comes to.
-fn consider<'a, A: Allocator + Copy, G: FragmentGrammar, M: Fn(Span) -> Span + Copy>(
-    alloc: A,
-    grammar: &G,
-    idx: usize,
-    rule: &'a Rule<A>,
-    input: SubtreeView<'a, A>,
-    trees: usize,
-    marker: M,
-    call_style: MacroCallStyle,
-    call_site: Span,
-) -> Result<Considered<'a, A>, AllocError>
-    requires checked { Checked (template_of rule.now.lhs) }
-    requires trees { trees ≡ tree_count (group_of input).1 }
-    requires may_mark { MayMark (M.pre marker) }
-    ensures { IfOk result (IsConsidered (G.grammar grammar.now) (M.post marker) call_style
-        call_site (group_of input.entry) idx (rule_of rule.now)) }
-{
-    if rule.style != call_style {
-        return Ok(Considered::OtherStyle);
-    }
-    let tried = try_rule(alloc, grammar, rule, input, trees, marker, call_site)?;
-    match tried {
-        Tried::Applies(tree) => Ok(Considered::Applies(tree, arm_index(idx))),
-        Tried::Fails(nearness, remains) => Ok(Considered::Fails(Candidate {
-            idx,
-            rule,
-            nearness,
-            remains,
-        })),
     }
 }
 
@@ -220,48 +198,47 @@ fn nearer<'a, A: Allocator>(
 
 // What a rule comes to, in a call of so many trees.
 fn try_rule<'a, A: Allocator + Copy, G: FragmentGrammar, M: Fn(Span) -> Span + Copy>(
-    alloc: A,
-    grammar: &G,
+    call: &Call<'a, A, G, M>,
     rule: &'a Rule<A>,
-    input: SubtreeView<'a, A>,
     trees: usize,
-    marker: M,
-    call_site: Span,
 ) -> Result<Tried<'a, A>, AllocError>
     requires checked { Checked (template_of rule.now.lhs) }
-    requires trees { trees ≡ tree_count (group_of input).1 }
-    requires may_mark { MayMark (M.pre marker) }
-    ensures { IfOk result (IsTried (G.grammar grammar.now) (M.post marker) call_site
-        (group_of input.entry) (rule_of rule.now)) }
+    requires trees { trees ≡ tree_count (group_of call.now.input).1 }
+    requires may_mark { MayMark (M.pre call.now.marker) }
+    ensures { IfOk result (IsTried (G.grammar call.now.grammar.now) (M.post call.now.marker)
+        call.now.site (group_of call.now.input) (rule_of rule.now)) }
 {
-    if begins_otherwise(&rule.lhs, input.iter().remaining()) {
+    if begins_otherwise(&rule.lhs, call.input.iter().remaining()) {
         let nearness = Nearness {
             unmatched: trees,
             bound: 0,
         };
         return Ok(Tried::Fails(nearness, Remains::Unlike));
     }
-    match_rule(alloc, grammar, rule, input, marker, call_site)
+    match_rule(call, rule)
 }
 
 // What the match of a rule comes to, and what it writes.
 fn match_rule<'a, A: Allocator + Copy, G: FragmentGrammar, M: Fn(Span) -> Span + Copy>(
-    alloc: A,
-    grammar: &G,
+    call: &Call<'a, A, G, M>,
     rule: &'a Rule<A>,
-    input: SubtreeView<'a, A>,
-    marker: M,
-    call_site: Span,
 ) -> Result<Tried<'a, A>, AllocError>
     requires checked { Checked (template_of rule.now.lhs) }
-    requires may_mark { MayMark (M.pre marker) }
-    ensures { IfOk result (IsTried (G.grammar grammar.now) (M.post marker) call_site
-        (group_of input.entry) (rule_of rule.now)) }
+    requires may_mark { MayMark (M.pre call.now.marker) }
+    ensures { IfOk result (IsTried (G.grammar call.now.grammar.now) (M.post call.now.marker)
+        call.now.site (group_of call.now.input) (rule_of rule.now)) }
 {
-    let mut log = BindingLog::new(alloc);
-    let argument = input.iter().remaining();
-    let around = input.top_subtree().delimiter.delim_span();
-    let matched = match_argument(alloc, grammar, &rule.lhs, argument, around, &mut log)?;
+    let mut log = BindingLog::new(call.alloc);
+    let argument = call.input.iter().remaining();
+    let around = call.input.top_subtree().delimiter.delim_span();
+    let matched = match_argument(
+        call.alloc,
+        call.grammar,
+        &rule.lhs,
+        argument,
+        around,
+        &mut log,
+    )?;
     let Match {
         verdict: _,
         unmatched,
@@ -273,7 +250,14 @@ fn match_rule<'a, A: Allocator + Copy, G: FragmentGrammar, M: Fn(Span) -> Span +
     if let Some(err) = err {
         return Ok(Tried::Fails(nearness, Remains::Unfit(bindings, err)));
     }
-    let written = transcribe(alloc, grammar, &rule.rhs, &bindings, marker, call_site)?;
+    let written = transcribe(
+        call.alloc,
+        call.grammar,
+        &rule.rhs,
+        &bindings,
+        call.marker,
+        call.site,
+    )?;
     let ValueResult { value, err } = written;
     match err {
         Some(fault) => Ok(Tried::Fails(nearness, Remains::Faulty(value, fault))),
@@ -294,20 +278,16 @@ fn nearness_of<A: Allocator>(unmatched: usize, bindings: &Bindings<'_, A>) -> Ne
 
 // What the closest rule gives, with its error.
 fn recovered<A: Allocator + Copy, G: FragmentGrammar, M: Fn(Span) -> Span + Copy>(
-    alloc: A,
-    grammar: &G,
+    call: &Call<'_, A, G, M>,
     candidate: Candidate<'_, A>,
-    input: SubtreeView<'_, A>,
-    marker: M,
-    call_site: Span,
 ) -> Result<ExpandResult<(TopSubtree<A>, MatchedArmIndex), A>, AllocError>
-    requires may_mark { MayMark (M.pre marker) }
-    requires remains { IsRemains (G.grammar grammar.now) (M.post marker) call_site
-        (group_of input) (rule_of candidate.rule.now) candidate.remains }
+    requires may_mark { MayMark (M.pre call.now.marker) }
+    requires remains { IsRemains (G.grammar call.now.grammar.now) (M.post call.now.marker)
+        call.now.site (group_of call.now.input) (rule_of candidate.rule.now) candidate.remains }
     ensures index { IfOk result (λ r. r.value.1 ≡ arm_of candidate.entry.idx) }
-    ensures recovered { IfOk result (λ r. IsRecovered (G.grammar grammar.now) call_site
-        (group_of input.entry) (M.post marker) (rule_of candidate.entry.rule.now)
-        (top_group r.value.0) (errors_of r.err)) }
+    ensures recovered { IfOk result (λ r. IsRecovered (G.grammar call.now.grammar.now)
+        call.now.site (group_of call.now.input) (M.post call.now.marker)
+        (rule_of candidate.entry.rule.now) (top_group r.value.0) (errors_of r.err)) }
 {
     let Candidate {
         idx,
@@ -321,56 +301,55 @@ fn recovered<A: Allocator + Copy, G: FragmentGrammar, M: Fn(Span) -> Span + Copy
             value: (tree, index),
             err: Some(err),
         }),
-        Remains::Unfit(bound, err) => {
-            beside_error(alloc, grammar, rule, index, &bound, err, marker, call_site)
-        }
-        Remains::Unlike => unlike(alloc, grammar, rule, index, input, marker, call_site),
+        Remains::Unfit(bound, err) => beside_error(call, rule, index, &bound, err),
+        Remains::Unlike => unlike(call, rule, index),
     }
 }
 
 // What is given of a rule that begins otherwise than the argument: nothing is bound.
 fn unlike<A: Allocator + Copy, G: FragmentGrammar, M: Fn(Span) -> Span + Copy>(
-    alloc: A,
-    grammar: &G,
+    call: &Call<'_, A, G, M>,
     rule: &Rule<A>,
     index: MatchedArmIndex,
-    input: SubtreeView<'_, A>,
-    marker: M,
-    call_site: Span,
 ) -> Result<ExpandResult<(TopSubtree<A>, MatchedArmIndex), A>, AllocError>
-    requires may_mark { MayMark (M.pre marker) }
+    requires may_mark { MayMark (M.pre call.now.marker) }
     requires checked { Checked (template_of rule.now.lhs) }
-    requires otherwise { begins_otherwise (template_of rule.now.lhs) (group_of input).1 ≡ true }
+    requires otherwise { begins_otherwise (template_of rule.now.lhs) (group_of call.now.input).1
+        ≡ true }
     ensures index { IfOk result (λ r. r.value.1 ≡ index) }
-    ensures recovered { IfOk result (λ r. IsRecovered (G.grammar grammar.now) call_site
-        (group_of input.entry) (M.post marker) (rule_of rule.now) (top_group r.value.0)
+    ensures recovered { IfOk result (λ r. IsRecovered (G.grammar call.now.grammar.now)
+        call.now.site (group_of call.now.input) (M.post call.now.marker) (rule_of rule.now) (top_group r.value.0)
         (errors_of r.err)) }
 {
-    let argument = input.iter().remaining();
-    let spans = input.top_subtree().delimiter.delim_span();
-    let err = error_at_start(alloc, grammar, &rule.lhs, argument, spans)?;
-    let bound = Bindings::new(alloc);
-    beside_error(alloc, grammar, rule, index, &bound, err, marker, call_site)
+    let argument = call.input.iter().remaining();
+    let spans = call.input.top_subtree().delimiter.delim_span();
+    let err = error_at_start(call.alloc, call.grammar, &rule.lhs, argument, spans)?;
+    let bound = Bindings::new(call.alloc);
+    beside_error(call, rule, index, &bound, err)
 }
 
 // What is written of a rule under what is bound, beside the error of its match.
 fn beside_error<A: Allocator + Copy, G: FragmentGrammar, M: Fn(Span) -> Span + Copy>(
-    alloc: A,
-    grammar: &G,
+    call: &Call<'_, A, G, M>,
     rule: &Rule<A>,
     index: MatchedArmIndex,
     bindings: &Bindings<'_, A>,
     err: ExpandError<A>,
-    marker: M,
-    call_site: Span,
 ) -> Result<ExpandResult<(TopSubtree<A>, MatchedArmIndex), A>, AllocError>
-    requires { MayMark (M.pre marker) }
+    requires { MayMark (M.pre call.now.marker) }
     ensures index { IfOk result (λ r. r.value.1 ≡ index) }
     ensures err { IfOk result (λ r. errors_of r.err ≡ Some (error_of err)) }
-    ensures left { IfOk result (λ r. IsWhatIsLeft (G.grammar grammar.now) (M.post marker) call_site
-        (bound_by bindings.now) (template_of rule.now.rhs) (top_group r.value.0)) }
+    ensures left { IfOk result (λ r. IsWhatIsLeft (G.grammar call.now.grammar.now)
+        (M.post call.now.marker) call.now.site (bound_by bindings.now) (template_of rule.now.rhs) (top_group r.value.0)) }
 {
-    let written = transcribe(alloc, grammar, &rule.rhs, bindings, marker, call_site)?;
+    let written = transcribe(
+        call.alloc,
+        call.grammar,
+        &rule.rhs,
+        bindings,
+        call.marker,
+        call.site,
+    )?;
     let ValueResult { value, err: _ } = written;
     Ok(ValueResult {
         value: (value, index),

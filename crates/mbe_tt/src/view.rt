@@ -1,12 +1,14 @@
 // Trees side by side in a buffer. The names follow rust-analyzer's `tt`; what the calls return is the
 // project's own.
-ghost use Rattle.std.specs.Prelude.{◌≡◌, option_map, ⊤};
+ghost use Rattle.std.specs.Prelude.{◌≡◌, IfOk, option_map, ⊤};
 ghost use Rattle.mbe_tt.specs.Views.Entries.{Spelled, Spelled-prop};
 ghost use Rattle.std.specs.Prelude.{IsTrue, ◌↔◌};
 ghost use Rattle.mbe_tt.specs.Views.Shown.{entries_of};
 ghost use Rattle.std.specs.Cmp.{partial_equiv_from_equiv};
 ghost use Rattle.mbe_tt.specs.Trees.Tree.{tree_count, flat_len, strip_invisible, one_group};
 
+use crate::buffer::TopSubtree;
+use crate::builder::TopSubtreeBuilder;
 use crate::entry::{Entry, same_entries};
 use crate::iter::{TtElement, TtIter};
 use crate::tt::{Delimiter, DelimiterKind, Subtree};
@@ -95,6 +97,19 @@ impl<'a, A: Allocator> TokenTreesView<'a, A> {
     }
 }
 
+impl<'a, A: Allocator + Copy> TokenTreesView<'a, A> {
+    ghost use Rattle.mbe_tt.specs.Views.View.{trees};
+
+    /// A buffer with copies of the trees inside that delimiter. `AllocError` if out of memory.
+    pub fn try_to_buffer(self, alloc: A, delimiter: Delimiter) -> Result<TopSubtree<A>, AllocError>
+        ensures { IfOk result (λ t. t ≡ (delimiter, trees self.entry)) }
+    {
+        let mut builder = TopSubtreeBuilder::new(alloc, delimiter)?;
+        builder.extend_with_tt(self)?;
+        Ok(builder.build())
+    }
+}
+
 /// One group of a buffer, borrowed from it. Clauses see its delimiter and its content by `group_of`.
 #[derive_where(Clone, Copy, Debug)]
 pub struct SubtreeView<'a, A: Allocator = Global> {
@@ -118,6 +133,17 @@ impl<'a, A: Allocator> SubtreeView<'a, A> {
         ensures { result ≡ inside (group_of self.now) }
     {
         self.inside.iter()
+    }
+}
+
+impl<'a, A: Allocator + Copy> SubtreeView<'a, A> {
+    ghost use Rattle.mbe_tt.specs.Views.View.{group_of};
+
+    /// A buffer that holds a copy of the group. `AllocError` if out of memory.
+    pub fn try_to_buffer(self, alloc: A) -> Result<TopSubtree<A>, AllocError>
+        ensures { IfOk result (λ t. t ≡ group_of self.entry) }
+    {
+        self.inside.try_to_buffer(alloc, self.subtree.delimiter)
     }
 }
 

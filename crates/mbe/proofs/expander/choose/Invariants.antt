@@ -9,11 +9,12 @@ use Rattle.mbe.proofs.expander.choose.Given as goal
 
 abbrev pub invariant-loop-idx : goal.invariant-loop-idx
 invariant-loop-idx g l =
-    let input = group_of l.input in
+    let h = g.G.FragmentGrammar.grammar l.call.grammar.now in
+    let input = group_of l.call.input in
+    let rs = rules_seen l.rules in
     record {
-      none : NoneApplies (g.G.FragmentGrammar.grammar l.grammar) l.call_style input.1 (take l.idx (rules_seen l.rules));
-      nearest : IsSoFar (g.G.FragmentGrammar.grammar l.grammar) l.call_site input l.call_style (rules_seen l.rules)
-          l.idx (option_map candidate_seen l.nearest);
-      kept : IfSome l.nearest (IsCandidate (g.G.FragmentGrammar.grammar l.grammar)
-          (λ s t. g.M.Fn.post l.marker (s, tt) t) l.call_site input l.call_style (rules_seen l.rules));
+      none : NoneApplies h l.call.style input.1 (take l.idx rs);
+      nearest : IsSoFar h l.call.site input l.call.style rs l.idx (option_map candidate_seen l.nearest);
+      kept : IfSome l.nearest
+          (IsCandidate h (λ s t. g.M.Fn.post l.call.marker (s, tt) t) l.call.site input l.call.style rs);
     }

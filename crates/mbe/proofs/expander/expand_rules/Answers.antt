@@ -19,7 +19,7 @@ returns-in-Expanded-clause-expands g c =
       sound = λ _. it;
       complete = λ s k b. refl;
       recovers = λ e x s. absurd (none-some e x);
-      no_rule = λ nobody. absurd (nobody (r, contains_first h c.args.call_style trees first, a.styled));
+      no_rule = λ nobody. absurd (nobody (r, contains_first h c.args.style trees first, a.styled));
     }
 
 pub returns-in-Closest-clause-expands : goal.returns-in-Closest-clause-expands
@@ -33,7 +33,7 @@ returns-in-Closest-clause-expands g c =
       complete = λ s k a. absurd (it.0 s k a);
       recovers = λ e y s. (
         c.in-Closest.candidate.idx,
-        closest h c.args.call_site (group_of c.args.input) c.args.call_style rs c.in-Closest.candidate.idx _ it.1,
+        closest h c.args.site (group_of c.args.input) c.args.style rs c.in-Closest.candidate.idx _ it.1,
         index,
       );
       no_rule = λ other. absurd (other (_, at_place rs _ _ it.1.styled.0, it.1.styled.1));

@@ -7,12 +7,14 @@ use Rattle.mbe.proofs.expander.try_rule.Goals as goal
 
 pub returns-then-begins_otherwise : goal.returns-then-begins_otherwise
 returns-then-begins_otherwise g c =
-    let h = g.G.FragmentGrammar.grammar c.args.grammar.now in
+    let h = g.G.FragmentGrammar.grammar c.args.call.now.grammar.now in
+    let input = group_of c.args.call.now.input in
+    let site = c.args.call.now.site in
     let r = rule_of c.args.rule.now in
-    let same : trees c.remaining.result ≡ (group_of c.args.input).1 = c.remaining.ensures ∙ c.iter.ensures in
-    let law = g.met.G.FragmentGrammar.lawful c.args.grammar.now in
+    let same : trees c.remaining.result ≡ input.1 = c.remaining.ensures ∙ c.iter.ensures in
+    let law = g.met.G.FragmentGrammar.lawful c.args.call.now.grammar.now in
     let other = sym (ap (begins_otherwise r.reads) same)
     ∙ (sym c.begins_otherwise.ensures ∙ c.if-begins_otherwise.true) in
-    let both = unlike_tried h c.args.call_site (group_of c.args.input) r law c.requires.checked other _ c.requires.trees
+    let both = unlike_tried h site input r law c.requires.checked other _ c.requires.trees
     refl in
     (both.0, both.1, (c.requires.checked, other))

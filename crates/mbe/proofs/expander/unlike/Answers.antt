@@ -23,21 +23,23 @@ error_at_start-requires-clause-otherwise g c =
 
 pub returns-clause-recovered : goal.returns-clause-recovered
 returns-clause-recovered g c =
-    let h = g.G.FragmentGrammar.grammar c.args.grammar.now in
-    let marks = λ (s t : Span). g.M.Fn.post c.args.marker (s, tt) t in
+    let h = g.G.FragmentGrammar.grammar c.args.call.now.grammar.now in
+    let input = group_of c.args.call.now.input in
+    let site = c.args.call.now.site in
+    let marks = λ (s t : Span). g.M.Fn.post c.args.call.now.marker (s, tt) t in
     let r = rule_of c.args.rule.now in
     let err = error_of c.in_ok-err.err in
     let env = bound_by c.new-bound.result in
-    let same : trees c.remaining-argument.result ≡ (group_of c.args.input).1 =
+    let same : trees c.remaining-argument.result ≡ input.1 =
     c.remaining-argument.ensures ∙ c.iter.ensures in
-    let around : c.delim_span-spans.result ≡ spans_of (group_of c.args.input).0 = search rules in
-    let reported = subst (λ d. Reports h r.reads (group_of c.args.input).1 d (stuck 0) err no_commands) around
+    let around : c.delim_span-spans.result ≡ spans_of input.0 = search rules in
+    let reported = subst (λ d. Reports h r.reads input.1 d (stuck 0) err no_commands) around
     (subst (λ f. Reports h r.reads f c.delim_span-spans.result (stuck 0) err no_commands) same c.in_ok-err.ensures) in
-    let law = g.met.G.FragmentGrammar.lawful c.args.grammar.now in
-    let fails = unlike h c.args.call_site (group_of c.args.input) r law c.requires.checked c.requires.otherwise
+    let law = g.met.G.FragmentGrammar.lawful c.args.call.now.grammar.now in
+    let fails = unlike h site input r law c.requires.checked c.requires.otherwise
     err env reported c.new-bound.ensures in
     both_ok c.beside_error.result (λ x. errors_of x.err ≡ Some err)
-    (λ x. IsWhatIsLeft h marks c.args.call_site env r.writes (top_group x.value.0))
-    (λ x. IsRecovered h c.args.call_site (group_of c.args.input) marks r (top_group x.value.0) (errors_of x.err))
+    (λ x. IsWhatIsLeft h marks site env r.writes (top_group x.value.0))
+    (λ x. IsRecovered h site input marks r (top_group x.value.0) (errors_of x.err))
     (λ x is left. record { error = err; env = env; reported = is; fails = inl fails; left = left })
     c.beside_error.ensures.err c.beside_error.ensures.left
