@@ -151,3 +151,18 @@ pub only_entry : {T : Type 0} (lists : List (Chain T)) (part : Part) (l : Chain 
     link_in l.link part.first ≡ None → own_in l.link part.first ≡ 1 → slice_get l.own 0 ≡ Some x
     → Flat lists part (x ∷ [])
 only_entry lists part l x s h o e = ends part l (x ∷ []) s h (first_alone l.own x e ∙ ap (λ n. take n l.own) (sym o))
+
+first_two : {T : Type 0} (own : List T) (x y : T) → slice_get own 0 ≡ Some x → slice_get own 1 ≡ Some y
+    → x ∷ (y ∷ []) ≡ take 2 own
+first_two [] x y e f = cc
+first_two (a ∷ []) x y e f = cc
+first_two (a ∷ (b ∷ own)) x y e f =
+    let k : x ≡ a = cc in
+    let l : y ≡ b = cc in
+    ap (λ z. z ∷ (y ∷ [])) k ∙ ap (λ z. a ∷ (z ∷ [])) l ∙ ap (λ t. a ∷ (b ∷ t)) (take_none own)
+
+pub two_entries : {T : Type 0} (lists : List (Chain T)) (part : Part) (l : Chain T) (x y : T)
+    → slice_get lists part.list ≡ Some l → link_in l.link part.first ≡ None → own_in l.link part.first ≡ 2
+    → slice_get l.own 0 ≡ Some x → slice_get l.own 1 ≡ Some y → Flat lists part (x ∷ (y ∷ []))
+two_entries lists part l x y s h o e f =
+    ends part l (x ∷ (y ∷ [])) s h (first_two l.own x y e f ∙ ap (λ n. take n l.own) (sym o))

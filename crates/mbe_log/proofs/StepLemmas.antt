@@ -1,6 +1,7 @@
 -- Building, step by step.
-use Rattle.std.specs.Prelude.{◌≡◌, ◌<◌, ◌≤◌, ◌+◌, ℕ, suc, List, [], ◌∷◌, length, map, drop, slice_get, Option, Some, None, Result, Ok, Err, OnOk, refl}
+use Rattle.std.specs.Prelude.{◌≡◌, ◌<◌, ◌≤◌, ◌+◌, ℕ, suc, List, [], ◌∷◌, length, map, drop, slice_get, Option, Some, None, Result, Ok, Err, OnOk, refl, if◌then◌else◌, Bool, true, false, not}
 use Rattle.std.proofs.Common.{arith, sym, ap, subst, ◌∙◌, get_or}
+use Rattle.std.specs.Str.{bytes_eq}
 use Rattle.mbe_semantics.specs.declared.log.Part.{Part}
 use Rattle.mbe_log.specs.declared.log.Command as code
 use Rattle.mbe_log.specs.Chain.{Chain, Flat, own_of, entry_at, ArePlaces}
@@ -173,6 +174,32 @@ bound_alone C R part number before after name x flat s cs p =
     let e : command no_commands (Command.binds name (fragment_seen x)) ≡ cs =
     subst (λ c. command no_commands c ≡ cs) k.1 (end_of k.2) in
     s ∙ ap (λ ds. add_round_in number (run ds []) before) e
+
+pub is_false : (b : Bool) → not b ≡ true → b ≡ false
+is_false true h = cc
+is_false false h = refl
+
+-- a round of two variables: the list of each gets its value
+pub bound_pair : {A : Type 0} (C : List (Chain (code.Command A))) (R : List (Chain Part)) (part : Part) (number : ℕ)
+    (before middle after : Environment) (name other : Name) (x y : Fragment A)
+    → Flat C part (code.TheVariants.Fragment name x ∷ (code.TheVariants.Fragment other y ∷ []))
+    → bytes_eq name other ≡ false
+    → middle ≡ grown_in number before name (fragment (fragment_seen x)) (value_of before name)
+    → after ≡ grown_in number middle other (fragment (fragment_seen y)) (value_of middle other)
+    → BindsRound C R part number before after
+bound_pair {A} C R part number before middle after name other x y flat differ s t cs p =
+    let first = command_head (code.TheVariants.Fragment name x) (flat_gives C R flat no_commands cs p) in
+    let one : Commands = command no_commands (Command.binds name (fragment_seen x)) in
+    let rest : Gives (log_of C R) one (entry_seen {A = A} (code.TheVariants.Fragment other y) ∷ []) cs =
+    subst (λ c. Gives (log_of C R) (command no_commands c)
+    (entry_seen {A = A} (code.TheVariants.Fragment other y) ∷ []) cs) first.1 first.2 in
+    let second = command_head (code.TheVariants.Fragment other y) rest in
+    let e : command one (Command.binds other (fragment_seen y)) ≡ cs =
+    subst (λ c. command one c ≡ cs) second.1 (end_of second.2) in
+    t ∙ ap (λ env. grown_in number env other (fragment (fragment_seen y)) (value_of env other)) s
+    ∙ ap (λ b. add_round_in number (if b then (other, fragment (fragment_seen y)) ∷ []
+    else (name, fragment (fragment_seen x)) ∷ ((other, fragment (fragment_seen y)) ∷ [])) before) (sym differ)
+    ∙ ap (λ ds. add_round_in number (run ds []) before) e
 
 -- a round that is built by itself
 pub bound_apart : {A : Type 0} (C : List (Chain (code.Command A))) (R : List (Chain Part)) (part : Part) (number : ℕ)

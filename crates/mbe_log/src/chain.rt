@@ -175,6 +175,23 @@ pub(crate) fn only<T, A: Allocator>(lists: &[Linked<T, A>], part: Part) -> Optio
     }
 }
 
+/// The entries of a part that has two alone, of its own.
+#[inline(always)]
+pub(crate) fn two<T, A: Allocator>(lists: &[Linked<T, A>], part: Part) -> Option<(&T, &T)>
+    requires { IsWithin lists.now part }
+    ensures { IfSome result (λ p. Flat lists.now part (p.0.now ∷ (p.1.now ∷ []))) }
+{
+    let list = &lists[part.list];
+    match list.cut(part.first) {
+        (None, 2) => {
+            let first = list.own_at(0);
+            let second = list.own_at(1);
+            Some((first, second))
+        }
+        _ => None,
+    }
+}
+
 /// Where the entries of a part are, if each link is replaced by the entries that it stands for. A place is a list and an
 /// index among its own entries.
 pub(crate) fn places<T, A: Allocator + Copy>(

@@ -39,7 +39,7 @@ ghost use Rattle.mbe_log.specs.Building.{BindsRound};
 ghost use Rattle.mbe_log.specs.BindingViews.{fragment_seen};
 
 use crate::bindings::{Binding, Bindings};
-use crate::chain::{Linked, extend, is_within, only, places};
+use crate::chain::{Linked, extend, is_within, only, places, two};
 use crate::fragment::Fragment;
 use mbe_semantics::kinds::MetaVarKind;
 use mbe_semantics::log::Part;
@@ -541,6 +541,14 @@ fn bind_round<'a, A: Allocator + Copy>(
             name,
             Binding::Fragment(fragment.try_clone()?),
         )?;
+        return Ok(());
+    }
+    // Many bind two, each by its own name.
+    if let Some((Command::Fragment(name, one), Command::Fragment(other, two))) = two(commands, part)
+        && name != other
+    {
+        bindings.grow(alloc, number, name, Binding::Fragment(one.try_clone()?))?;
+        bindings.grow(alloc, number, other, Binding::Fragment(two.try_clone()?))?;
         return Ok(());
     }
     let round = build_part(alloc, commands, rounds, part, depth)?;

@@ -1,5 +1,5 @@
 -- Names that are skipped one after the other, and dots that are counted.
-use Rattle.std.proofs.Common.{◌≡◌, List, [], ◌∷◌, ◌++◌, refl, sym, ap, subst, ◌∙◌}
+use Rattle.std.proofs.Common.{◌≡◌, arith, length, List, [], ◌∷◌, ◌++◌, refl, sym, ap, subst, ◌∙◌}
 use Rattle.std.specs.Prelude.{⊤, Result, Ok, Err, OnOk}
 use Rattle.mbe_semantics.specs.Syntax.Op.{Name, Op, Ops, no_ops, op, names_of_op, names_of}
 use Rattle.mbe_semantics.specs.Bindings.Account.{Commands, command, Command, Account, Log, Handle, IsAccount, HasEntriesOf, skip_commands, pushed}
@@ -51,6 +51,28 @@ skips_one old mid new before between after all left rest o e s r = record {
       r.account b i,
       sym (skipped_first o rest b)
           ∙ ap (λ os. skipped (names_of os) b) (sym e) ∙ h,
+    )
+
+pub none_of : {X : Type 0} (xs : List X) → length xs ≡ 0 → xs ≡ []
+none_of [] h = refl
+none_of (x ∷ xs) h = absurd (omega (arith, h))
+
+-- an op in which nothing is named
+pub skips_plain : (old new : Log) (before after : Handle) (all left rest : Ops) (o : Op) → left ≡ op o rest
+    → names_of_op o ≡ [] → SkipsUpTo old new before after all left → SkipsUpTo old new before after all rest
+skips_plain old new before after all left rest o e none s = record {
+  entries = s.entries;
+  account = λ a i. go a (s.account a i);
+  kept = s.kept;
+}
+  where
+    go : (a : Account) → (b : Account) × IsAccount new after b
+        × (skipped (names_of left) b ≡ skipped (names_of all) a) →
+        (b : Account) × IsAccount new after b × (skipped (names_of rest) b ≡ skipped (names_of all) a)
+    go a (b, i, h) = (
+      b,
+      i,
+      ap (λ ns. skipped (ns ++ names_of rest) b) (sym none) ∙ ap (λ os. skipped (names_of os) b) (sym e) ∙ h,
     )
 
 pub skips_all : (old new : Log) (before after : Handle) (all left : Ops) → left ≡ no_ops

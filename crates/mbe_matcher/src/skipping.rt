@@ -1,5 +1,5 @@
 // What a repetition without rounds leaves: its names bound to nothing, and its dots skipped.
-ghost use Rattle.std.specs.Prelude.{◌≡◌, OnOk, IfSome};
+ghost use Rattle.std.specs.Prelude.{◌≡◌, [], IsTrue, OnOk, IfOk, IfSome};
 ghost use Rattle.mbe_semantics.specs.Bindings.Account.{HasEntriesOf};
 ghost use Rattle.mbe_semantics.specs.Syntax.Op.{names_of, names_of_op};
 ghost use Rattle.mbe_semantics.specs.Matching.Dots.{dots, op_dots};
@@ -12,47 +12,66 @@ use mbe_ops::ops::Op;
 use mbe_ops::walk::{OpDelimited, OpDelimitedIter};
 use std::alloc::{AllocError, Allocator};
 
-// All variables in the ops are skipped.
+// All variables in the ops are skipped, and the dots in them are counted. Out of memory, too, if no `usize` holds their number. One
+// walk does both, since a repetition may be skipped at each token.
 #[cycle(skipping)]
-pub(crate) fn skip_names<A: Allocator + Copy>(
+pub(crate) fn skip_ops<A: Allocator + Copy>(
     log: &mut BindingLog<'_, A>,
     ops: &[Op<A>],
     handle: &mut Handle,
-) -> Result<(), AllocError>
+) -> Result<usize, AllocError>
     requires { HasEntriesOf log.old handle.old }
-    ensures { OnOk result (IsRewritten log.old log.new handle.old handle.new
+    ensures names { OnOk result (IsRewritten log.old log.new handle.old handle.new
         (skipped (names_of (ops_of ops.now)))) }
+    ensures dots { IfOk result (λ n. n ≡ dots (ops_of ops.now)) }
 {
-    for stop in OpDelimitedIter::new(ops) {
-        match stop {
-            OpDelimited::Op(op) => skip_op(log, op, handle)?,
-            OpDelimited::Open(_) | OpDelimited::Close(_) => {}
+    let mut count = ops.len().checked_add(1).ok_or(AllocError)?;
+    let mut left = ops;
+    'ops: while let Some((op, rest)) = left.split_first() {
+        if !is_leaf(op) {
+            let inside = skip_op(log, op, handle)?;
+            count = count.checked_add(inside).ok_or(AllocError)?;
         }
+        left = rest;
     }
-    Ok(())
+    Ok(count)
 }
 
+// Whether the op is a token, in which nothing is bound. Most ops are.
+#[inline(always)]
+#[tactic(auto, using(mbe_ops::proofs::OpViews::views))]
+fn is_leaf<A: Allocator>(op: &Op<A>) -> bool
+    ensures { IsTrue result → (names_of_op (op_of op.now) ≡ []) × (op_dots (op_of op.now) ≡ 0) }
+{
+    matches!(op, Op::Ident(_) | Op::Literal(_) | Op::Punct(_))
+}
+
+// The variables in the op are skipped, and its dots are counted.
 #[cycle(skipping)]
 #[tactic(auto, using(mbe_ops::proofs::OpViews::views))]
 fn skip_op<A: Allocator + Copy>(
     log: &mut BindingLog<'_, A>,
     op: &Op<A>,
     handle: &mut Handle,
-) -> Result<(), AllocError>
+) -> Result<usize, AllocError>
     requires { HasEntriesOf log.old handle.old }
-    ensures { OnOk result (IsRewritten log.old log.new handle.old handle.new
+    ensures names { OnOk result (IsRewritten log.old log.new handle.old handle.new
         (skipped (names_of_op (op_of op.now)))) }
+    ensures dots { IfOk result (λ n. n ≡ op_dots (op_of op.now)) }
 {
     match op {
-        Op::Var { name, .. } => log.push_empty(handle, name),
-        Op::Subtree { tokens, .. } => skip_names(log, &tokens.0, handle),
-        Op::Repeat { tokens, .. } => skip_names(log, &tokens.0, handle),
-        Op::Literal(_) | Op::Ident(_) | Op::Punct(_) => Ok(()),
+        Op::Var { name, .. } => {
+            log.push_empty(handle, name)?;
+            Ok(0)
+        }
+        Op::Subtree { tokens, .. } => skip_ops(log, &tokens.0, handle),
+        Op::Repeat { tokens, .. } => skip_ops(log, &tokens.0, handle),
+        Op::Literal(_) | Op::Ident(_) | Op::Punct(_) => Ok(0),
         Op::Ignore { .. }
         | Op::Index { .. }
         | Op::Len { .. }
         | Op::Count { .. }
-        | Op::Concat { .. } => Ok(()),
+        | Op::Concat { .. } => Ok(0),
     }
 }
 

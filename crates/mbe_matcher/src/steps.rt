@@ -10,7 +10,7 @@ ghost use Rattle.mbe_matcher.specs.Positions.{IsPosition, IsPlain, GivesSteps, G
 
 use crate::eat::eat_fragment;
 use crate::fronts::{between_width, opens, token_width};
-use crate::skipping::{dots_of, skip_names};
+use crate::skipping::skip_ops;
 use mbe_log::fragment::of_kind;
 use mbe_log::log::{BindingLog, again, emptied};
 use mbe_ops::ops::{Op, Separator};
@@ -293,11 +293,8 @@ fn skipped<'a, A: Allocator + Copy>(
     if let RepeatKind::OneOrMore = kind {
         return Ok(None);
     }
-    let Some(inside) = dots_of(body) else {
-        return Err(AllocError);
-    };
     let mut handle = again(&before.handle);
-    skip_names(log, body, &mut handle)?;
+    let inside = skip_ops(log, body, &mut handle)?;
     Ok(Some(Position {
         dot: rest,
         number: before.number - 1 - inside,

@@ -1,6 +1,6 @@
 // Writing a buffer, group by group. The names follow rust-analyzer's `tt`; what the calls return is the project's own.
 ghost use Rattle.std.specs.Prelude.{◌≡◌, ℕ, ◌+◌, ◌<◌, ◌≤◌, List, [], ◌∷◌, ◌++◌, length, slice_set};
-ghost use Rattle.std.specs.Prelude.{vec_capacity, IfOk, IfSome, IfNone, OnOk, OnErr};
+ghost use Rattle.std.specs.Prelude.{vec_capacity, vec_len, IfOk, IfSome, IfNone, OnOk, OnErr};
 ghost use Rattle.mbe_tt.specs.Buffers.OpensAt.{OpensAt};
 ghost use Rattle.mbe_tt.specs.Views.Entry.{Entry as FlatEntry, Open, Close};
 ghost use Rattle.mbe_tt.specs.Views.Shown.{entries_of, entry_of, leaf_of, leaves_of};
@@ -69,12 +69,13 @@ impl<A: Allocator> TopSubtreeBuilder<A> {
     }
 
     /// Writes a leaf at the end of the innermost open group. `AllocError` if out of memory.
+    #[inline(always)]
     pub fn push(&mut self, leaf: Leaf<A>) -> Result<(), AllocError>
         ensures ok { OnOk result (self.new ≡ put (one_leaf (leaf_of leaf)) self.old) }
         ensures err { OnErr result (self.new ≡ self.old) }
     {
-        self.entries.reserve(self.depth + 1)?;
-        self.entries.push(Entry::Leaf(leaf))?;
+        reserve(&mut self.entries, self.depth + 1)?;
+        self.entries.push_reserved(Entry::Leaf(leaf));
         Ok(())
     }
 
@@ -219,6 +220,30 @@ impl<A: Allocator> TopSubtreeBuilder<A> {
         finish(&mut entries, 0, subtree);
         TopSubtree { entries }
     }
+}
+
+// Room for so many entries more. What asks for memory is a call of its own, so that a push is short where there is room.
+#[inline(always)]
+fn reserve<A: Allocator>(entries: &mut Vec<Entry<A>, A>, more: usize) -> Result<(), AllocError>
+    ensures items { entries.new.items ≡ entries.old.items }
+    ensures len { vec_len entries.new ≡ vec_len entries.old }
+    ensures ok { OnOk result (vec_len entries.new + more ≤ vec_capacity entries.new) }
+    ensures capacity { vec_capacity entries.old ≤ vec_capacity entries.new }
+{
+    if more <= entries.capacity() - entries.len() {
+        return Ok(());
+    }
+    grow(entries, more)
+}
+
+#[inline(never)]
+fn grow<A: Allocator>(entries: &mut Vec<Entry<A>, A>, more: usize) -> Result<(), AllocError>
+    ensures items { entries.new.items ≡ entries.old.items }
+    ensures len { vec_len entries.new ≡ vec_len entries.old }
+    ensures ok { OnOk result (vec_len entries.new + more ≤ vec_capacity entries.new) }
+    ensures capacity { vec_capacity entries.old ≤ vec_capacity entries.new }
+{
+    entries.reserve(more)
 }
 
 fn entry_punct<A: Allocator>(entry: &Entry<A>) -> Option<Punct>

@@ -8,6 +8,6 @@ returns-in-OneOrMore g c = skip_not c.args.kind (ops_of c.args.body.now) (ops_of
 
 pub returns : goal.returns
 returns g c =
-    skip_some c.args.kind (ops_of c.args.body.now) c.args.log.now c.skip_names.new.log c.args.before.now c.args.rest
-    c.in-Some.inside c.skip_names.new.handle
-    c.in_default.not-OneOrMore c.in-Some.ensures (rw c.again-handle.ensures at c.in_ok-skip_names.ensures)
+    skip_some c.args.kind (ops_of c.args.body.now) c.args.log.now c.skip_ops.new.log c.args.before.now c.args.rest
+    c.in_ok-inside.inside c.skip_ops.new.handle
+    c.in_default.not-OneOrMore c.in_ok-inside.ensures.dots (rw c.again-handle.ensures at c.in_ok-inside.ensures.names)

@@ -11,31 +11,33 @@ use Rattle.mbe_tt.proofs.builder.TopSubtreeBuilder.push.Goals as goal
 
 pub invariant_of-self-2 : goal.invariant_of-self-2
 invariant_of-self-2 g c =
-    let room : length (entries_of c.push.new.self.items) + c.self.inside.depth ≤ vec_capacity c.push.new.self =
+    let room : length (entries_of c.push_reserved.new.self.items) + c.self.inside.depth
+    ≤ vec_capacity c.push_reserved.new.self =
     omega (
       arith,
-      length-shown c.push.new.self.items,
-      c.in_ok-push.ensures.len,
-      c.in_ok-push.ensures.capacity,
+      length-shown c.push_reserved.new.self.items,
+      c.push_reserved.ensures.len,
+      c.push_reserved.ensures.capacity,
       c.in_ok-reserve.ensures.ok,
     ) in
     (after_put _ _ _ _ _ _ (one_leaf (leaf_of c.args.leaf)) c.self.invariant
-    (shown_append _ _ _ c.in_ok-push.ensures.items
+    (shown_append _ _ _ c.push_reserved.ensures.items
     ∙ ap (λ (es : List Entry). es ++ Leaf (leaf_of c.args.leaf) ∷ []) (ap entries_of c.in_ok-reserve.ensures.items))
     room).building
 
 pub returns-clause-ok : goal.returns-clause-ok
 returns-clause-ok g c =
-    let room : length (entries_of c.push.new.self.items) + c.self.inside.depth ≤ vec_capacity c.push.new.self =
+    let room : length (entries_of c.push_reserved.new.self.items) + c.self.inside.depth
+    ≤ vec_capacity c.push_reserved.new.self =
     omega (
       arith,
-      length-shown c.push.new.self.items,
-      c.in_ok-push.ensures.len,
-      c.in_ok-push.ensures.capacity,
+      length-shown c.push_reserved.new.self.items,
+      c.push_reserved.ensures.len,
+      c.push_reserved.ensures.capacity,
       c.in_ok-reserve.ensures.ok,
     ) in
     (after_put _ _ _ _ _ _ (one_leaf (leaf_of c.args.leaf)) c.self.invariant
-    (shown_append _ _ _ c.in_ok-push.ensures.items
+    (shown_append _ _ _ c.push_reserved.ensures.items
     ∙ ap (λ (es : List Entry). es ++ Leaf (leaf_of c.args.leaf) ∷ []) (ap entries_of c.in_ok-reserve.ensures.items))
     room).levels
     ∙ ap (put (one_leaf (leaf_of c.args.leaf))) c.self.view_is
