@@ -7,7 +7,8 @@ ghost use Rattle.mbe_tt.specs.Views.View.{trees};
 ghost use Rattle.mbe_calls.specs.Beside.{is_standard};
 ghost use Rattle.mbe_calls.specs.Replacements.{part_of};
 ghost use Rattle.mbe_calls.specs.Shown.{call_shown, defined_shown};
-ghost use Rattle.mbe_expanding.specs.Replacing.{Adds, IsExpanded, IsOfCall, IsPartOf, last_span};
+ghost use Rattle.mbe_expanding.specs.Replacing as spec;
+ghost use Rattle.mbe_expanding.specs.Replacing.{Adds, IsExpanded, IsOfCall, IsPartOf, IsText, last_span};
 ghost use Rattle.mbe_expanding.specs.Replacing.{NoneCalled, PartsOfArgument, PartsOfCall};
 ghost use Rattle.mbe_expanding.specs.Replacing.{PartsOfFile, PartsOfTree, PartsWithin};
 ghost use Rattle.mbe_expanding.specs.Replacing.{ShowsItems, item_shown, rules_shown, shown};
@@ -22,6 +23,8 @@ use mbe_renaming::contexts::told_apart;
 use mbe_renaming::renaming::Doubt;
 use mbe_tt::span::Span;
 use mbe_tt::tt::{Delimiter, TokenTreesView, TopSubtree, TopSubtreeBuilder, TtElement};
+use mbe_wording::places::{Place, place_of};
+use mbe_wording::wording::{Builtins, worded};
 use std::alloc::{AllocError, Allocator};
 
 impl<A: Allocator + Copy> Expander<'_, A> {
@@ -283,8 +286,8 @@ impl<A: Allocator + Copy> Expander<'_, A> {
         self.replace_inside(replacements, texts, call.argument, Before::Other, levels)
     }
 
-    // An expansion as text in place of its call, with its locals told apart, and what is left after that. The first contexts, as many
-    // as `mark` says, are of earlier calls.
+    // An expansion as text in place of its call, with its locals told apart and calls of macros that are built in as they are there,
+    // and what is left after that. The first contexts, as many as `mark` says, are of earlier calls.
     fn replacement<'t>(
         &mut self,
         texts: &[&str],
@@ -306,20 +309,48 @@ impl<A: Allocator + Copy> Expander<'_, A> {
         let written = builder.build();
         let apart = told_apart(self.alloc, &written, rest, self.contexts.as_slice(), mark)?;
         self.note_doubts(texts, apart.undecided.as_slice())?;
-        let start = call.start.start as usize;
-        let around = text_in(texts, call.start.file);
-        let text = text_of(
-            self.alloc,
-            apart.tree.iter().remaining(),
-            indentation(around, start),
-        )?;
+        let text = self.text_at(texts, call.start, &apart.tree)?;
         let replacement = Replacement {
             file: call.start.file,
-            start,
+            start: call.start.start as usize,
             end: end_of(call, rest),
             text,
         };
         Ok((replacement, rest))
+    }
+
+    // Whether no macro of that name is found, so that it is the one that is built in.
+    fn is_builtin(&self, name: &str) -> bool
+        ensures { result ≡ spec.is_builtin (state_of self.now) name.now }
+    {
+        self.scope.find(name, false).is_none()
+    }
+
+    // What calls of macros that are built in become, in the expansion of a call at that place.
+    fn builtins(&self, place: Place) -> Builtins
+        ensures { result ≡ spec.builtins (state_of self.now) place.line place.column }
+    {
+        Builtins {
+            line: self.is_builtin("line").then_some(place.line),
+            column: self.is_builtin("column").then_some(place.column),
+            stringify: self.is_builtin("stringify"),
+            concat: self.is_builtin("concat"),
+        }
+    }
+
+    // The text of an expansion in place of a call that begins there.
+    fn text_at(
+        &self,
+        texts: &[&str],
+        start: Span,
+        tree: &TopSubtree<A>,
+    ) -> Result<String<A>, AllocError>
+        ensures { IfOk result (λ s. IsText (state_of self.now) tree.now.1 (string_bytes s)) }
+    {
+        let (around, at) = (text_in(texts, start.file), start.start as usize);
+        let builtins = self.builtins(place_of(around, at));
+        let shown = worded(self.alloc, builtins, tree)?;
+        text_of(self.alloc, shown.iter().remaining(), indentation(around, at))
     }
 
     // Notes where it isn't decided whether a name is what a macro binds, and where that is bound.

@@ -1,0 +1,82 @@
+-- What of an expansion is left to be written, one tree after another.
+use Rattle.std.proofs.Common.{ℕ, zero, suc, ◌-◌, ◌≡◌, ◌<◌, Bool, true, false, Option, Some, None, [], ◌∷◌, length, refl, ap, sym, ◌∙◌, arith}
+use Rattle.mbe_tt.specs.Buffers.Building.{Levels, put, closed}
+use Rattle.mbe_tt.specs.Trees.Leaf.{Leaf}
+use Rattle.mbe_tt.specs.Trees.Tree.{Forest, Tree, Leaf_tree, Group_tree, none, leaf, group, append, first, rest_of, one_leaf}
+use Rattle.mbe_tt.specs.declared.tt.Delimiter.{Delimiter}
+use Rattle.mbe_tt.proofs.Buffers.Built.{length-put}
+use Rattle.mbe_wording.specs.declared.wording.Before.{Before}
+use Rattle.mbe_wording.specs.declared.wording.Before.TheVariants as before
+use Rattle.mbe_wording.specs.declared.wording.Builtins.{Builtins}
+use Rattle.mbe_wording.specs.declared.wording.Inside.{Inside}
+use Rattle.mbe_wording.specs.Wording.{after_leaf, begun, ended, grouped, in_group, is_opened, kept, number_at, taken, worded_by, worded_in}
+use Rattle.mbe_wording.proofs.WrittenLemmas.{nothing, whole_of}
+
+one_more : (n : ℕ) → 0 < n → n ≡ suc (n - 1)
+one_more n h = omega (arith, h)
+
+pub as_they_are : (b : Builtins) (levels : ℕ) (m : Inside) (f : Forest) → levels ≡ 0 → worded_in b levels m f ≡ f
+unfolding worded_in
+as_they_are b levels m f e = ap (λ n. worded_in b n m f) e
+
+-- what is left of an expansion, where its groups are so many deep
+abbrev pub left_of : Builtins → ℕ → Inside → ℕ → Before → Forest → Forest
+left_of b levels m n c f = worded_by (worded_in b (levels - 1)) b m n c f
+
+worded_suc : (b : Builtins) (n : ℕ) (m : Inside) (f : Forest)
+    → worded_in b (suc n) m f ≡ worded_by (worded_in b n) b m zero before.Other f
+unfolding worded_in
+worded_suc b n m f = refl
+
+pub all_left : (b : Builtins) (levels : ℕ) (m : Inside) (f : Forest) → 0 < levels
+    → worded_in b levels m f ≡ left_of b levels m 0 before.Other f
+all_left b levels m f h = ap (λ n. worded_in b n m f) (one_more levels h) ∙ worded_suc b (levels - 1) m f
+
+pub none_left : (b : Builtins) (levels : ℕ) (m : Inside) (n : ℕ) (c : Before) (f : Forest) → first f ≡ None
+    → left_of b levels m n c f ≡ none
+none_left b levels m n c f e = ap (left_of b levels m n c) (nothing f e)
+
+-- one that goes with an earlier one
+pub taken_left : (b : Builtins) (levels : ℕ) (m : Inside) (n : ℕ) (c : Before) (f : Forest) (t : Tree)
+    → first f ≡ Some t → 0 < n → left_of b levels m n c f ≡ left_of b levels m (n - 1) c (rest_of f)
+taken_left b levels m n c none t e h = cc
+taken_left b levels m n c (leaf l rest) t e h = ap (λ k. left_of b levels m k c (leaf l rest)) (one_more n h)
+taken_left b levels m n c (group d held rest) t e h =
+    ap (λ k. left_of b levels m k c (group d held rest)) (one_more n h)
+
+pub leaf_left : (b : Builtins) (levels : ℕ) (m : Inside) (n : ℕ) (c : Before) (f : Forest) (l : Leaf)
+    → first f ≡ Some (Leaf_tree l) → n ≡ 0
+    → left_of b levels m n c f ≡ append (one_leaf (kept l (number_at b m c l (rest_of f))))
+    (left_of b levels m (taken (number_at b m c l (rest_of f))) (after_leaf b c l) (rest_of f))
+leaf_left b levels m n c f l e h =
+    ap (λ k. left_of b levels m k c f) h ∙ ap (left_of b levels m 0 c) (whole_of f (Leaf_tree l) e)
+
+pub group_left : (b : Builtins) (levels : ℕ) (m : Inside) (n : ℕ) (c : Before) (f held : Forest) (d : Delimiter)
+    → first f ≡ Some (Group_tree d held) → n ≡ 0
+    → left_of b levels m n c f
+    ≡ append (grouped (is_opened m d) d (worded_in b (levels - 1) (in_group m c (is_opened m d)) held))
+    (left_of b levels m 0 before.Other (rest_of f))
+group_left b levels m n c f held d e h =
+    ap (λ k. left_of b levels m k c f) h ∙ ap (left_of b levels m 0 c) (whole_of f (Group_tree d held) e)
+
+-- ---- groups
+
+-- a group that stays a group isn't the outermost one
+pub is_inside : (opened : Bool) (d : Delimiter) (f : Forest) (old now begins mid : Levels) → 0 < length old
+    → length now ≡ length old → begins ≡ begun opened d now → mid ≡ put f begins → opened ≡ false → 1 < length mid
+is_inside opened d f old now begins mid some groups o m no =
+    let l = ap length m ∙ length-put begins f ∙ ap length (o ∙ ap (λ x. begun x d now) no) in
+    omega (arith, some, groups, l)
+
+-- some are open all the while
+pub is_some : (opened : Bool) (d : Delimiter) (old now begins : Levels) → 0 < length old
+    → length now ≡ length old → begins ≡ begun opened d now → 0 < length begins
+is_some true d old now begins some groups o = let l = ap length o in omega (arith, some, groups, l)
+is_some false d old now begins some groups o = let l = ap length o in omega (arith, some, groups, l)
+
+-- a group, from its beginning to its end
+pub group_written : (opened : Bool) (d : Delimiter) (f : Forest) (now begins mid next : Levels)
+    → begins ≡ begun opened d now → mid ≡ put f begins → next ≡ ended opened d mid
+    → next ≡ put (grouped opened d f) now
+group_written true d f now begins mid next o m e = e ∙ m ∙ ap (put f) o
+group_written false d f now begins mid next o m e = e ∙ ap (closed d.close) (m ∙ ap (put f) o)
