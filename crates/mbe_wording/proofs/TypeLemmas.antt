@@ -1,11 +1,12 @@
 -- What of a template and of rules is left to be written, one tree after another.
 use Rattle.std.proofs.Common.{ℕ, zero, suc, ◌-◌, ◌≡◌, ◌<◌, Bool, true, false, List, Option, Some, None, refl, ap, sym, ◌∙◌, arith}
 use Rattle.std.specs.Prelude.{◌&&◌, ◌||◌, is_some}
+use Rattle.mbe_tt.specs.Buffers.Building.{Levels, put}
 use Rattle.mbe_tt.specs.Trees.Leaf.{Leaf}
 use Rattle.mbe_tt.specs.Trees.Tree.{Forest, Tree, Leaf_tree, Group_tree, none, leaf, group, append, first, rest_of, one_leaf}
 use Rattle.mbe_tt.specs.declared.tt.Delimiter.{Delimiter}
 use Rattle.mbe_wording.specs.Typing.{declares_by, declares, is_char_leaf, is_typed, kept, type_at, typed_by, typed_in, rule_group, pattern_after, rules_by}
-use Rattle.mbe_wording.proofs.WrittenLemmas.{nothing, whole_of}
+use Rattle.mbe_wording.proofs.WrittenLemmas.{Left, nothing, on, passes, whole_of}
 
 one_more : (n : ℕ) → 0 < n → n ≡ suc (n - 1)
 one_more n h = omega (arith, h)
@@ -52,6 +53,33 @@ pub group_left : (pattern : Forest) (levels : ℕ) (w : Bool) (f inside : Forest
 group_left pattern levels w f inside d e h =
     ap (λ b. left_of pattern levels b f) h ∙ ap (left_of pattern levels false) (whole_of f (Group_tree d inside) e)
 
+-- a leaf was written, with the name after it if that is of a type
+pub leaf_on : (pattern whole : Forest) (levels : ℕ) (w v : Bool) (f next ahead : Forest) (l : Leaf)
+    (old now after : Levels) → Left whole old (left_of pattern levels w f) now → first f ≡ Some (Leaf_tree l)
+    → w ≡ false → next ≡ rest_of f → ahead ≡ next → after ≡ put (kept l (type_at pattern l ahead)) now
+    → v ≡ is_some (type_at pattern l ahead) → Left whole old (left_of pattern levels v next) after
+leaf_on pattern whole levels w v f next ahead l old now after h is no_name e a k x =
+    let there = a ∙ e in
+    passes whole _ (left_of pattern levels v next) old after
+    (on whole (left_of pattern levels w f) (kept l (type_at pattern l (rest_of f)))
+    (left_of pattern levels (is_some (type_at pattern l (rest_of f))) (rest_of f)) old now after h
+    (leaf_left pattern levels w f l is no_name)
+    (k ∙ ap (λ g. put (kept l (type_at pattern l g)) now) there))
+    (ap (λ b. left_of pattern levels b (rest_of f)) (sym (x ∙ ap (λ g. is_some (type_at pattern l g)) there))
+    ∙ ap (left_of pattern levels v) (sym e))
+
+-- a group was written
+pub group_on : (pattern whole : Forest) (levels : ℕ) (w : Bool) (f next inside : Forest) (d : Delimiter)
+    (old now after : Levels) → Left whole old (left_of pattern levels w f) now
+    → first f ≡ Some (Group_tree d inside) → w ≡ false → next ≡ rest_of f
+    → after ≡ put (group d (typed_in pattern (levels - 1) inside) none) now
+    → Left whole old (left_of pattern levels w next) after
+group_on pattern whole levels w f next inside d old now after h is no_name e k =
+    passes whole _ (left_of pattern levels w next) old after
+    (on whole (left_of pattern levels w f) (group d (typed_in pattern (levels - 1) inside) none)
+    (left_of pattern levels false (rest_of f)) old now after h (group_left pattern levels w f inside d is no_name) k)
+    (ap (λ b. left_of pattern levels b (rest_of f)) (sym no_name) ∙ ap (left_of pattern levels w) (sym e))
+
 -- ---- rules
 
 pub no_rule_left : (pattern : Option Forest) (f : Forest) → first f ≡ None → rules_by pattern f ≡ none
@@ -65,6 +93,24 @@ pub rule_group_left : (pattern : Option Forest) (f inside : Forest) (d : Delimit
     → first f ≡ Some (Group_tree d inside)
     → rules_by pattern f ≡ append (rule_group pattern d inside) (rules_by (pattern_after pattern inside) (rest_of f))
 rule_group_left pattern f inside d e = ap (rules_by pattern) (whole_of f (Group_tree d inside) e)
+
+pub rule_leaf_on : (whole : Forest) (pattern : Option Forest) (f next : Forest) (l : Leaf) (old now after : Levels)
+    → Left whole old (rules_by pattern f) now → first f ≡ Some (Leaf_tree l) → next ≡ rest_of f
+    → after ≡ put (one_leaf l) now → Left whole old (rules_by pattern next) after
+rule_leaf_on whole pattern f next l old now after h is e k =
+    passes whole _ (rules_by pattern next) old after
+    (on whole (rules_by pattern f) (one_leaf l) (rules_by pattern (rest_of f)) old now after h
+    (rule_leaf_left pattern f l is) k) (ap (rules_by pattern) (sym e))
+
+pub rule_group_on : (whole : Forest) (pattern other : Option Forest) (f next inside : Forest) (d : Delimiter)
+    (old now after : Levels) → Left whole old (rules_by pattern f) now → first f ≡ Some (Group_tree d inside)
+    → next ≡ rest_of f → after ≡ put (rule_group pattern d inside) now → pattern_after pattern inside ≡ other
+    → Left whole old (rules_by other next) after
+rule_group_on whole pattern other f next inside d old now after h is e k o =
+    passes whole _ (rules_by other next) old after
+    (on whole (rules_by pattern f) (rule_group pattern d inside)
+    (rules_by (pattern_after pattern inside) (rest_of f)) old now after h (rule_group_left pattern f inside d is) k)
+    (ap (λ p. rules_by p (rest_of f)) o ∙ ap (rules_by other) (sym e))
 
 -- ---- variables of patterns
 
@@ -81,6 +127,7 @@ unfolding declares
 declares_zero name f = refl
 
 pub looks_begin : (levels : ℕ) (name : List ℕ) (f : Forest) → 0 < levels → Looks levels name f f
+unfolding Looks
 looks_begin levels name f some =
     declares_suc (levels - 1) name f ∙ ap (λ n. declares n name f) (sym (one_more levels some))
 
@@ -102,18 +149,21 @@ one_by levels name rest (Group_tree d inside) e =
 
 pub tree_found : (levels : ℕ) (name : List ℕ) (f rest : Forest) (t : Tree) (found : Bool) → Looks levels name f rest
     → first rest ≡ Some t → found ≡ has levels name t (rest_of rest) → found ≡ true → true ≡ declares levels name f
-tree_found levels name f rest t found h is e yes =
+unfolding Looks
+tree_found levels name f rest t found h is e is_there =
     let inner = declares_by (declares (levels - 1) name) name (rest_of rest) in
-    sym (one_by levels name rest t is ∙ ap (λ b. b || inner) (sym e ∙ yes)) ∙ h
+    sym (one_by levels name rest t is ∙ ap (λ b. b || inner) (sym e ∙ is_there)) ∙ h
 
 pub tree_passed : (levels : ℕ) (name : List ℕ) (f rest : Forest) (t : Tree) (found : Bool) → Looks levels name f rest
     → first rest ≡ Some t → found ≡ has levels name t (rest_of rest) → found ≡ false
     → Looks levels name f (rest_of rest)
-tree_passed levels name f rest t found h is e no =
+unfolding Looks
+tree_passed levels name f rest t found h is e is_not =
     let inner = declares_by (declares (levels - 1) name) name (rest_of rest) in
-    sym (one_by levels name rest t is ∙ ap (λ b. b || inner) (sym e ∙ no)) ∙ h
+    sym (one_by levels name rest t is ∙ ap (λ b. b || inner) (sym e ∙ is_not)) ∙ h
 
 pub looks_ended : (levels : ℕ) (name : List ℕ) (f rest : Forest) → Looks levels name f rest → first rest ≡ None
     → false ≡ declares levels name f
+unfolding Looks
 looks_ended levels name f rest h is =
     sym (ap (declares_by (declares (levels - 1) name) name) (nothing rest is)) ∙ h

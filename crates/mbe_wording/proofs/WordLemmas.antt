@@ -1,16 +1,15 @@
 -- What of an expansion is left to be written, one tree after another.
-use Rattle.std.proofs.Common.{ℕ, zero, suc, ◌-◌, ◌≡◌, ◌<◌, Bool, true, false, Option, Some, None, [], ◌∷◌, length, refl, ap, sym, ◌∙◌, arith}
+use Rattle.std.proofs.Common.{ℕ, zero, suc, ◌-◌, ◌≡◌, ◌<◌, Bool, true, false, Option, Some, None, refl, ap, sym, ◌∙◌, arith}
 use Rattle.mbe_tt.specs.Buffers.Building.{Levels, put, closed}
 use Rattle.mbe_tt.specs.Trees.Leaf.{Leaf}
 use Rattle.mbe_tt.specs.Trees.Tree.{Forest, Tree, Leaf_tree, Group_tree, none, leaf, group, append, first, rest_of, one_leaf}
 use Rattle.mbe_tt.specs.declared.tt.Delimiter.{Delimiter}
-use Rattle.mbe_tt.proofs.Buffers.Built.{length-put}
 use Rattle.mbe_wording.specs.declared.wording.Before.{Before}
 use Rattle.mbe_wording.specs.declared.wording.Before.TheVariants as before
 use Rattle.mbe_wording.specs.declared.wording.Builtins.{Builtins}
 use Rattle.mbe_wording.specs.declared.wording.Inside.{Inside}
 use Rattle.mbe_wording.specs.Wording.{after_leaf, begun, ended, grouped, in_group, is_opened, kept, number_at, taken, worded_by, worded_in}
-use Rattle.mbe_wording.proofs.WrittenLemmas.{nothing, whole_of}
+use Rattle.mbe_wording.proofs.WrittenLemmas.{Left, nothing, on, passes, whole_of}
 
 one_more : (n : ℕ) → 0 < n → n ≡ suc (n - 1)
 one_more n h = omega (arith, h)
@@ -59,20 +58,40 @@ pub group_left : (b : Builtins) (levels : ℕ) (m : Inside) (n : ℕ) (c : Befor
 group_left b levels m n c f held d e h =
     ap (λ k. left_of b levels m k c f) h ∙ ap (left_of b levels m 0 c) (whole_of f (Group_tree d held) e)
 
+-- a leaf was written
+pub leaf_on : (b : Builtins) (whole : Forest) (levels : ℕ) (m : Inside) (n k : ℕ) (c x : Before)
+    (f next ahead : Forest) (l : Leaf) (old now after : Levels) → Left whole old (left_of b levels m n c f) now
+    → first f ≡ Some (Leaf_tree l) → n ≡ 0 → next ≡ rest_of f → ahead ≡ next
+    → after ≡ put (one_leaf (kept l (number_at b m c l ahead))) now → k ≡ taken (number_at b m c l ahead)
+    → x ≡ after_leaf b c l → Left whole old (left_of b levels m k x next) after
+leaf_on b whole levels m n k c x f next ahead l old now after h is no_more e a p q r =
+    let there = a ∙ e in
+    passes whole _ (left_of b levels m k x next) old after
+    (on whole (left_of b levels m n c f) (one_leaf (kept l (number_at b m c l (rest_of f))))
+    (left_of b levels m (taken (number_at b m c l (rest_of f))) (after_leaf b c l) (rest_of f)) old now after h
+    (leaf_left b levels m n c f l is no_more)
+    (p ∙ ap (λ g. put (one_leaf (kept l (number_at b m c l g))) now) there))
+    (ap (λ j. left_of b levels m j (after_leaf b c l) (rest_of f))
+    (sym (q ∙ ap (λ g. taken (number_at b m c l g)) there))
+    ∙ ap (λ j. left_of b levels m k j (rest_of f)) (sym r) ∙ ap (left_of b levels m k x) (sym e))
+
+-- a group was written
+pub group_on : (b : Builtins) (whole : Forest) (levels : ℕ) (m within : Inside) (n : ℕ) (c : Before) (bare : Bool)
+    (f next held : Forest) (d : Delimiter) (old now after : Levels) → Left whole old (left_of b levels m n c f) now
+    → first f ≡ Some (Group_tree d held) → n ≡ 0 → next ≡ rest_of f → bare ≡ is_opened m d
+    → within ≡ in_group m c bare → after ≡ put (grouped bare d (worded_in b (levels - 1) within held)) now
+    → Left whole old (left_of b levels m n before.Other next) after
+group_on b whole levels m within n c bare f next held d old now after h is no_more e o w k =
+    passes whole _ (left_of b levels m n before.Other next) old after
+    (on whole (left_of b levels m n c f)
+    (grouped (is_opened m d) d (worded_in b (levels - 1) (in_group m c (is_opened m d)) held))
+    (left_of b levels m 0 before.Other (rest_of f)) old now after h (group_left b levels m n c f held d is no_more)
+    (k ∙ ap (λ x. put (grouped x d (worded_in b (levels - 1) within held)) now) o
+    ∙ ap (λ x. put (grouped (is_opened m d) d (worded_in b (levels - 1) x held)) now) (w ∙ ap (in_group m c) o)))
+    (ap (λ j. left_of b levels m j before.Other (rest_of f)) (sym no_more)
+    ∙ ap (left_of b levels m n before.Other) (sym e))
+
 -- ---- groups
-
--- a group that stays a group isn't the outermost one
-pub is_inside : (opened : Bool) (d : Delimiter) (f : Forest) (old now begins mid : Levels) → 0 < length old
-    → length now ≡ length old → begins ≡ begun opened d now → mid ≡ put f begins → opened ≡ false → 1 < length mid
-is_inside opened d f old now begins mid some groups o m no =
-    let l = ap length m ∙ length-put begins f ∙ ap length (o ∙ ap (λ x. begun x d now) no) in
-    omega (arith, some, groups, l)
-
--- some are open all the while
-pub is_some : (opened : Bool) (d : Delimiter) (old now begins : Levels) → 0 < length old
-    → length now ≡ length old → begins ≡ begun opened d now → 0 < length begins
-is_some true d old now begins some groups o = let l = ap length o in omega (arith, some, groups, l)
-is_some false d old now begins some groups o = let l = ap length o in omega (arith, some, groups, l)
 
 -- a group, from its beginning to its end
 pub group_written : (opened : Bool) (d : Delimiter) (f : Forest) (now begins mid next : Levels)

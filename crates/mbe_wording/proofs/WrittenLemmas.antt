@@ -1,8 +1,8 @@
 -- What is left to be written, as trees are written one after another.
-use Rattle.std.proofs.Common.{ℕ, ◌≡◌, ◌<◌, [], ◌∷◌, length, List, Option, Some, None, refl, ap, sym, ◌∙◌, arith}
+use Rattle.std.proofs.Common.{◌≡◌, [], ◌∷◌, length, Some, None, refl, ap, sym, ◌∙◌}
 use Rattle.mbe_tt.specs.Buffers.Building.{Levels, put, closed}
 use Rattle.mbe_tt.specs.Trees.Leaf.{Leaf}
-use Rattle.mbe_tt.specs.Trees.Tree.{Forest, Tree, Leaf_tree, Group_tree, none, leaf, group, tree, append, first, rest_of, flat_len}
+use Rattle.mbe_tt.specs.Trees.Tree.{Forest, Tree, Leaf_tree, Group_tree, none, leaf, group, tree, append, first, rest_of}
 use Rattle.mbe_tt.specs.declared.tt.Delimiter.{Delimiter}
 use Rattle.mbe_tt.proofs.Buffers.Built.{length-put}
 use Rattle.mbe_tt.proofs.Buffers.Grown.{put-none}
@@ -59,19 +59,7 @@ nothing none e = refl
 nothing (leaf l rest) e = cc
 nothing (group d inside rest) e = cc
 
-pub rest_less : (f : Forest) (t : Tree) → first f ≡ Some t → flat_len (rest_of f) < flat_len f
-rest_less none t e = cc
-rest_less (leaf l rest) t e = omega arith
-rest_less (group d inside rest) t e = omega arith
-
 -- ---- groups
-
--- a group that is opened among some isn't the outermost one
-pub is_inside : (f : Forest) (old now opened mid : Levels) (x : Delimiter × Forest) → 0 < length old
-    → length now ≡ length old → opened ≡ x ∷ now → mid ≡ put f opened → 1 < length mid
-is_inside f old now opened mid x some groups o m =
-    let l = ap length m ∙ length-put opened f ∙ ap length o in
-    omega (arith, some, groups, l)
 
 -- a group, from its opening to its closing
 pub group_written : (d : Delimiter) (f : Forest) (now opened mid next : Levels)

@@ -137,6 +137,12 @@ fn type_at<'t, A: Allocator>(
 
 // ---- the trees
 
+fn copy_of<A: Allocator>(leaf: &Leaf<A>) -> Result<Leaf<A>, AllocError>
+    ensures { IfOk result (λ l. leaf_of l ≡ leaf_of leaf.now) }
+{
+    leaf.clone()
+}
+
 // Writes a variable in parentheses.
 fn write_variable<A: Allocator>(
     builder: &mut TopSubtreeBuilder<A>,
@@ -246,7 +252,7 @@ fn write_rules<A: Allocator>(
     let mut pattern = None;
     'trees: while let Some(tree) = rest.next() {
         match tree {
-            TtElement::Leaf(leaf) => builder.push(leaf.clone()?)?,
+            TtElement::Leaf(leaf) => builder.push(copy_of(leaf)?)?,
             TtElement::Subtree(group, inside) => {
                 let inside = inside.remaining();
                 write_rule_group(builder, pattern, group.delimiter, inside)?;
