@@ -78,29 +78,31 @@ last_span c left =
 abbrev pub is_builtin : State → List ℕ → Bool
 is_builtin s name = not (is_some (rules_found s.scope name false))
 
+abbrev pub number_if : Bool → ℕ → Option ℕ
+number_if true n = Some n
+number_if false n = None
+
 -- what calls of macros that are built in become, where the outermost call is at that line and column
 abbrev pub builtins : State → ℕ → ℕ → Builtins
 builtins s line column = record {
-  line = if is_builtin s (codes "line") then Some line else None;
-  column = if is_builtin s (codes "column") then Some column else None;
+  line = number_if (is_builtin s (codes "line")) line;
+  column = number_if (is_builtin s (codes "column")) column;
   stringify = is_builtin s (codes "stringify");
   concat = is_builtin s (codes "concat");
 }
 
--- a text of trees, with what calls of macros that are built in become
-pub record IsText (t : State) (f : Forest) (text : List ℕ) : Type 0 where
-  pub line : ℕ
-  pub column : ℕ
-  pub indentation : ℕ
-  pub is_text : text ≡ text_of indentation (worded (builtins t line column) f)
-
 -- What replaces the bytes of a call: the text of what the tree becomes that the rules made, fitted to what is
--- beside it, with its locals told apart. Contexts up to the mark are of earlier calls.
+-- beside it, with its locals told apart, and with what calls of macros that are built in become. Contexts up to the
+-- mark are of earlier calls.
 pub record IsPartOf (e : Setting) (levels depth mark : ℕ) (c : Call) (tree : Forest) (s : State) (part : Part)
     (left : Forest) (t : State) : Type 0 where
   pub out : Forest
   pub placed : StandsFor (Becomes e levels depth) c.delimiter tree s out t
-  pub written : IsText t (told_apart t.contexts mark left out) part.text
+  pub indentation : ℕ
+  pub line : ℕ
+  pub column : ℕ
+  pub written : part.text
+      ≡ text_of indentation (worded (builtins t line column) (told_apart t.contexts mark left out))
   pub leaves : IsLeft c.rest left
   pub in_file : part.file ≡ c.start.file
   pub starts : part.start ≡ c.start.start

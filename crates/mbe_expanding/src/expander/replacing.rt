@@ -7,8 +7,10 @@ ghost use Rattle.mbe_tt.specs.Views.View.{trees};
 ghost use Rattle.mbe_calls.specs.Beside.{is_standard};
 ghost use Rattle.mbe_calls.specs.Replacements.{part_of};
 ghost use Rattle.mbe_calls.specs.Shown.{call_shown, defined_shown};
+ghost use Rattle.mbe_rust_text.specs.Writing as writing;
+ghost use Rattle.mbe_wording.specs.Wording as wording;
 ghost use Rattle.mbe_expanding.specs.Replacing as spec;
-ghost use Rattle.mbe_expanding.specs.Replacing.{Adds, IsExpanded, IsOfCall, IsPartOf, IsText, last_span};
+ghost use Rattle.mbe_expanding.specs.Replacing.{Adds, IsExpanded, IsOfCall, IsPartOf, last_span};
 ghost use Rattle.mbe_expanding.specs.Replacing.{NoneCalled, PartsOfArgument, PartsOfCall};
 ghost use Rattle.mbe_expanding.specs.Replacing.{PartsOfFile, PartsOfTree, PartsWithin};
 ghost use Rattle.mbe_expanding.specs.Replacing.{ShowsItems, item_shown, rules_shown, shown};
@@ -309,10 +311,12 @@ impl<A: Allocator + Copy> Expander<'_, A> {
         let written = builder.build();
         let apart = told_apart(self.alloc, &written, rest, self.contexts.as_slice(), mark)?;
         self.note_doubts(texts, apart.undecided.as_slice())?;
-        let text = self.text_at(texts, call.start, &apart.tree)?;
+        let (around, start) = (text_in(texts, call.start.file), call.start.start as usize);
+        let (place, indentation) = (place_of(around, start), indentation(around, start));
+        let text = self.text_at(&apart.tree, place, indentation)?;
         let replacement = Replacement {
             file: call.start.file,
-            start: call.start.start as usize,
+            start,
             end: end_of(call, rest),
             text,
         };
@@ -323,7 +327,10 @@ impl<A: Allocator + Copy> Expander<'_, A> {
     fn is_builtin(&self, name: &str) -> bool
         ensures { result ≡ spec.is_builtin (state_of self.now) name.now }
     {
-        self.scope.find(name, false).is_none()
+        match self.scope.find(name, false) {
+            Some(_) => false,
+            None => true,
+        }
     }
 
     // What calls of macros that are built in become, in the expansion of a call at that place.
@@ -331,26 +338,26 @@ impl<A: Allocator + Copy> Expander<'_, A> {
         ensures { result ≡ spec.builtins (state_of self.now) place.line place.column }
     {
         Builtins {
-            line: self.is_builtin("line").then_some(place.line),
-            column: self.is_builtin("column").then_some(place.column),
+            line: number_if(self.is_builtin("line"), place.line),
+            column: number_if(self.is_builtin("column"), place.column),
             stringify: self.is_builtin("stringify"),
             concat: self.is_builtin("concat"),
         }
     }
 
-    // The text of an expansion in place of a call that begins there.
+    // The text of an expansion in place of a call at that place, in a line with that indentation.
     fn text_at(
         &self,
-        texts: &[&str],
-        start: Span,
         tree: &TopSubtree<A>,
+        place: Place,
+        indentation: usize,
     ) -> Result<String<A>, AllocError>
-        ensures { IfOk result (λ s. IsText (state_of self.now) tree.now.1 (string_bytes s)) }
+        ensures { IfOk result (λ s. string_bytes s ≡ writing.text_of indentation
+            (wording.worded (spec.builtins (state_of self.now) place.line place.column)
+            tree.now.1)) }
     {
-        let (around, at) = (text_in(texts, start.file), start.start as usize);
-        let builtins = self.builtins(place_of(around, at));
-        let shown = worded(self.alloc, builtins, tree)?;
-        text_of(self.alloc, shown.iter().remaining(), indentation(around, at))
+        let shown = worded(self.alloc, self.builtins(place), tree)?;
+        text_of(self.alloc, shown.iter().remaining(), indentation)
     }
 
     // Notes where it isn't decided whether a name is what a macro binds, and where that is bound.
@@ -375,6 +382,12 @@ impl<A: Allocator + Copy> Expander<'_, A> {
         let message = format!(in self.alloc; "`{name}` is bound here")?;
         self.note(Level::Note, doubt.bound, message)
     }
+}
+
+fn number_if(is_builtin: bool, number: u32) -> Option<u32>
+    ensures { result ≡ spec.number_if is_builtin number }
+{
+    if is_builtin { Some(number) } else { None }
 }
 
 // What is written there.
