@@ -1,5 +1,5 @@
 -- What replaces the calls of a file.
-use Rattle.std.specs.Prelude.{◌≡◌, ◌-◌, ℕ, zero, suc, Bool, true, false, nat_lt, if◌then◌else◌, List, [], ◌∷◌, ◌++◌, length, Option, Some, None, option_map, unwrap_or}
+use Rattle.std.specs.Prelude.{◌≡◌, ◌-◌, ℕ, zero, suc, Bool, true, false, not, nat_lt, if◌then◌else◌, codes, List, [], ◌∷◌, ◌++◌, length, Option, Some, None, option_map, unwrap_or, is_some}
 use Rattle.std.specs.List.{list_any}
 use Rattle.std.specs.Str.{bytes_eq}
 use Rattle.mbe_tt.specs.declared.tt.Delimiter.{Delimiter}
@@ -15,7 +15,9 @@ use Rattle.mbe_expanding.specs.Becoming.{Becomes, StandsFor, after_group}
 use Rattle.mbe_expanding.specs.Calls.{Setting, State, Stays, IsReplaced, after_step}
 use Rattle.mbe_expanding.specs.Fitting.{IsLeft}
 use Rattle.mbe_renaming.specs.Contexts.{told_apart}
-use Rattle.mbe_expanding.specs.Scopes.{Scope, Definition as AMacro, placed, with_shown, with_left}
+use Rattle.mbe_expanding.specs.Scopes.{Scope, Definition as AMacro, placed, rules_found, with_shown, with_left}
+use Rattle.mbe_wording.specs.declared.wording.Builtins.{Builtins}
+use Rattle.mbe_wording.specs.Wording.{worded}
 
 -- ---- definitions of the file, which were read before
 
@@ -72,14 +74,35 @@ last_span c left =
     if nat_lt (flat_len left) (flat_len c.rest) then unwrap_or (option_map first_span (first c.rest)) c.delimiter.close
     else c.delimiter.close
 
+-- no macro of that name is found, so that it is the one that is built in
+abbrev pub is_builtin : State → List ℕ → Bool
+is_builtin s name = not (is_some (rules_found s.scope name false))
+
+abbrev pub number_if : Bool → ℕ → Option ℕ
+number_if true n = Some n
+number_if false n = None
+
+-- what calls of macros that are built in become, where the outermost call is at that line and column
+abbrev pub builtins : State → ℕ → ℕ → Builtins
+builtins s line column = record {
+  line = number_if (is_builtin s (codes "line")) line;
+  column = number_if (is_builtin s (codes "column")) column;
+  stringify = is_builtin s (codes "stringify");
+  concat = is_builtin s (codes "concat");
+}
+
 -- What replaces the bytes of a call: the text of what the tree becomes that the rules made, fitted to what is
--- beside it, with its locals told apart. Contexts up to the mark are of earlier calls.
+-- beside it, with its locals told apart, and with what calls of macros that are built in become. Contexts up to the
+-- mark are of earlier calls.
 pub record IsPartOf (e : Setting) (levels depth mark : ℕ) (c : Call) (tree : Forest) (s : State) (part : Part)
     (left : Forest) (t : State) : Type 0 where
   pub out : Forest
   pub placed : StandsFor (Becomes e levels depth) c.delimiter tree s out t
   pub indentation : ℕ
-  pub written : part.text ≡ text_of indentation (told_apart t.contexts mark left out)
+  pub line : ℕ
+  pub column : ℕ
+  pub written : part.text
+      ≡ text_of indentation (worded (builtins t line column) (told_apart t.contexts mark left out))
   pub leaves : IsLeft c.rest left
   pub in_file : part.file ≡ c.start.file
   pub starts : part.start ≡ c.start.start

@@ -9,6 +9,7 @@ use Rattle.mbe_semantics.specs.Expansion.Macro.{Macro}
 use Rattle.mbe_semantics.specs.Expansion.ReadAs.{IsReadAs, IsReadAsMacro}
 use Rattle.mbe_calls.specs.Fronts.{Form, Rules, Body, Arguments, Defined}
 use Rattle.mbe_renaming.specs.Contexts.{contexts_in}
+use Rattle.mbe_wording.specs.Typing.{typed, typed_rules}
 use Rattle.mbe_expanding.specs.declared.scope.Reach.{Reach}
 use Rattle.mbe_expanding.specs.declared.scope.Reach.TheVariants.{Text, Files, Paths}
 
@@ -35,11 +36,12 @@ definition_at s n = slice_get s.definitions n
 abbrev pub IsEdition : Edition → SyntaxContext → Edition → Type 0
 IsEdition edition context answer = answer ≡ edition
 
--- what a definition of a form is read as
+-- what a definition of a form is read as, with types in parentheses where their text would be read otherwise
 abbrev pub IsReadIn : Edition → Form → Defined → Macro → Type 0
-IsReadIn edition Rules d m = IsReadAs (IsEdition edition) d.rules m
-IsReadIn edition Body d m = IsReadAsMacro (IsEdition edition) None d.rules m
-IsReadIn edition (Arguments k pattern) d m = IsReadAsMacro (IsEdition edition) (Some pattern) d.rules m
+IsReadIn edition Rules d m = IsReadAs (IsEdition edition) (typed_rules d.rules) m
+IsReadIn edition Body d m = IsReadAsMacro (IsEdition edition) None (typed_rules d.rules) m
+IsReadIn edition (Arguments k pattern) d m =
+    IsReadAsMacro (IsEdition edition) (Some pattern) (typed pattern d.rules) m
 
 -- one definition more, which no name finds yet
 pub record IsRead (edition : Edition) (d : Defined) (reach : Reach) (before after : Scope) : Type 0 where

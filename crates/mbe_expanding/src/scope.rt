@@ -16,6 +16,7 @@ use mbe_calls::calls::{Defined, Form};
 use mbe_renaming::contexts::contexts_in;
 use mbe_tt::span::{Edition, Span};
 use mbe_tt::tt::{Delimiter, TokenTreesView, TopSubtree, TopSubtreeBuilder};
+use mbe_wording::typing::{typed_rules, typed_template};
 use std::alloc::{AllocError, Allocator, Global};
 
 /// What finds a definition.
@@ -118,11 +119,12 @@ fn rules_of<A: Allocator + Copy>(
     ensures { IfOk result (λ m. IsReadIn edition (form_shown defined.entry.form)
         (defined_shown defined.entry) (macro_of m)) }
 {
-    let body = buffer_of(alloc, defined.group.delimiter, defined.rules)?;
+    let (delimiter, rules) = (defined.group.delimiter, defined.rules);
     match defined.form {
-        Form::Rules => rules_in(alloc, edition, &body),
-        Form::Body => macro_in(alloc, edition, None, &body),
+        Form::Rules => rules_in(alloc, edition, &typed_rules(alloc, delimiter, rules)?),
+        Form::Body => macro_in(alloc, edition, None, &typed_rules(alloc, delimiter, rules)?),
         Form::Arguments(group, pattern) => {
+            let body = typed_template(alloc, delimiter, pattern, rules)?;
             let pattern = buffer_of(alloc, group.delimiter, pattern)?;
             macro_in(alloc, edition, Some(pattern), &body)
         }

@@ -10,6 +10,8 @@ mod conditions;
 #[cfg(test)]
 mod explained;
 #[cfg(test)]
+mod fragments;
+#[cfg(test)]
 mod linted;
 #[cfg(test)]
 mod modules;

@@ -7,6 +7,9 @@ ghost use Rattle.mbe_tt.specs.Views.View.{trees};
 ghost use Rattle.mbe_calls.specs.Beside.{is_standard};
 ghost use Rattle.mbe_calls.specs.Replacements.{part_of};
 ghost use Rattle.mbe_calls.specs.Shown.{call_shown, defined_shown};
+ghost use Rattle.mbe_rust_text.specs.Writing as writing;
+ghost use Rattle.mbe_wording.specs.Wording as wording;
+ghost use Rattle.mbe_expanding.specs.Replacing as spec;
 ghost use Rattle.mbe_expanding.specs.Replacing.{Adds, IsExpanded, IsOfCall, IsPartOf, last_span};
 ghost use Rattle.mbe_expanding.specs.Replacing.{NoneCalled, PartsOfArgument, PartsOfCall};
 ghost use Rattle.mbe_expanding.specs.Replacing.{PartsOfFile, PartsOfTree, PartsWithin};
@@ -22,6 +25,8 @@ use mbe_renaming::contexts::told_apart;
 use mbe_renaming::renaming::Doubt;
 use mbe_tt::span::Span;
 use mbe_tt::tt::{Delimiter, TokenTreesView, TopSubtree, TopSubtreeBuilder, TtElement};
+use mbe_wording::places::{Place, place_of};
+use mbe_wording::wording::{Builtins, worded};
 use std::alloc::{AllocError, Allocator};
 
 impl<A: Allocator + Copy> Expander<'_, A> {
@@ -283,8 +288,8 @@ impl<A: Allocator + Copy> Expander<'_, A> {
         self.replace_inside(replacements, texts, call.argument, Before::Other, levels)
     }
 
-    // An expansion as text in place of its call, with its locals told apart, and what is left after that. The first contexts, as many
-    // as `mark` says, are of earlier calls.
+    // An expansion as text in place of its call, with its locals told apart and calls of macros that are built in as they are there,
+    // and what is left after that. The first contexts, as many as `mark` says, are of earlier calls.
     fn replacement<'t>(
         &mut self,
         texts: &[&str],
@@ -306,13 +311,9 @@ impl<A: Allocator + Copy> Expander<'_, A> {
         let written = builder.build();
         let apart = told_apart(self.alloc, &written, rest, self.contexts.as_slice(), mark)?;
         self.note_doubts(texts, apart.undecided.as_slice())?;
-        let start = call.start.start as usize;
-        let around = text_in(texts, call.start.file);
-        let text = text_of(
-            self.alloc,
-            apart.tree.iter().remaining(),
-            indentation(around, start),
-        )?;
+        let (around, start) = (text_in(texts, call.start.file), call.start.start as usize);
+        let (place, indentation) = (place_of(around, start), indentation(around, start));
+        let text = self.text_at(&apart.tree, place, indentation)?;
         let replacement = Replacement {
             file: call.start.file,
             start,
@@ -320,6 +321,43 @@ impl<A: Allocator + Copy> Expander<'_, A> {
             text,
         };
         Ok((replacement, rest))
+    }
+
+    // Whether no macro of that name is found, so that it is the one that is built in.
+    fn is_builtin(&self, name: &str) -> bool
+        ensures { result ≡ spec.is_builtin (state_of self.now) name.now }
+    {
+        match self.scope.find(name, false) {
+            Some(_) => false,
+            None => true,
+        }
+    }
+
+    // What calls of macros that are built in become, in the expansion of a call at that place.
+    fn builtins(&self, place: Place) -> Builtins
+        ensures { result ≡ spec.builtins (state_of self.now) place.line place.column }
+    {
+        Builtins {
+            line: number_if(self.is_builtin("line"), place.line),
+            column: number_if(self.is_builtin("column"), place.column),
+            stringify: self.is_builtin("stringify"),
+            concat: self.is_builtin("concat"),
+        }
+    }
+
+    // The text of an expansion in place of a call at that place, in a line with that indentation.
+    fn text_at(
+        &self,
+        tree: &TopSubtree<A>,
+        place: Place,
+        indentation: usize,
+    ) -> Result<String<A>, AllocError>
+        ensures { IfOk result (λ s. string_bytes s ≡ writing.text_of indentation
+            (wording.worded (spec.builtins (state_of self.now) place.line place.column)
+            tree.now.1)) }
+    {
+        let shown = worded(self.alloc, self.builtins(place), tree)?;
+        text_of(self.alloc, shown.iter().remaining(), indentation)
     }
 
     // Notes where it isn't decided whether a name is what a macro binds, and where that is bound.
@@ -344,6 +382,12 @@ impl<A: Allocator + Copy> Expander<'_, A> {
         let message = format!(in self.alloc; "`{name}` is bound here")?;
         self.note(Level::Note, doubt.bound, message)
     }
+}
+
+fn number_if(is_builtin: bool, number: u32) -> Option<u32>
+    ensures { result ≡ spec.number_if is_builtin number }
+{
+    if is_builtin { Some(number) } else { None }
 }
 
 // What is written there.

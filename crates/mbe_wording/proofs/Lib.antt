@@ -1,0 +1,3 @@
+pub mod TypeLemmas
+pub mod WordLemmas
+pub mod WrittenLemmas
