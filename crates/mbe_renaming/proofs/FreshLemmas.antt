@@ -1,5 +1,5 @@
 -- The first name that isn't taken: one number more.
-use Rattle.std.proofs.Common.{◌≡◌, ℕ, suc, ◌+◌, ◌-◌, ◌<◌, ◌≤◌, ◌^◌, Bool, true, false, List, refl, ap, sym, ◌∙◌, arith}
+use Rattle.std.proofs.Common.{◌≡◌, ℕ, zero, suc, ◌+◌, ◌-◌, ◌<◌, ◌≤◌, ◌^◌, Bool, true, false, List, refl, ap, sym, subst, ◌∙◌, arith}
 use Rattle.mbe_renaming.specs.Naming.{numbered, first_free}
 
 taken_step : (taken : List ℕ → Bool) (text : List ℕ) (k n : ℕ) → taken (numbered text n) ≡ true
@@ -59,3 +59,16 @@ pub all_tried : (taken : List ℕ → Bool) (text all : List ℕ) (n : ℕ) → 
 all_tried taken text all n h w =
     let e : n ≡ 18446744073709551615 = omega (arith, h, w.most) in
     ap (numbered text) e ∙ sym (is_last taken text 18446744073709551615 n e) ∙ w.same
+
+-- ---- numbers that are taken already
+
+-- numbers that were tried before need not be again
+pub skips : (taken : List ℕ → Bool) (text all : List ℕ) (n : ℕ) → n < 2 ^ 64 - 1
+    → ((k : ℕ) → k < n → taken (numbered text (1 + k)) ≡ true)
+    → all ≡ first_free taken text (2 ^ 64 - 2) 1 → Trying taken text (1 + n) all
+skips taken text all zero h f e = begins taken text all e
+skips taken text all (suc n) h f e =
+    let earlier = skips taken text all n (omega (arith, h)) (λ k l. f k (omega (arith, l))) e in
+    let next = tried taken text (numbered text (1 + n)) all (1 + n) (omega (arith, h)) refl (f n (omega arith)) earlier in
+    let same : 1 + n + 1 ≡ 1 + suc n = omega arith in
+    subst (λ m. Trying taken text m all) same next

@@ -1,5 +1,5 @@
 -- Which locals and labels get names of their own, and which.
-use Rattle.std.specs.Prelude.{ℕ, zero, suc, ◌+◌, ◌-◌, ◌^◌, Bool, true, false, not, ◌==◌, ◌&&◌, ◌||◌, if◌then◌else◌, codes, decimal, List, [], ◌∷◌, ◌++◌, Option, Some, None}
+use Rattle.std.specs.Prelude.{◌≡◌, ◌<◌, ℕ, zero, suc, ◌+◌, ◌-◌, ◌^◌, Bool, true, false, not, ◌==◌, ◌&&◌, ◌||◌, if◌then◌else◌, codes, decimal, List, [], ◌∷◌, ◌++◌, Option, Some, None}
 use Rattle.std.specs.Str.{bytes_eq}
 use Rattle.mbe_tt.specs.Trees.Leaf.{Leaf, literal, punct, ident}
 use Rattle.mbe_tt.specs.declared.span.Span.{Span}
@@ -267,6 +267,11 @@ is_given (n ∷ ns) text = bytes_eq n.name text || is_given ns text
 abbrev pub is_taken : List Word → List (List ℕ) → List Naming → List ℕ → Bool
 is_taken ws names given text = is_word ws text || (is_text_among names text || is_given given text)
 
+-- how many of these locals had that name
+abbrev pub named : List Naming → List ℕ → ℕ
+named [] text = 0
+named (n ∷ ns) text = if bytes_eq n.local.text text then suc (named ns text) else named ns text
+
 -- `a_1`
 abbrev pub numbered : List ℕ → ℕ → List ℕ
 numbered text n = text ++ (codes "_" ++ decimal n)
@@ -280,6 +285,12 @@ first_free taken text (suc k) n =
 -- the first of `a_1`, `a_2` and so on that isn't taken
 unfoldable pub fresh : List Word → List (List ℕ) → List Naming → List ℕ → List ℕ
 fresh ws names given text = first_free (is_taken ws names given) text (2 ^ 64 - 2) 1
+
+-- Of each name, as many of its first numbers are taken as locals have had it.
+abbrev pub AreTaken : List Word → List (List ℕ) → List Naming → Type 0
+AreTaken ws names given =
+    (text : List ℕ) (n : ℕ) → n < named given text → n < 2 ^ 64 - 2
+    → is_taken ws names given (numbered text (1 + n)) ≡ true
 
 -- a local is renamed if its name is shared, and if each place where it may be is decided
 abbrev pub is_renamed : List Word → List (List ℕ) → Word → Bool

@@ -1,5 +1,5 @@
 // Which locals and labels get names of their own, and which.
-ghost use Rattle.std.specs.Prelude.{◌≡◌, ◌++◌, [], IfOk, OnOk, map, option_map};
+ghost use Rattle.std.specs.Prelude.{◌≡◌, ◌≤◌, ◌++◌, [], IfOk, OnOk, length, map, option_map};
 ghost use Rattle.mbe_tt.specs.Trees.Leaf as tree;
 ghost use Rattle.mbe_tt.specs.Views.Shown.{leaf_of, literal_of};
 ghost use Rattle.mbe_renaming.specs.Shown.{step_of, word_of, naming_of};
@@ -577,8 +577,21 @@ fn numbered<A: Allocator + Copy>(alloc: A, text: &str, number: u64) -> Result<Sy
     Symbol::intern(alloc, name.as_str())
 }
 
-// The first of `a_1`, `a_2` and so on that isn't taken.
-#[tactic(auto, using(crate::proofs::FreshLemmas::begins), unfolding(crate::specs::Naming::fresh))]
+// How many of these locals had that name.
+fn named<A: Allocator>(given: &[Naming<'_, A>], text: &str) -> u64
+    ensures count { result ≡ spec.named (map naming_of given.now) text.now }
+    ensures few { result ≤ length given.now }
+{
+    let mut count = 0u64;
+    for one in given {
+        if one.local.text == text {
+            count += 1;
+        }
+    }
+    count
+}
+
+// The first of `a_1`, `a_2` and so on that isn't taken. As many as locals had the name before are, so these aren't looked at again.
 fn fresh<A: Allocator + Copy>(
     alloc: A,
     words: &[Word<'_>],
@@ -586,10 +599,11 @@ fn fresh<A: Allocator + Copy>(
     given: &[Naming<'_, A>],
     text: &str,
 ) -> Result<Symbol<A>, AllocError>
+    requires taken { spec.AreTaken (map word_of words.now) names.now (map naming_of given.now) }
     ensures { IfOk result (λ s. s ≡ spec.fresh (map word_of words.now) names.now
         (map naming_of given.now) text.now) }
 {
-    let mut number = 1u64;
+    let mut number = 1 + named(given, text);
     'numbers: while number < u64::MAX {
         let name = numbered(alloc, text, number)?;
         if is_taken(words, names, given, name.as_str()) {
@@ -614,8 +628,11 @@ fn push_name<'t, A: Allocator + Copy>(
     names: &[Symbol<A>],
     local: Word<'t>,
 ) -> Result<(), AllocError>
-    ensures { OnOk result (map naming_of given.new.items ≡ spec.with_name (map word_of words.now)
-        names.now (map naming_of given.old.items) (word_of local.entry)) }
+    requires taken { spec.AreTaken (map word_of words.now) names.now (map naming_of given.now.items) }
+    ensures given { OnOk result (map naming_of given.new.items ≡ spec.with_name
+        (map word_of words.now) names.now (map naming_of given.old.items) (word_of local.entry)) }
+    ensures taken { OnOk result (spec.AreTaken (map word_of words.now) names.now
+        (map naming_of given.new.items)) }
 {
     if is_renamed(words, names, local) {
         let name = fresh(alloc, words, names, given.as_slice(), local.text)?;

@@ -1,9 +1,15 @@
-use Rattle.std.proofs.Common.{ap, sym, ◌∙◌, map}
+use Rattle.std.proofs.Common.{ap, sym, ◌∙◌, map, arith}
 use Rattle.std.proofs.lemmas.Result.{IfOk-weaker}
 use Rattle.mbe_renaming.specs.Naming.{is_taken}
 use Rattle.mbe_renaming.specs.Shown.{word_of, naming_of}
 use Rattle.mbe_renaming.proofs.FreshLemmas.{tried, found, all_tried}
+use Rattle.mbe_renaming.proofs.TakenLemmas.{begins_after}
 use Rattle.mbe_renaming.proofs.naming.fresh.Goals as goal
+
+pub numbers-init : goal.numbers-init
+numbers-init g c =
+    begins_after (map word_of c.args.words.now) c.args.names.now (map naming_of c.args.given.now) c.args.text.now
+    c.named-number.result c.requires.taken c.named-number.ensures.count (omega (arith, c.named-number.ensures.few))
 
 pub numbers-preserved : goal.numbers-preserved
 numbers-preserved g c =

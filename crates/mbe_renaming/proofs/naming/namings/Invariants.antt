@@ -5,6 +5,7 @@ use Rattle.mbe_renaming.proofs.naming.namings.Given as goal
 
 abbrev pub invariant-loop-local : goal.invariant-loop-local
 invariant-loop-local g l =
-    spec.names_from (map word_of l.words) l.names (map naming_of l.given.items)
+    (spec.names_from (map word_of l.words) l.names (map naming_of l.given.items)
     (map word_of (drop l.local-index l.locals))
-    ≡ spec.names_from (map word_of l.words) l.names [] (map word_of l.locals)
+    ≡ spec.names_from (map word_of l.words) l.names [] (map word_of l.locals))
+    × spec.AreTaken (map word_of l.words) l.names (map naming_of l.given.items)
