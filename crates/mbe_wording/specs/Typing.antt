@@ -65,15 +65,16 @@ type_at pattern l rest = if is_char_leaf 36 l then type_name pattern rest else N
 -- a variable in parentheses that are where its `$` is
 abbrev pub in_parentheses : Leaf → Leaf → Forest
 in_parentheses dollar name =
-    group (record { opening = span_of dollar; close = span_of dollar; kind = Parenthesis }) (leaf dollar (one_leaf name)) none
+    group (record { opening = span_of dollar; close = span_of dollar; kind = Parenthesis })
+    (leaf dollar (one_leaf name)) none
 
 -- what a leaf becomes with the name of a type after it, if one is there
 abbrev pub kept : Leaf → Option Leaf → Forest
 kept l None = one_leaf l
 kept l (Some name) = in_parentheses l name
 
--- the trees of a template with that pattern, where the first one is perhaps written already, and what groups hold by that
--- function
+-- the trees of a template with that pattern, where the first one is perhaps written already, and what groups hold by
+-- that function
 abbrev pub typed_by : (Forest → Forest) → Forest → Bool → Forest → Forest
 typed_by inner pattern is_written none = none
 typed_by inner pattern true (leaf l rest) = typed_by inner pattern false rest

@@ -1,5 +1,5 @@
--- Calls of macros that are built in, which rustc expands in an expansion: `line!()` and `column!()` are the place of the
--- outermost call, and `stringify!` and `concat!` see no parentheses of a fragment.
+-- Calls of macros that are built in, which rustc expands in an expansion: `line!()` and `column!()` are the place of
+-- the outermost call, and `stringify!` and `concat!` see no parentheses of a fragment.
 use Rattle.std.specs.Prelude.{ℕ, zero, suc, Bool, true, false, not, ◌&&◌, ◌==◌, if◌then◌else◌, codes, List, ◌∷◌, ◌++◌, Option, Some, None}
 use Rattle.std.specs.Fmt.{decimal}
 use Rattle.mbe_tt.specs.Buffers.Building.{Levels, closed}

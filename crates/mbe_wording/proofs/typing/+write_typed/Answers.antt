@@ -25,7 +25,8 @@ trees-init g t c =
     let some : 0 < c.args.levels = omega (arith, not_zero) in
     subst (λ f. Left whole c.args.builder.now (left_of pattern c.args.levels false f) c.args.builder.now)
     (sym c.iter-rest.ensures)
-    (begins whole (left_of pattern c.args.levels false all) c.args.builder.now (all_left pattern c.args.levels all some))
+    (begins whole (left_of pattern c.args.levels false all) c.args.builder.now
+    (all_left pattern c.args.levels all some))
 
 pub trees-preserved-in-Leaf : goal.trees-preserved-in-Leaf
 trees-preserved-in-Leaf g t c =

@@ -27,7 +27,8 @@ trees-init g t c =
     let some : 0 < c.args.levels = omega (arith, not_zero) in
     subst (λ f. Left whole c.args.builder.now (left_of b c.args.levels m 0 before.Other f) c.args.builder.now)
     (sym c.iter-rest.ensures)
-    (begins whole (left_of b c.args.levels m 0 before.Other all) c.args.builder.now (all_left b c.args.levels m all some))
+    (begins whole (left_of b c.args.levels m 0 before.Other all) c.args.builder.now
+    (all_left b c.args.levels m all some))
 
 pub trees-preserved-in-Leaf : goal.trees-preserved-in-Leaf
 trees-preserved-in-Leaf g t c =
