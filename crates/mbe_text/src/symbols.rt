@@ -1,5 +1,5 @@
 // The symbols of many texts, where equal texts are kept once.
-ghost use Rattle.std.specs.Prelude.{◌≡◌, IfOk, IfSome};
+ghost use Rattle.std.specs.Prelude.{◌≡◌, IfOk, IfSome, IsTrue};
 
 use mbe_tt::symbol::Symbol;
 use std::alloc::{AllocError, Allocator, Global};
@@ -19,6 +19,16 @@ const FIRST_SLOTS: usize = 64;
 struct Slot {
     hash: u32,
     number: u32,
+}
+
+impl Slot {
+    // Whether this text, which has that hash, is the slot's symbol. Most others are told apart by their hashes alone.
+    #[inline(always)]
+    fn keeps<A: Allocator>(self, symbol: &Symbol<A>, hash: u32, text: &str) -> bool
+        ensures { IsTrue result → symbol.now ≡ text.now }
+    {
+        self.hash == hash && symbol.as_str() == text
+    }
 }
 
 /// The symbols made so far. Equal texts that one table is asked for share their memory, as a rule: which of them do isn't
@@ -60,14 +70,28 @@ impl<A: Allocator + Copy> SymbolTable<A> {
         self.add(hash, text)
     }
 
-    // The symbol of a text with this hash, if the table finds one.
+    // The symbol of a text with this hash, if the table finds one. Nearly all are in the first slot where they are looked for.
+    #[inline(always)]
     fn find(&self, hash: u32, text: &str) -> Option<&Symbol<A>>
         ensures { IfSome result (λ s. s.now ≡ text.now) }
     {
-        'slots: for step in 0..TRIES {
+        let slot = self.slots.get(position(hash, 0, self.slots.len()))?;
+        let symbol = self.symbols.get(slot.number as usize)?;
+        if slot.keeps(symbol, hash, text) {
+            return Some(symbol);
+        }
+        self.find_further(hash, text)
+    }
+
+    // The same, in the slots after the first.
+    #[inline(never)]
+    fn find_further(&self, hash: u32, text: &str) -> Option<&Symbol<A>>
+        ensures { IfSome result (λ s. s.now ≡ text.now) }
+    {
+        'slots: for step in 1..TRIES {
             let slot = self.slots.get(position(hash, step, self.slots.len()))?;
             let symbol = self.symbols.get(slot.number as usize)?;
-            if slot.hash == hash && symbol.as_str() == text {
+            if slot.keeps(symbol, hash, text) {
                 return Some(symbol);
             }
         }
@@ -75,6 +99,7 @@ impl<A: Allocator + Copy> SymbolTable<A> {
     }
 
     // A new symbol of a text with this hash, which the table keeps where it finds a slot for it.
+    #[inline(never)]
     fn add(&mut self, hash: u32, text: &str) -> Result<Symbol<A>, AllocError>
         ensures { IfOk result (λ s. s ≡ text.now) }
     {
