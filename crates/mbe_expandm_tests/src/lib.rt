@@ -14,6 +14,8 @@ mod linted;
 #[cfg(test)]
 mod modules;
 #[cfg(test)]
+mod outside;
+#[cfg(test)]
 mod places;
 #[cfg(test)]
 mod programs;
