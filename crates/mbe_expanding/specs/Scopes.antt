@@ -70,17 +70,23 @@ pub record IsRead (edition : Edition) (d : Defined) (reach : Reach) (before afte
 abbrev pub is_within : ℕ → Outside → Bool
 is_within n c = nat_le c.first n && nat_lt n c.end
 
+abbrev pub is_named : List ℕ → ℕ → Outside → Bool
+is_named name n c = bytes_eq c.name name && is_within n c
+
+abbrev pub is_around : ℕ → ℕ → Outside → Bool
+is_around m n c = is_within m c && is_within n c
+
 -- whether that definition is another crate's
 abbrev pub is_outside : List Outside → ℕ → Bool
 is_outside crates n = list_any (is_within n) crates
 
 -- whether it is one of the crate of that name
 abbrev pub is_from : List ℕ → List Outside → ℕ → Bool
-is_from crate crates n = list_any (λ (c : Outside). bytes_eq c.name crate && is_within n c) crates
+is_from crate crates n = list_any (is_named crate n) crates
 
 -- whether two are of one crate
 abbrev pub is_beside : ℕ → List Outside → ℕ → Bool
-is_beside m crates n = list_any (λ (c : Outside). is_within m c && is_within n c) crates
+is_beside m crates n = list_any (is_around m n) crates
 
 -- of which definitions one is looked for: of those that are no other crate's, of those of all other crates, of the one
 -- of that name, or of all but the one that a definition is of

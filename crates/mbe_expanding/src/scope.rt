@@ -1,6 +1,6 @@
 // Which definition a call names.
 ghost use Rattle.std.specs.Prelude.{◌≡◌, ◌∷◌, [], length, IfOk, OnOk, option_map, false};
-ghost use Rattle.std.specs.List.{slice_get};
+ghost use Rattle.std.specs.List.{list_any, slice_get};
 ghost use Rattle.mbe_tt.specs.Views.View.{trees};
 ghost use Rattle.mbe.specs.MacroViews.{macro_of};
 ghost use Rattle.mbe_calls.specs.Shown.{call_shown, defined_shown, form_shown};
@@ -75,6 +75,41 @@ impl<A: Allocator> Outside<A> {
     {
         self.first <= number && number < self.end
     }
+
+    // Whether it is one of its own, and it has that name.
+    fn is_named(&self, name: &str, number: usize) -> bool
+        ensures { result ≡ spec.is_named name.now number (outside_of self.now) }
+    {
+        self.name.as_str() == name && self.is_within(number)
+    }
+
+    // Whether two are its own.
+    fn is_around(&self, other: usize, number: usize) -> bool
+        ensures { result ≡ spec.is_around other number (outside_of self.now) }
+    {
+        self.is_within(other) && self.is_within(number)
+    }
+}
+
+// Whether the definition of that number is one of these crates'.
+fn is_in_some<A: Allocator>(crates: &[Outside<A>], number: usize) -> bool
+    ensures { result ≡ list_any (λ c. spec.is_within number (outside_of c)) crates.now }
+{
+    crates.iter().any(|one| one.is_within(number))
+}
+
+// Whether it is one of the crate of that name.
+fn is_in_named<A: Allocator>(crates: &[Outside<A>], name: &str, number: usize) -> bool
+    ensures { result ≡ list_any (λ c. spec.is_named name.now number (outside_of c)) crates.now }
+{
+    crates.iter().any(|one| one.is_named(name, number))
+}
+
+// Whether two are of one of these crates.
+fn are_in_one<A: Allocator>(crates: &[Outside<A>], other: usize, number: usize) -> bool
+    ensures { result ≡ list_any (λ c. spec.is_around other number (outside_of c)) crates.now }
+{
+    crates.iter().any(|one| one.is_around(other, number))
 }
 
 /// Of which definitions one is looked for.
@@ -300,25 +335,21 @@ impl<A: Allocator + Copy> Scope<A> {
     fn is_outside(&self, number: usize) -> bool
         ensures { result ≡ spec.is_outside (scope_of self.now).crates number }
     {
-        self.crates.iter().any(|one| one.is_within(number))
+        is_in_some(self.crates.as_slice(), number)
     }
 
     // Whether it is one of the crate of that name.
     fn is_from(&self, name: &str, number: usize) -> bool
         ensures { result ≡ spec.is_from name.now (scope_of self.now).crates number }
     {
-        self.crates
-            .iter()
-            .any(|one| one.name.as_str() == name && one.is_within(number))
+        is_in_named(self.crates.as_slice(), name, number)
     }
 
     // Whether it is of the same crate as that other one.
     fn is_beside(&self, other: usize, number: usize) -> bool
         ensures { result ≡ spec.is_beside other (scope_of self.now).crates number }
     {
-        self.crates
-            .iter()
-            .any(|one| one.is_within(other) && one.is_within(number))
+        are_in_one(self.crates.as_slice(), other, number)
     }
 
     // Whether one is looked for among definitions of which it is one.
