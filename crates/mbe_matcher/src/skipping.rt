@@ -77,7 +77,7 @@ fn skip_op<A: Allocator + Copy>(
 
 // How many dots there are in the ops. `None` if no `usize` holds the number.
 #[cycle(counting)]
-pub(crate) fn dots_of<A: Allocator>(ops: &[Op<A>]) -> Option<usize>
+pub fn dots_of<A: Allocator>(ops: &[Op<A>]) -> Option<usize>
     ensures { IfSome result (λ n. n ≡ dots (ops_of ops.now)) }
 {
     let mut count = 1usize;
@@ -92,7 +92,7 @@ pub(crate) fn dots_of<A: Allocator>(ops: &[Op<A>]) -> Option<usize>
 
 #[cycle(counting)]
 #[tactic(auto, using(mbe_ops::proofs::OpViews::views))]
-fn op_dots_of<A: Allocator>(op: &Op<A>) -> Option<usize>
+pub fn op_dots_of<A: Allocator>(op: &Op<A>) -> Option<usize>
     ensures { IfSome result (λ n. n ≡ op_dots (op_of op.now)) }
 {
     match op {
