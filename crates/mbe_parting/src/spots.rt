@@ -1,46 +1,14 @@
 // The dots of a pattern, in order, each with what is there. The number of a dot says how many follow it, itself counted.
-ghost use Rattle.std.specs.Prelude.{◌≡◌, ◌++◌, map, IfOk, OnOk, IfSome};
-ghost use Rattle.mbe_semantics.specs.Matching.Dots.{dots, op_dots};
+ghost use Rattle.std.specs.Prelude.{◌≡◌, ◌++◌, map, IfOk, OnOk};
 ghost use Rattle.mbe_ops.specs.Views.{op_of, ops_of, template_of};
 ghost use Rattle.mbe_parting.specs.Spots.{ending, spots, spots_of_op};
 ghost use Rattle.mbe_parting.specs.Code.{spot_seen};
 
 use crate::spot::Spot;
+use mbe_matcher::skipping::op_dots_of;
 use mbe_ops::ops::{MetaTemplate, Op};
 use mbe_ops::walk::{OpDelimited, OpDelimitedIter};
 use std::alloc::{AllocError, Allocator};
-
-// How many dots there are in the ops. `None` if no `usize` holds the number.
-#[cycle(counting)]
-fn dots_of<A: Allocator>(ops: &[Op<A>]) -> Option<usize>
-    ensures { IfSome result (λ n. n ≡ dots (ops_of ops.now)) }
-{
-    let mut count = 1usize;
-    for stop in OpDelimitedIter::new(ops) {
-        count = match stop {
-            OpDelimited::Op(op) => count.checked_add(1)?.checked_add(op_dots_of(op)?)?,
-            OpDelimited::Open(_) | OpDelimited::Close(_) => count,
-        };
-    }
-    Some(count)
-}
-
-#[cycle(counting)]
-#[tactic(auto, using(mbe_ops::proofs::OpViews::views))]
-fn op_dots_of<A: Allocator>(op: &Op<A>) -> Option<usize>
-    ensures { IfSome result (λ n. n ≡ op_dots (op_of op.now)) }
-{
-    match op {
-        Op::Subtree { tokens, .. } => dots_of(&tokens.0),
-        Op::Repeat { tokens, .. } => dots_of(&tokens.0),
-        Op::Var { .. } | Op::Literal(_) | Op::Ident(_) | Op::Punct(_) => Some(0),
-        Op::Ignore { .. }
-        | Op::Index { .. }
-        | Op::Len { .. }
-        | Op::Count { .. }
-        | Op::Concat { .. } => Some(0),
-    }
-}
 
 // Those of ops, at whose end this is.
 #[cycle(spotting)]
