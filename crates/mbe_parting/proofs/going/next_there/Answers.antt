@@ -6,8 +6,9 @@ use Rattle.mbe_matcher.specs.Wanted.{Wanted, wanted_seen}
 use Rattle.mbe_parting.specs.Going.{first_some}
 use Rattle.mbe_parting.proofs.GoingSteps.{rest_from, one-dot-on}
 use Rattle.mbe_parting.proofs.going.next_there.Goals as goal
+use Rattle.mbe_parting.proofs.going.next_there.Goals.{After-next_at}
 
-module _ (g : _) (c : goal.After-next_at g) where
+module _ (g : _) (c : After-next_at g) where
   -- what is next from a dot on
   abbrev from : ℕ → Option Wanted
   from =

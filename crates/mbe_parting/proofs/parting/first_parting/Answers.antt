@@ -2,9 +2,10 @@ use Rattle.std.proofs.Common.{◌≡◌, ap, sym, ◌∙◌}
 use Rattle.mbe_parting.specs.Graph.{first_parting}
 use Rattle.mbe_parting.proofs.Whole.{none-parts, first-parted, none-before-first}
 use Rattle.mbe_parting.proofs.parting.first_parting.Goals as goal
+use Rattle.mbe_parting.proofs.parting.first_parting.Goals.{After-first_parting}
 
 -- what was found is the graph's
-found : (g : _) (c : goal.After-first_parting g) → first_parting c.in_ok-graph.graph.reached.items
+found : (g : _) (c : After-first_parting g) → first_parting c.in_ok-graph.graph.reached.items
     c.in_ok-graph.graph.live.items c.in_ok-graph.graph.steps.items ≡ c.first_parting.result
 found g c =
     let x = c.in_ok-graph.graph in

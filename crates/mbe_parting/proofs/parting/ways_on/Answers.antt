@@ -10,7 +10,7 @@ use Rattle.mbe_parting.specs.Going.{staying, IsWayOn}
 use Rattle.mbe_parting.proofs.GoingLemmas.{PartSome}
 use Rattle.mbe_parting.proofs.Whole.{parted-by, step-inside, some-both}
 use Rattle.mbe_parting.proofs.parting.ways_on.Goals as goal
-use Rattle.mbe_parting.proofs.parting.ways_on.Goals.{in_default-2-via-in-Some+in_default, in_default-2-via-in_default}
+use Rattle.mbe_parting.proofs.parting.ways_on.Goals.{In_ok-other, in_default-2-via-in-Some+in_default, in_default-2-via-in_default}
 
 pub way_on-requires-clause-place : goal.way_on-requires-clause-place
 way_on-requires-clause-place g c =
@@ -23,7 +23,7 @@ way_on-requires-2-clause-place g c =
     c.requires.step
 
 -- two readings go on by these two
-parted : (g : _) (c : goal.In_ok-other g) → PartSome
+parted : (g : _) (c : In_ok-other g) → PartSome
     (input_of (g.G.FragmentGrammar.grammar c.args.grammar.now) (trees c.args.graph.now.argument))
     (template_of c.args.graph.now.pattern.now) (flat_len (trees c.args.graph.now.argument)) c.args.step.place
     (option_map wanted_seen c.in_ok-one.one) (option_map wanted_seen c.in_ok-other.other)

@@ -10,14 +10,15 @@ use Rattle.mbe_parting.specs.Spots.{Spot, before, inside_of, spots, spots_of_op}
 use Rattle.mbe_parting.specs.Code.{spot_seen}
 use Rattle.mbe_parting.proofs.Spotting.{pushed-more, pushed-op, pushed-end, spots_in, op-spots, inside-lighter}
 use Rattle.mbe_parting.proofs.spots.+spotting.Goals as goal
+use Rattle.mbe_parting.proofs.spots.+spotting.Goals.{push_op-In_ok-push}
 
 -- how many dots there are in the op
-counted : (g : _) (t : ℕ) (c : goal.push_op-In_ok-push g t) → c.in_ok-dots.dots ≡ op_dots (op_of c.args.op.now)
+counted : (g : _) (t : ℕ) (c : push_op-In_ok-push g t) → c.in_ok-dots.dots ≡ op_dots (op_of c.args.op.now)
 counted g t c =
     subst (λ r. IfSome r (λ n. n ≡ op_dots (op_of c.args.op.now))) c.in_ok-dots.ensures.ok_part c.op_dots_of.ensures
 
 -- the one before it, and what is in it
-pushed : (g : _) (t : ℕ) (c : goal.push_op-In_ok-push g t) (inside : List Spot) → inside ≡ spots_in (inside_of (op_of c.args.op.now))
+pushed : (g : _) (t : ℕ) (c : push_op-In_ok-push g t) (inside : List Spot) → inside ≡ spots_in (inside_of (op_of c.args.op.now))
     → map spot_seen c.push.new.self.items ++ inside
     ≡ map spot_seen c.args.all.now.items ++ spots_of_op (op_of c.args.op.now)
 pushed g t c inside e =
