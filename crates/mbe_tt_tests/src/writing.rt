@@ -38,21 +38,47 @@ pub fn ident<A: Allocator + Copy>(alloc: A, text: &str) -> Result<Leaf<A>, Alloc
     }))
 }
 
-pub fn punct<A: Allocator>(char: char, spacing: Spacing) -> Leaf<A> {
+// A punct is joint where `_` is after it.
+fn punct<A: Allocator>(char: char, spacing: &str) -> Leaf<A> {
     Leaf::Punct(Punct {
         char,
-        spacing,
+        spacing: if spacing == "_" {
+            Spacing::Joint
+        } else {
+            Spacing::Alone
+        },
         span: span(4),
     })
 }
 
-pub fn literal<A: Allocator + Copy>(alloc: A, text: &str) -> Result<Leaf<A>, AllocError> {
+fn literal<A: Allocator + Copy>(alloc: A, text: &str) -> Result<Leaf<A>, AllocError> {
     Ok(Leaf::Literal(Literal {
         text_and_suffix: Symbol::intern(alloc, text)?,
         suffix_len: 0,
         kind: LitKind::Str,
         span: span(5),
     }))
+}
+
+/// The first char of a text, a blank where there is none, and what is after it.
+pub fn first_and_rest(text: &str) -> (char, &str) {
+    let mut chars = text.chars();
+    let first = chars.next().unwrap_or(' ');
+    (first, chars.as_str())
+}
+
+/// The leaf of a row: a word, a text after a `"`, or a punct, after a `\` or where the char is no letter.
+pub fn leaf<A: Allocator + Copy>(alloc: A, part: &str) -> Result<Leaf<A>, AllocError> {
+    let (first, rest) = first_and_rest(part);
+    match first {
+        '"' => literal(alloc, rest),
+        '\\' => {
+            let (char, spacing) = first_and_rest(rest);
+            Ok(punct(char, spacing))
+        }
+        _ if first == '_' || first.is_ascii_alphabetic() => ident(alloc, part),
+        _ => Ok(punct(first, rest)),
+    }
 }
 
 /// Consumes that many flat tokens, where the place after them is in no group of what is left. It says whether it did.

@@ -1,188 +1,74 @@
-use crate::calls::{Book, Call, What, built, make, names, new_book};
+use crate::calls::{Book, built, make, names, new_book};
 use mbe_log::log::{BindingLog, Handle};
 use mbe_tt::span::{DelimSpan, Span};
 use mbe_tt::symbol::Symbol;
 use mbe_tt::tt::TopSubtree;
 use std::alloc::{AllocError, Global};
+use test_rows::{Fields, Rows, Wrong, each, holds, number, rows};
 
 // Calls, a handle, its two numbers of entries after them, and what it binds three names to.
-struct Row {
-    calls: &'static [Call],
-    handle: usize,
-    entries: (usize, usize),
-    binds: &'static str,
-}
-
-static ROWS: [Row; 11] = [
-    Row {
-        calls: &[Call::Alloc],
-        handle: 0,
-        entries: (0, 0),
-        binds: "...",
-    },
-    Row {
-        calls: &[
-            Call::Alloc,
-            Call::Push(0, What::Tree, 0),
-            Call::Push(0, What::Tree, 1),
-            Call::Push(0, What::Tree, 2),
-        ],
-        handle: 0,
-        entries: (3, 0),
-        binds: "eee",
-    },
-    Row {
-        calls: &[
-            Call::Alloc,
-            Call::Push(0, What::Tree, 0),
-            Call::Push(0, What::Tree, 1),
-            Call::Push(0, What::Tree, 2),
-            Call::Default(0),
-        ],
-        handle: 0,
-        entries: (0, 1),
-        binds: "...",
-    },
+const ROWS: &str = rows![
+    ("alloc", 0, 0, 0, "..."),
+    ("alloc, tree 0 0, tree 0 1, tree 0 2", 0, 3, 0, "eee"),
+    ("alloc, tree 0 0, tree 0 1, tree 0 2, default 0", 0, 0, 1, "..."),
     // A round that doesn't bind a name leaves an empty list; what the child binds later isn't seen.
-    Row {
-        calls: &[
-            Call::Alloc,
-            Call::Alloc,
-            Call::Push(0, What::Tree, 0),
-            Call::Default(0),
-            Call::Push(0, What::Tree, 1),
-            Call::Nested(1, 0),
-            Call::Push(0, What::Tree, 2),
-        ],
-        handle: 1,
-        entries: (1, 0),
-        binds: "[e][[]e].",
-    },
-    Row {
-        calls: &[
-            Call::Alloc,
-            Call::Push(0, What::Tree, 0),
-            Call::Push(0, What::Nothing, 1),
-            Call::Push(0, What::Missing, 2),
-        ],
-        handle: 0,
-        entries: (3, 0),
-        binds: "eo?",
-    },
+    ("alloc, alloc, tree 0 0, default 0, tree 0 1, nested 1 0, tree 0 2", 1, 1, 0, "[e][[]e]."),
+    ("alloc, tree 0 0, optional 0 1, missing 0 2", 0, 3, 0, "eo?"),
     // A later command replaces.
-    Row {
-        calls: &[
-            Call::Alloc,
-            Call::Push(0, What::Tree, 0),
-            Call::Push(0, What::Skipped, 0),
-        ],
-        handle: 0,
-        entries: (2, 0),
-        binds: "-..",
-    },
+    ("alloc, tree 0 0, skipped 0 0", 0, 2, 0, "-.."),
     // Rounds leave a value that is no list.
-    Row {
-        calls: &[
-            Call::Alloc,
-            Call::Alloc,
-            Call::Push(0, What::Tree, 0),
-            Call::Push(1, What::Skipped, 0),
-            Call::Nested(1, 0),
-        ],
-        handle: 1,
-        entries: (2, 0),
-        binds: "-..",
-    },
+    ("alloc, alloc, tree 0 0, skipped 1 0, nested 1 0", 1, 2, 0, "-.."),
     // Rounds are appended to rounds.
-    Row {
-        calls: &[
-            Call::Alloc,
-            Call::Alloc,
-            Call::Push(0, What::Tree, 0),
-            Call::Nested(1, 0),
-            Call::Push(0, What::Skipped, 0),
-            Call::Nested(1, 0),
-        ],
-        handle: 1,
-        entries: (2, 0),
-        binds: "[e-]..",
-    },
+    ("alloc, alloc, tree 0 0, nested 1 0, skipped 0 0, nested 1 0", 1, 2, 0, "[e-].."),
     // A copy doesn't see what is pushed to the other later.
-    Row {
-        calls: &[
-            Call::Alloc,
-            Call::Push(0, What::Tree, 0),
-            Call::Copy(0),
-            Call::Push(0, What::Tree, 1),
-            Call::Copy(1),
-            Call::Push(2, What::Nothing, 2),
-            Call::Push(1, What::Skipped, 2),
-        ],
-        handle: 2,
-        entries: (2, 0),
-        binds: "e.o",
-    },
-    Row {
-        calls: &[
-            Call::Alloc,
-            Call::Push(0, What::Tree, 0),
-            Call::Copy(0),
-            Call::Push(1, What::Tree, 1),
-        ],
-        handle: 0,
-        entries: (1, 0),
-        binds: "e..",
-    },
+    ("alloc, tree 0 0, copy 0, tree 0 1, copy 1, optional 2 2, skipped 1 2", 2, 2, 0, "e.o"),
+    ("alloc, tree 0 0, copy 0, tree 1 1", 0, 1, 0, "e.."),
     // Rounds within rounds.
-    Row {
-        calls: &[
-            Call::Alloc,
-            Call::Alloc,
-            Call::Alloc,
-            Call::Push(0, What::Tree, 0),
-            Call::Default(0),
-            Call::Push(0, What::Nothing, 0),
-            Call::Nested(1, 0),
-            Call::Default(1),
-            Call::Push(1, What::Skipped, 0),
-            Call::Nested(2, 1),
-        ],
-        handle: 2,
-        entries: (1, 0),
-        binds: "[[eo]-]..",
-    },
+    ("alloc, alloc, alloc, tree 0 0, default 0, optional 0 0, nested 1 0, default 1, skipped 1 0, nested 2 1", 2, 1, 0, "[[eo]-].."),
 ];
 
-// Whether the row's handle has the numbers and binds what the row says.
+// Whether the handle has such numbers of entries and binds that.
 fn is_bound(
     alloc: Global,
     book: &Book<'_>,
     names: &[Symbol],
-    row: &Row,
+    handle: usize,
+    (entries, binds): ((usize, usize), &str),
 ) -> Result<bool, AllocError> {
-    let Some(handle) = book.handles.get(row.handle) else {
+    let Some(handle) = book.handles.get(handle) else {
         return Ok(false);
     };
-    if !book.log.has_entries_of(handle) || book.log.entries_of(handle) != row.entries {
+    if !book.log.has_entries_of(handle) || book.log.entries_of(handle) != entries {
         return Ok(false);
     }
-    Ok(built(alloc, &book.log, handle, names)?.as_str() == row.binds)
+    Ok(built(alloc, &book.log, handle, names)?.as_str() == binds)
 }
 
-// The same after the row's calls.
-fn is_so(alloc: Global, row: &Row) -> Result<bool, AllocError> {
-    let tree = TopSubtree::empty(alloc, DelimSpan::from_single(Span::default()))?;
-    let names = names(alloc, 3)?;
-    let mut book = new_book(alloc);
-    let made = make(&mut book, &names, tree.view(), row.calls);
-    Ok(made == row.calls.len() && is_bound(alloc, &book, &names, row)?)
+// The same after all calls of a row.
+#[derive(Clone, Copy)]
+struct Calls;
+
+impl Rows for Calls {
+    fn is_so(
+        &self,
+        alloc: Global,
+        [calls, handle, current, finished, binds, ..]: Fields,
+    ) -> Result<bool, AllocError> {
+        let tree = TopSubtree::empty(alloc, DelimSpan::from_single(Span::default()))?;
+        let names = names(alloc, 3)?;
+        let mut book = new_book(alloc);
+        let want = ((number(current), number(finished)), binds);
+        let made = make(&mut book, &names, tree.view(), calls, usize::MAX);
+        Ok(
+            made == calls.split(',').count()
+                && is_bound(alloc, &book, &names, number(handle), want)?,
+        )
+    }
 }
 
 #[test]
-fn calls_bind_what_their_rows_say(rt: HostRuntime) {
-    for (at, row) in ROWS.iter().enumerate() {
-        assert!(rt; is_so(rt.alloc(), row).unwrap_or(false), "at {at}");
-    }
+fn calls_bind_what_their_rows_say(rt: HostRuntime) -> Result<(), Wrong> {
+    each(rt.alloc(), &Calls, ROWS, 11)
 }
 
 // Pushes a command for each name, where the handle is live before each.
@@ -237,6 +123,6 @@ fn is_copied_short(alloc: Global) -> Result<bool, AllocError> {
 
 // A copy of many commands has few entries, and doesn't see what is pushed after it.
 #[test]
-fn a_copy_of_many_commands_is_short(rt: HostRuntime) {
-    assert!(rt; is_copied_short(rt.alloc()).unwrap_or(false));
+fn a_copy_of_many_commands_is_short(rt: HostRuntime) -> Result<(), Wrong> {
+    holds(is_copied_short(rt.alloc()))
 }

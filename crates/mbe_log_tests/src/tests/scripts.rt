@@ -4,6 +4,7 @@ use mbe_tt::span::{DelimSpan, Span};
 use mbe_tt::symbol::Symbol;
 use mbe_tt::tt::{TokenTreesView, TopSubtree};
 use std::alloc::{AllocError, Global};
+use test_rows::{Wrong, holds};
 
 const NAMES: usize = 3;
 
@@ -87,9 +88,16 @@ fn script(alloc: Global, seed: usize) -> Result<bool, AllocError> {
     play(&mut both, alloc, &names, tree.view(), seed)
 }
 
-#[test]
-fn random_scripts_agree_with_plain_lists(rt: HostRuntime) {
-    for seed in 0..500usize {
-        assert!(rt; script(rt.alloc(), seed).unwrap_or(false), "at {seed}");
+fn all_agree(alloc: Global, seeds: usize) -> Result<bool, AllocError> {
+    for seed in 0..seeds {
+        if !script(alloc, seed)? {
+            return Ok(false);
+        }
     }
+    Ok(true)
+}
+
+#[test]
+fn random_scripts_agree_with_plain_lists(rt: HostRuntime) -> Result<(), Wrong> {
+    holds(all_agree(rt.alloc(), 500))
 }

@@ -8,6 +8,7 @@ use mbe_tt::symbol::Symbol;
 use mbe_tt::tt::{TokenTreesView, TopSubtree};
 use std::alloc::{AllocError, Global};
 use std::fmt::Debug;
+use test_rows::{Wrong, holds};
 
 // Whether the text is all that is written of it to look for faults.
 fn prints<T: Debug>(alloc: Global, value: &T, text: &str) -> Result<bool, AllocError> {
@@ -32,8 +33,8 @@ fn is_listed(alloc: Global) -> Result<bool, AllocError> {
 }
 
 #[test]
-fn a_log_prints_how_many_lists_it_has(rt: HostRuntime) {
-    assert!(rt; is_listed(rt.alloc()).unwrap_or(false));
+fn a_log_prints_how_many_lists_it_has(rt: HostRuntime) -> Result<(), Wrong> {
+    holds(is_listed(rt.alloc()))
 }
 
 fn shows_parts(alloc: Global, handle: &Handle) -> Result<bool, AllocError> {
@@ -49,9 +50,8 @@ fn are_compared(alloc: Global, log: &mut BindingLog<'_>) -> Result<bool, AllocEr
 }
 
 #[test]
-fn handles_are_equal_where_their_parts_are(rt: HostRuntime) {
-    let mut log = BindingLog::new(rt.alloc());
-    assert!(rt; are_compared(rt.alloc(), &mut log).unwrap_or(false));
+fn handles_are_equal_where_their_parts_are(rt: HostRuntime) -> Result<(), Wrong> {
+    holds(are_compared(rt.alloc(), &mut BindingLog::new(rt.alloc())))
 }
 
 // Names in the order of their binding, each with the kind of expression that is missing, or empty.
@@ -89,8 +89,8 @@ fn bindings<'a>(alloc: Global, bound: Bound) -> Result<Bindings<'a>, AllocError>
     Ok(bindings)
 }
 
-fn are_same(alloc: Global, one: Bound, two: Bound) -> Result<bool, AllocError> {
-    Ok(bindings(alloc, one)? == bindings(alloc, two)?)
+fn are_same(alloc: Global, one: Bound, two: Bound, equal: bool) -> Result<bool, AllocError> {
+    Ok((bindings(alloc, one)? == bindings(alloc, two)?) == equal)
 }
 
 fn are_printed(alloc: Global, bound: Bound, text: &str) -> Result<bool, AllocError> {
@@ -98,12 +98,11 @@ fn are_printed(alloc: Global, bound: Bound, text: &str) -> Result<bool, AllocErr
 }
 
 #[test]
-fn bindings_are_equal_in_any_order(rt: HostRuntime) {
+fn bindings_are_equal_in_any_order(rt: HostRuntime) -> Result<(), Wrong> {
     let alloc = rt.alloc();
-    assert!(rt; are_same(alloc, ONE, OTHER_WAY).unwrap_or(false));
-    assert!(rt; !are_same(alloc, ONE, OTHER_KIND).unwrap_or(true));
-    let text = "{\"x\": Empty, \"y\": Missing(Expr(Expr)), }";
-    assert!(rt; are_printed(alloc, ONE, text).unwrap_or(false));
+    holds(are_same(alloc, ONE, OTHER_WAY, true))?;
+    holds(are_same(alloc, ONE, OTHER_KIND, false))?;
+    holds(are_printed(alloc, ONE, "{\"x\": Empty, \"y\": Missing(Expr(Expr)), }"))
 }
 
 #[derive(Clone, Copy)]
@@ -155,14 +154,11 @@ fn are_fragments(
 }
 
 #[test]
-fn fragments_are_equal_where_trees_and_writing_are(rt: HostRuntime) {
-    for (one, two, equal) in [
-        (Written::Raw, Written::Raw, true),
-        (Written::Raw, Written::Found, false),
-        (Written::Expr, Written::Path, false),
-    ] {
-        assert!(rt; are_fragments(rt.alloc(), one, two, equal).unwrap_or(false));
-    }
+fn fragments_are_equal_where_trees_and_writing_are(rt: HostRuntime) -> Result<(), Wrong> {
+    let alloc = rt.alloc();
+    holds(are_fragments(alloc, Written::Raw, Written::Raw, true))?;
+    holds(are_fragments(alloc, Written::Raw, Written::Found, false))?;
+    holds(are_fragments(alloc, Written::Expr, Written::Path, false))
 }
 
 fn list(alloc: Global) -> Result<Binding<'static>, AllocError> {
@@ -179,6 +175,6 @@ fn is_list(alloc: Global) -> Result<bool, AllocError> {
 }
 
 #[test]
-fn a_list_prints_what_it_has(rt: HostRuntime) {
-    assert!(rt; is_list(rt.alloc()).unwrap_or(false));
+fn a_list_prints_what_it_has(rt: HostRuntime) -> Result<(), Wrong> {
+    holds(is_list(rt.alloc()))
 }

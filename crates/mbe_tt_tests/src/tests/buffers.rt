@@ -1,11 +1,11 @@
-use super::parts::{Piece, tree};
+use super::parts::tree;
 use super::texts::shows;
 use super::views::sample;
 use crate::writing::span;
 use mbe_tt::span::DelimSpan;
-use mbe_tt::tt::{DelimiterKind, Spacing, TopSubtree};
+use mbe_tt::tt::{DelimiterKind, TopSubtree};
 use std::alloc::{AllocError, Allocator, Global};
-use std::test::Fail;
+use test_rows::{Fields, Rows, Wrong, each, holds, number, rows};
 
 // Whether it is a group with nothing in it.
 fn is_empty(tree: &TopSubtree, spans: DelimSpan) -> bool {
@@ -16,59 +16,55 @@ fn is_empty(tree: &TopSubtree, spans: DelimSpan) -> bool {
         && delimiter.delim_span() == spans
 }
 
-#[test]
-fn an_empty_tree_is_an_invisible_group(rt: HostRuntime) -> Result<(), Fail> {
+fn makes_empty(alloc: Global) -> Result<bool, AllocError> {
     let spans = DelimSpan {
         opening: span(1),
         close: span(2),
     };
-    assert!(rt; is_empty(&TopSubtree::empty(rt.alloc(), spans)?, spans));
-    Ok(())
-}
-
-// Each differs from the others in one part.
-static TREES: [&[Piece]; 6] = [
-    &[Piece::Punct('+', Spacing::Alone)],
-    &[Piece::Punct('+', Spacing::Joint)],
-    &[Piece::Punct('-', Spacing::Alone)],
-    &[
-        Piece::Open(DelimiterKind::Bracket),
-        Piece::Ident("a"),
-        Piece::Close(2),
-    ],
-    &[
-        Piece::Open(DelimiterKind::Bracket),
-        Piece::Ident("a"),
-        Piece::Close(3),
-    ],
-    &[
-        Piece::Open(DelimiterKind::Bracket),
-        Piece::Ident("b"),
-        Piece::Close(2),
-    ],
-];
-
-// The first of the trees that equals those parts though it is another, or doesn't equal them.
-fn first_unlike(alloc: Global, one: usize, parts: &[Piece]) -> Result<Option<usize>, AllocError> {
-    let left = tree(alloc, parts)?;
-    for (two, others) in TREES.iter().enumerate() {
-        let right = tree(alloc, others)?;
-        let is_same = one == two;
-        if (left == right) != is_same || (left.view() == right.view()) != is_same {
-            return Ok(Some(two));
-        }
-    }
-    Ok(None)
+    Ok(is_empty(&TopSubtree::empty(alloc, spans)?, spans))
 }
 
 #[test]
-fn trees_are_equal_where_all_their_parts_are(rt: HostRuntime) {
-    for (one, parts) in TREES.iter().enumerate() {
-        assert!(rt;
-            matches!(first_unlike(rt.alloc(), one, parts), Ok(None)),
-            "{one}"
-        );
+fn an_empty_tree_is_an_invisible_group(rt: HostRuntime) -> Result<(), Wrong> {
+    holds(makes_empty(rt.alloc()))
+}
+
+// Trees and their numbers. Each differs from the others in one part.
+const TREES: &str = rows![
+    ("+", 0),
+    ("+_", 1),
+    ("-", 2),
+    ("[ a )2", 3),
+    ("[ a )3", 4),
+    ("[ b )2", 5),
+];
+
+// The tree of the number is equal to one of these, and the others aren't.
+#[derive(Clone, Copy)]
+struct Equal<'a>(&'a TopSubtree, usize);
+
+impl Rows for Equal<'_> {
+    fn is_so(&self, alloc: Global, [parts, other, ..]: Fields) -> Result<bool, AllocError> {
+        let Equal(one, at) = *self;
+        let other_tree = tree(alloc, parts)?;
+        let is_same = at == number(other);
+        Ok((*one == other_tree) == is_same && (one.view() == other_tree.view()) == is_same)
     }
+}
+
+#[derive(Clone, Copy)]
+struct Apart;
+
+impl Rows for Apart {
+    fn is_so(&self, alloc: Global, [parts, at, ..]: Fields) -> Result<bool, AllocError> {
+        let one = tree(alloc, parts)?;
+        Ok(each(alloc, &Equal(&one, number(at)), TREES, 6).is_ok())
+    }
+}
+
+#[test]
+fn trees_are_equal_where_all_their_parts_are(rt: HostRuntime) -> Result<(), Wrong> {
+    each(rt.alloc(), &Apart, TREES, 6)
 }
 
 /// Whether a copy of it is equal, and so are their views.
@@ -83,6 +79,6 @@ fn is_copied_and_shown(alloc: Global) -> Result<bool, AllocError> {
 }
 
 #[test]
-fn a_copy_is_equal(rt: HostRuntime) {
-    assert!(rt; is_copied_and_shown(rt.alloc()).unwrap_or(false));
+fn a_copy_is_equal(rt: HostRuntime) -> Result<(), Wrong> {
+    holds(is_copied_and_shown(rt.alloc()))
 }

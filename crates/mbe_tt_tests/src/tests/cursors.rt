@@ -6,6 +6,7 @@ use super::parts::write;
 use crate::writing::{delimiter, pass_flat, span};
 use mbe_tt::tt::{Cursor, Delimiter, DelimiterKind, TokenTreesView, TopSubtree, TopSubtreeBuilder};
 use std::alloc::{AllocError, Global};
+use test_rows::{Wrong, holds};
 
 // At each place of `a (+ b) "s"`: whether it is in no group, the next tree, and the trees and flat tokens that are consumed
 // where it is in no group.
@@ -103,7 +104,7 @@ fn nested(alloc: Global, depth: usize) -> Result<TopSubtree, AllocError> {
     for _opened in 0..depth {
         builder.open(DelimiterKind::Bracket, span(1))?;
     }
-    write(&mut builder, alloc, &[])?;
+    write(&mut builder, alloc, "")?;
     Ok(builder.build())
 }
 
@@ -123,6 +124,6 @@ fn is_nested(alloc: Global) -> Result<bool, AllocError> {
 }
 
 #[test]
-fn deep_nesting_takes_no_deep_stack(rt: HostRuntime) {
-    assert!(rt; is_nested(rt.alloc()).unwrap_or(false));
+fn deep_nesting_takes_no_deep_stack(rt: HostRuntime) -> Result<(), Wrong> {
+    holds(is_nested(rt.alloc()))
 }

@@ -1,20 +1,20 @@
-use super::parts::{Piece, tree};
-use mbe_tt::tt::{Punct, Spacing, TopSubtree};
+use super::parts::tree;
+use mbe_tt::tt::{Punct, TopSubtree};
 use std::alloc::{AllocError, Global};
+use test_rows::{Fields, Rows, Wrong, each, number, rows};
 
-// The chars, which are ASCII and four at most, as puncts, all but the last joint, and an identifier after them.
+// The chars as puncts, all but the last joint, and an identifier after them.
 fn puncts(alloc: Global, chars: &str) -> Result<TopSubtree, AllocError> {
-    let mut parts = [Piece::Ident("x"); 5];
-    let last = chars.len().saturating_sub(1);
-    for (place, (part, byte)) in parts.iter_mut().zip(chars.as_bytes()).enumerate() {
-        let spacing = if place < last {
-            Spacing::Joint
-        } else {
-            Spacing::Alone
-        };
-        *part = Piece::Punct(char::from(*byte), spacing);
+    let mut parts = String::new(alloc);
+    for char in chars.chars() {
+        if !parts.is_empty() {
+            parts.push_str("_ ")?;
+        }
+        parts.push('\\')?;
+        parts.push(char)?;
     }
-    tree(alloc, parts.get(..=chars.len()).unwrap_or(&[]))
+    parts.push_str(" x")?;
+    tree(alloc, parts.as_str())
 }
 
 fn are_chars(puncts: &[Punct], chars: &str) -> bool {
@@ -44,7 +44,7 @@ fn glued(tree: &TopSubtree, chars: &str) -> Option<usize> {
 }
 
 // Every operator of two and three chars; then fronts of which fewer are taken.
-static OPERATORS: [(&str, usize); 36] = [
+const OPERATORS: &str = rows![
     ("...", 3),
     ("..=", 3),
     ("<<=", 3),
@@ -83,60 +83,39 @@ static OPERATORS: [(&str, usize); 36] = [
     ("$", 1),
 ];
 
-fn takes(tree: Result<TopSubtree, AllocError>, chars: &str, taken: usize) -> bool {
-    match tree {
-        Ok(tree) => glued(&tree, chars) == Some(taken),
-        Err(AllocError) => false,
+#[derive(Clone, Copy)]
+struct Operators;
+
+impl Rows for Operators {
+    fn is_so(&self, alloc: Global, [chars, taken, ..]: Fields) -> Result<bool, AllocError> {
+        Ok(glued(&puncts(alloc, chars)?, chars) == Some(number(taken)))
     }
 }
 
 #[test]
-fn operators_are_taken_together(rt: HostRuntime) {
-    for (chars, taken) in &OPERATORS {
-        assert!(rt; takes(puncts(rt.alloc(), chars), chars, *taken), "{chars}");
-    }
+fn operators_are_taken_together(rt: HostRuntime) -> Result<(), Wrong> {
+    each(rt.alloc(), &Operators, OPERATORS, 36)
 }
 
 // Fronts, and how many puncts of these chars are taken together: lone ones stay apart, and one that is no punct is refused.
-static FRONTS: [(&[Piece], &str, usize); 5] = [
-    (
-        &[
-            Piece::Punct('.', Spacing::Alone),
-            Piece::Punct('.', Spacing::Joint),
-            Piece::Punct('=', Spacing::Joint),
-        ],
-        "..=",
-        1,
-    ),
-    (
-        &[
-            Piece::Punct('.', Spacing::Joint),
-            Piece::Punct('.', Spacing::Alone),
-            Piece::Punct('=', Spacing::Joint),
-        ],
-        "..=",
-        2,
-    ),
-    (
-        &[
-            Piece::Punct('.', Spacing::Joint),
-            Piece::Punct('.', Spacing::Joint),
-            Piece::Punct('=', Spacing::Joint),
-        ],
-        "..=",
-        3,
-    ),
-    (
-        &[Piece::Punct('.', Spacing::Joint), Piece::Ident("x")],
-        ".",
-        1,
-    ),
-    (&[Piece::Ident("x")], "", 0),
+const FRONTS: &str = rows![
+    (". ._ =_", "..=", 1),
+    ("._ . =_", "..=", 2),
+    ("._ ._ =_", "..=", 3),
+    ("._ x", ".", 1),
+    ("x", "", 0),
 ];
 
-#[test]
-fn puncts_are_taken_by_their_spacings(rt: HostRuntime) {
-    for (row, (parts, chars, taken)) in FRONTS.iter().enumerate() {
-        assert!(rt; takes(tree(rt.alloc(), parts), chars, *taken), "row {row}");
+#[derive(Clone, Copy)]
+struct Fronts;
+
+impl Rows for Fronts {
+    fn is_so(&self, alloc: Global, [parts, chars, taken, ..]: Fields) -> Result<bool, AllocError> {
+        Ok(glued(&tree(alloc, parts)?, chars) == Some(number(taken)))
     }
+}
+
+#[test]
+fn puncts_are_taken_by_their_spacings(rt: HostRuntime) -> Result<(), Wrong> {
+    each(rt.alloc(), &Fronts, FRONTS, 5)
 }

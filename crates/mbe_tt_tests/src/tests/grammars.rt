@@ -1,26 +1,30 @@
-use super::parts::{Piece, tree};
-use super::views::SAMPLE;
+use super::parts::tree;
 use crate::pairs::Pairs;
 use mbe_tt::grammar::{FragmentGrammar, Front, PrefixEntryPoint};
 use mbe_tt::tt::TokenTreesView;
 use std::alloc::{AllocError, Global};
+use test_rows::{Fields, Rows, Wrong, each, holds, number, rows};
 
 fn asked<G: FragmentGrammar>(grammar: &G, tokens: TokenTreesView<'_>) -> Result<Front, AllocError> {
     grammar.parse(PrefixEntryPoint::Expr, tokens)
 }
 
 // Trees, and what the grammar says of them: how many flat tokens, and whether there is a fault.
-static FRONTS: [(&[Piece], usize, bool); 2] = [(SAMPLE, 2, false), (&[], 0, true)];
+const FRONTS: &str = rows![("a ( +_ b )2 \"s", 2, false), ("", 0, true)];
 
-fn is_so(alloc: Global, parts: &[Piece], want: Front) -> Result<bool, AllocError> {
-    let tree = tree(alloc, parts)?;
-    Ok(asked(&Pairs, tree.iter().remaining())? == want)
+#[derive(Clone, Copy)]
+struct Fronts;
+
+impl Rows for Fronts {
+    fn is_so(&self, alloc: Global, [parts, count, fault, ..]: Fields) -> Result<bool, AllocError> {
+        let tree = tree(alloc, parts)?;
+        let front = asked(&Pairs, tree.iter().remaining())?;
+        Ok(front.count == number(count) && front.fault == (fault == "true"))
+    }
 }
 
 #[test]
-fn a_grammar_is_handed_in(rt: HostRuntime) {
-    for &(parts, count, fault) in &FRONTS {
-        assert!(rt; is_so(rt.alloc(), parts, Front { count, fault }).unwrap_or(false));
-    }
-    assert!(rt; Pairs.is_keyword("fn") && !Pairs.is_keyword("f"));
+fn a_grammar_is_handed_in(rt: HostRuntime) -> Result<(), Wrong> {
+    each(rt.alloc(), &Fronts, FRONTS, 2)?;
+    holds(Ok(Pairs.is_keyword("fn") && !Pairs.is_keyword("f")))
 }

@@ -1,12 +1,11 @@
-use super::parts::{Piece, tree};
-use super::views::SAMPLE;
-use crate::writing::{pass_by_savepoint, span};
+use super::parts::tree;
+use crate::writing::{first_and_rest, pass_by_savepoint, span};
 use mbe_tt::span::Span;
 use mbe_tt::tt::{
-    DelimiterKind, Ident, Leaf, Punct, Spacing, Subtree, TokenTreesView, TopSubtree, TtElement,
-    TtIter,
+    DelimiterKind, Ident, Leaf, Punct, Subtree, TokenTreesView, TopSubtree, TtElement, TtIter,
 };
 use std::alloc::{AllocError, Global};
+use test_rows::{Fields, Rows, Wrong, each, number, rows};
 
 // The text of an identifier or a literal; the char of a punct, and the brackets of a group, where the tests ask for them.
 pub fn text<'a>(element: &TtElement<'a>) -> &'a str {
@@ -40,42 +39,27 @@ fn brackets(kind: DelimiterKind) -> &'static str {
     }
 }
 
-// A call of an iterator's.
-#[derive(Clone, Copy, Drop)]
-enum Asked {
-    Peek,
-    Next,
-    NextAsView,
-    Char(char),
-    AnyChar(char, char),
-    Dollar,
-    Comma,
-    Punct,
-    Group,
-    Inside(usize),
-    Leaf,
-    Ident,
-    IdentOrUnderscore,
-    Literal,
-}
-
-// The text of what the call returns, `done` where that is nothing, and `None` where it refuses.
-fn answer<'a>(iter: &mut TtIter<'a>, asked: Asked) -> Option<&'a str> {
-    match asked {
-        Asked::Peek => element(iter.peek()),
-        Asked::Next => element(iter.next()),
-        Asked::NextAsView => alone(iter.next_as_view()),
-        Asked::Char(char) => done(iter.expect_char(char)),
-        Asked::AnyChar(one, two) => done(iter.expect_any_char(&[one, two])),
-        Asked::Dollar => done(iter.expect_dollar()),
-        Asked::Comma => done(iter.expect_comma()),
-        Asked::Punct => punct(iter.expect_single_punct()),
-        Asked::Group => group(iter.expect_subtree()),
-        Asked::Inside(count) => inside(iter.expect_subtree(), count),
-        Asked::Leaf => leaf(iter.expect_leaf()),
-        Asked::Ident => ident(iter.expect_ident()),
-        Asked::IdentOrUnderscore => ident(iter.expect_ident_or_underscore()),
-        Asked::Literal => leaf(iter.expect_literal()),
+// The text of what a call of an iterator's returns, `done` where that is nothing, and `None` where it refuses. The first letter of
+// its kind says which call: `peek`, `next`, `view`, `char`, `any` of two chars, `$`, `,`, `single` punct, `group`, so many trees
+// `inside` one, `leaf`, `word`, word or `_`, and `quoted` of a literal.
+fn answer<'a>(iter: &mut TtIter<'a>, kind: &str, given: &str) -> Option<&'a str> {
+    let (one, rest) = first_and_rest(given);
+    match first_and_rest(kind).0 {
+        'p' => element(iter.peek()),
+        'n' => element(iter.next()),
+        'v' => alone(iter.next_as_view()),
+        'c' => done(iter.expect_char(one)),
+        'a' => done(iter.expect_any_char(&[one, first_and_rest(rest).0])),
+        '$' => done(iter.expect_dollar()),
+        ',' => done(iter.expect_comma()),
+        's' => punct(iter.expect_single_punct()),
+        'g' => group(iter.expect_subtree()),
+        'i' => inside(iter.expect_subtree(), number(given)),
+        'l' => leaf(iter.expect_leaf()),
+        'w' => ident(iter.expect_ident()),
+        '_' => ident(iter.expect_ident_or_underscore()),
+        'q' => leaf(iter.expect_literal()),
+        _ => None,
     }
 }
 
@@ -113,112 +97,104 @@ fn ident<'a>(answer: Result<&'a Ident, ()>) -> Option<&'a str> {
     Some(answer.ok()?.sym.as_str())
 }
 
-// A call, what it returns, and how many trees are left then.
-type Row = (Asked, Option<&'static str>, usize);
-
-// The first of those calls, one after the other over the trees inside, that doesn't do as its row says.
-fn first_wrong(tree: &TopSubtree, rows: &[Row]) -> Option<usize> {
-    let mut iter = tree.iter();
-    for (place, (asked, want, left)) in rows.iter().enumerate() {
-        if answer(&mut iter, *asked) != *want
-            || iter.remaining().len() != *left
-            || iter.is_empty() != (*left == 0)
-        {
-            return Some(place);
-        }
-    }
-    None
+// Whether the call of a row returns what is after the ` = `, or refuses, and so many trees are left then.
+fn is_answered(iter: &mut TtIter<'_>, row: &str) -> bool {
+    let (call, want) = match row.split_once(" = ") {
+        Some((call, want)) => (call, Some(want)),
+        None => (row, None),
+    };
+    let (left, call) = call.split_once(' ').unwrap_or((call, ""));
+    let (kind, given) = call.split_once(' ').unwrap_or((call, ""));
+    answer(iter, kind, given) == want
+        && iter.remaining().len() == number(left)
+        && iter.is_empty() == (left == "0")
 }
 
-const LEAVES: &[Piece] = &[
-    Piece::Ident("a"),
-    Piece::Ident("_"),
-    Piece::Punct('+', Spacing::Joint),
-    Piece::Punct(',', Spacing::Alone),
-    Piece::Punct('$', Spacing::Alone),
-    Piece::Ident("true"),
-    Piece::Ident("false"),
+// Whether each of the calls, one after the other over the trees inside, does as its row says.
+fn are_answered(tree: &TopSubtree, calls: &str) -> bool {
+    let mut iter = tree.iter();
+    for row in calls.lines() {
+        if !is_answered(&mut iter, row) {
+            return false;
+        }
+    }
+    true
+}
+
+// Trees, and calls over them: how many trees are left after each, the call, and what it returns.
+const WALKS: &str = rows![
+    (
+        "a _ +_ , $ true false",
+        "7 quoted
+7 group
+7 char a
+7 single
+6 word = a
+6 word
+5 _ = _
+5 _
+5 word
+5 char -
+5 ,
+5 any -,
+5 $
+4 any -+ = done
+3 , = done
+2 $ = done
+1 quoted = true
+0 quoted = false
+0 quoted
+0 leaf",
+    ),
+    // Again from the beginning.
+    (
+        "a _ +_ , $ true false",
+        "6 leaf = a
+5 leaf = _
+4 char + = done
+3 single = ,",
+    ),
+    // Over `a (+ b) "s"`.
+    (
+        "a ( +_ b )2 \"s",
+        "3 peek = a
+3 group
+2 view = a
+2 leaf
+2 quoted
+1 group = ()
+0 quoted = s
+0 quoted",
+    ),
+    (
+        "a ( +_ b )2 \"s",
+        "2 next = a
+1 next = ()
+0 next = s
+0 peek
+0 next
+0 view",
+    ),
+    // A group comes with its content.
+    (
+        "a ( +_ b )2 \"s",
+        "2 leaf = a
+1 inside 2 = done",
+    ),
 ];
 
-const LEAVES_ROWS: &[Row] = &[
-    (Asked::Literal, None, 7),
-    (Asked::Group, None, 7),
-    (Asked::Char('a'), None, 7),
-    (Asked::Punct, None, 7),
-    (Asked::Ident, Some("a"), 6),
-    (Asked::Ident, None, 6),
-    (Asked::IdentOrUnderscore, Some("_"), 5),
-    (Asked::IdentOrUnderscore, None, 5),
-    (Asked::Ident, None, 5),
-    (Asked::Char('-'), None, 5),
-    (Asked::Comma, None, 5),
-    (Asked::AnyChar('-', ','), None, 5),
-    (Asked::Dollar, None, 5),
-    (Asked::AnyChar('-', '+'), Some("done"), 4),
-    (Asked::Comma, Some("done"), 3),
-    (Asked::Dollar, Some("done"), 2),
-    (Asked::Literal, Some("true"), 1),
-    (Asked::Literal, Some("false"), 0),
-    (Asked::Literal, None, 0),
-    (Asked::Leaf, None, 0),
-];
+#[derive(Clone, Copy)]
+struct Walks;
 
-// Again from the beginning.
-const PUNCTS_ROWS: &[Row] = &[
-    (Asked::Leaf, Some("a"), 6),
-    (Asked::Leaf, Some("_"), 5),
-    (Asked::Char('+'), Some("done"), 4),
-    (Asked::Punct, Some(","), 3),
-];
-
-// Over `a (+ b) "s"`.
-const SAMPLE_ROWS: &[Row] = &[
-    (Asked::Peek, Some("a"), 3),
-    (Asked::Group, None, 3),
-    (Asked::NextAsView, Some("a"), 2),
-    (Asked::Leaf, None, 2),
-    (Asked::Literal, None, 2),
-    (Asked::Group, Some("()"), 1),
-    (Asked::Literal, Some("s"), 0),
-    (Asked::Literal, None, 0),
-];
-
-const NEXT_ROWS: &[Row] = &[
-    (Asked::Next, Some("a"), 2),
-    (Asked::Next, Some("()"), 1),
-    (Asked::Next, Some("s"), 0),
-    (Asked::Peek, None, 0),
-    (Asked::Next, None, 0),
-    (Asked::NextAsView, None, 0),
-];
-
-// A group comes with its content.
-const INSIDE_ROWS: &[Row] = &[
-    (Asked::Leaf, Some("a"), 2),
-    (Asked::Inside(2), Some("done"), 1),
-];
-
-// The calls over trees.
-static WALKS: [(&[Piece], &[Row]); 5] = [
-    (LEAVES, LEAVES_ROWS),
-    (LEAVES, PUNCTS_ROWS),
-    (SAMPLE, SAMPLE_ROWS),
-    (SAMPLE, NEXT_ROWS),
-    (SAMPLE, INSIDE_ROWS),
-];
-
-fn is_walked(alloc: Global, parts: &[Piece], rows: &[Row]) -> Result<bool, AllocError> {
-    Ok(first_wrong(&tree(alloc, parts)?, rows).is_none())
+impl Rows for Walks {
+    fn is_so(&self, alloc: Global, [parts, calls, ..]: Fields) -> Result<bool, AllocError> {
+        Ok(are_answered(&tree(alloc, parts)?, calls))
+    }
 }
 
 #[test]
-fn leaves_groups_and_literals_are_expected(rt: HostRuntime) {
-    for (walk, (parts, rows)) in WALKS.iter().enumerate() {
-        assert!(rt;
-            is_walked(rt.alloc(), parts, rows).unwrap_or(false),
-            "walk {walk}"
-        );
-    }
+fn leaves_groups_and_literals_are_expected(rt: HostRuntime) -> Result<(), Wrong> {
+    each(rt.alloc(), &Walks, WALKS, 5)
 }
 
 /// Whether each tree comes once and in order, with those texts.

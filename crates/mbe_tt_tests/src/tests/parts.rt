@@ -1,55 +1,64 @@
-// Trees written from lists of flat tokens, which a table can hold.
+// Trees written from rows of flat tokens.
 ghost use Rattle.std.specs.Prelude.{◌≡◌, ◌<◌, length, OnOk};
 
-use crate::writing::{delimiter, ident, literal, punct, span};
-use mbe_tt::tt::{DelimiterKind, Leaf, Spacing, TopSubtree, TopSubtreeBuilder};
+use crate::writing::{delimiter, first_and_rest, leaf, span};
+use mbe_tt::tt::{DelimiterKind, Leaf, TopSubtree, TopSubtreeBuilder};
 use std::alloc::{AllocError, Allocator};
 
-/// A flat token. Groups open at 1, and close at a place of their own.
-#[derive(Clone, Copy, Drop)]
-pub enum Piece {
-    Ident(&'static str),
-    Text(&'static str),
-    Punct(char, Spacing),
-    Open(DelimiterKind),
-    Close(u8),
+// The kind of the group that a part opens: `(`, `[`, `{`, or `<` of an invisible one.
+fn opening(part: &str) -> Option<DelimiterKind> {
+    match part {
+        "(" => Some(DelimiterKind::Parenthesis),
+        "[" => Some(DelimiterKind::Bracket),
+        "{" => Some(DelimiterKind::Brace),
+        "<" => Some(DelimiterKind::Invisible),
+        _ => None,
+    }
 }
 
-// Writes a part. A closing without an opening is left out.
+// The place where a group of any kind closes, as in `)2`.
+fn closing(part: &str) -> Option<u8> {
+    let (first, place) = first_and_rest(part);
+    if first == ')' {
+        place.parse::<u8>().ok()
+    } else {
+        None
+    }
+}
+
+// Writes a part. Groups open at 1. A closing without an opening is left out.
 #[tactic(auto, using(mbe_tt::proofs::Buffers::OpenGroups::put_length, mbe_tt::proofs::Buffers::OpenGroups::closed_length))]
 fn write_part<A: Allocator + Copy>(
     builder: &mut TopSubtreeBuilder<A>,
     alloc: A,
-    part: Piece,
+    part: &str,
 ) -> Result<(), AllocError>
     requires { 0 < length builder.old }
     ensures { 0 < length builder.new }
 {
-    match part {
-        Piece::Ident(text) => builder.push(ident(alloc, text)?),
-        Piece::Text(text) => builder.push(literal(alloc, text)?),
-        Piece::Punct(char, spacing) => builder.push(punct(char, spacing)),
-        Piece::Open(kind) => builder.open(kind, span(1)),
-        Piece::Close(at) => {
-            if builder.open_kind().is_some() {
-                builder.close(span(u32::from(at)));
-            }
-            Ok(())
-        }
+    if let Some(kind) = opening(part) {
+        return builder.open(kind, span(1));
     }
+    if let Some(at) = closing(part) {
+        if builder.open_kind().is_some() {
+            builder.close(span(u32::from(at)));
+        }
+        return Ok(());
+    }
+    builder.push(leaf(alloc, part)?)
 }
 
 /// Writes the parts, into a builder with no group but the whole. A closing without an opening is left out.
 pub fn write_open<A: Allocator + Copy>(
     builder: &mut TopSubtreeBuilder<A>,
     alloc: A,
-    parts: &[Piece],
+    parts: &str,
 ) -> Result<(), AllocError>
     requires { 0 < length builder.old }
     ensures { 0 < length builder.new }
 {
-    for part in parts {
-        write_part(builder, alloc, *part)?;
+    for part in parts.split_whitespace() {
+        write_part(builder, alloc, part)?;
     }
     Ok(())
 }
@@ -59,7 +68,7 @@ pub fn write_open<A: Allocator + Copy>(
 pub fn write<A: Allocator + Copy>(
     builder: &mut TopSubtreeBuilder<A>,
     alloc: A,
-    parts: &[Piece],
+    parts: &str,
 ) -> Result<(), AllocError>
     requires { 0 < length builder.old }
     ensures { OnOk result (length builder.new ≡ 1) }
@@ -72,25 +81,17 @@ pub fn write<A: Allocator + Copy>(
 }
 
 /// The parts, inside braces.
-pub fn tree<A: Allocator + Copy>(alloc: A, parts: &[Piece]) -> Result<TopSubtree<A>, AllocError> {
+pub fn tree<A: Allocator + Copy>(alloc: A, parts: &str) -> Result<TopSubtree<A>, AllocError> {
     let mut builder = TopSubtreeBuilder::new(alloc, delimiter(DelimiterKind::Brace))?;
     write(&mut builder, alloc, parts)?;
     Ok(builder.build())
 }
 
-/// The leaves among the parts, but for literals.
-pub fn leaves<A: Allocator + Copy>(
-    alloc: A,
-    parts: &[Piece],
-) -> Result<Vec<Leaf<A>, A>, AllocError> {
+/// The leaves that the parts are.
+pub fn leaves<A: Allocator + Copy>(alloc: A, parts: &str) -> Result<Vec<Leaf<A>, A>, AllocError> {
     let mut leaves = Vec::new(alloc);
-    for part in parts {
-        let leaf = match *part {
-            Piece::Ident(text) => ident(alloc, text)?,
-            Piece::Punct(char, spacing) => punct(char, spacing),
-            _ => continue,
-        };
-        leaves.push(leaf)?;
+    for part in parts.split_whitespace() {
+        leaves.push(leaf(alloc, part)?)?;
     }
     Ok(leaves)
 }

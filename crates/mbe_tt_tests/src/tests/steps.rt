@@ -1,7 +1,7 @@
 // What is done with a builder, step by step, as a table can say.
 ghost use Rattle.std.specs.Prelude.{◌≡◌, ◌<◌, length};
 
-use super::parts::{Piece, leaves, tree, write_open};
+use super::parts::{leaves, tree, write_open};
 use crate::writing::{ident, span};
 use mbe_tt::tt::{DelimiterKind, TopSubtreeBuilder};
 use std::alloc::{AllocError, Allocator};
@@ -9,13 +9,28 @@ use std::alloc::{AllocError, Allocator};
 /// Parts are written, leaves are, copies of trees are, the last of them alone or not, and a group with that identifier is, which
 /// is kept or else taken back.
 #[derive(Clone, Copy)]
-pub enum Step {
-    Write(&'static [Piece]),
-    Extend(&'static [Piece]),
-    Copy(&'static [Piece]),
-    CopyAlone(&'static [Piece]),
+pub enum Step<'a> {
+    Write(&'a str),
+    Extend(&'a str),
+    Copy(&'a str),
+    CopyAlone(&'a str),
     Unwrap,
-    Group(&'static str, bool),
+    Group(&'a str, bool),
+}
+
+/// The step of a row, by the first letter of its kind: `write`, `extend`, `copy`, `alone`, `unwrap`, `keep` or `take back`. After a
+/// colon come the parts, or the identifier.
+pub fn step_of(row: &str) -> Step<'_> {
+    let (kind, parts) = row.split_once(": ").unwrap_or((row, ""));
+    match kind.as_bytes().first() {
+        Some(b'e') => Step::Extend(parts),
+        Some(b'c') => Step::Copy(parts),
+        Some(b'a') => Step::CopyAlone(parts),
+        Some(b'u') => Step::Unwrap,
+        Some(b'k') => Step::Group(parts, true),
+        Some(b't') => Step::Group(parts, false),
+        _ => Step::Write(parts),
+    }
 }
 
 // Writes a group with that identifier in it, and goes back to where the builder was if it isn't to be kept, or is refused. It
@@ -48,7 +63,7 @@ fn write_group<A: Allocator + Copy>(
 fn copy<A: Allocator + Copy>(
     builder: &mut TopSubtreeBuilder<A>,
     alloc: A,
-    parts: &[Piece],
+    parts: &str,
     alone: bool,
 ) -> Result<(), AllocError>
     requires { 0 < length builder.old }
@@ -67,7 +82,7 @@ fn copy<A: Allocator + Copy>(
 fn extend<A: Allocator + Copy>(
     builder: &mut TopSubtreeBuilder<A>,
     alloc: A,
-    parts: &[Piece],
+    parts: &str,
 ) -> Result<(), AllocError>
     requires { 0 < length builder.old }
     ensures { length builder.new ≡ length builder.old }
@@ -81,7 +96,7 @@ fn extend<A: Allocator + Copy>(
 pub fn take<A: Allocator + Copy>(
     builder: &mut TopSubtreeBuilder<A>,
     alloc: A,
-    step: Step,
+    step: Step<'_>,
 ) -> Result<usize, AllocError>
     requires { 0 < length builder.old }
     ensures { 0 < length builder.new }

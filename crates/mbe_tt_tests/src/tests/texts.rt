@@ -8,93 +8,131 @@ use std::alloc::{AllocError, Global};
 use std::cmp::Ordering;
 use std::collections::HashSet;
 use std::fmt::{Debug, Display};
-use std::hash::Hash;
+use test_rows::{Fields, Rows, Wrong, each, holds, none, number, rows};
 
-static EDITIONS: [(Edition, bool, bool); 4] = [
-    (Edition::Edition2015, false, false),
-    (Edition::Edition2018, false, false),
-    (Edition::Edition2021, true, false),
-    (Edition::Edition2024, true, true),
-];
+fn is_since(edition: Edition, from_2021: bool, from_2024: bool) -> bool {
+    (edition.at_least_2021(), edition.at_least_2024()) == (from_2021, from_2024)
+}
 
 #[test]
-fn editions_are_in_order(rt: HostRuntime) {
-    for &(edition, from_2021, from_2024) in &EDITIONS {
-        let found = (edition.at_least_2021(), edition.at_least_2024());
-        assert!(rt; found == (from_2021, from_2024), "{edition:?}");
+fn editions_are_in_order(_rt: HostRuntime) -> Result<(), Wrong> {
+    holds(Ok(is_since(Edition::Edition2015, false, false)))?;
+    holds(Ok(is_since(Edition::Edition2018, false, false)))?;
+    holds(Ok(is_since(Edition::Edition2021, true, false)))?;
+    holds(Ok(is_since(Edition::Edition2024, true, true)))
+}
+
+fn number_and_rest(row: &str) -> (u32, &str) {
+    let (number, rest) = row.split_once(' ').unwrap_or((row, ""));
+    (number.parse::<u32>().unwrap_or(u32::MAX), rest)
+}
+
+// A span of its five numbers.
+fn span_of(row: &str) -> Span {
+    let (file, row) = number_and_rest(row);
+    let (ast, row) = number_and_rest(row);
+    let (start, row) = number_and_rest(row);
+    let (end, row) = number_and_rest(row);
+    let ctx = SyntaxContext(number_and_rest(row).0);
+    Span {
+        file,
+        ast,
+        start,
+        end,
+        ctx,
     }
 }
 
-// How many of them differ, by their hashes too.
-fn count<T: Hash + Eq>(alloc: Global, values: &[T]) -> Result<usize, AllocError> {
+// How many of the spans differ, by their hashes too.
+fn count(alloc: Global, rows: &str) -> Result<usize, AllocError> {
     let mut seen = HashSet::new(alloc);
-    for value in values {
-        seen.insert(value)?;
+    for row in rows.lines() {
+        seen.insert(span_of(row))?;
     }
     Ok(seen.len())
 }
 
-#[test]
-fn spans_are_equal_by_all_five_numbers(rt: HostRuntime) {
-    let first = span(1);
-    let spans = [
-        first,
-        Span { file: 2, ..first },
-        Span { ast: 1, ..first },
-        Span { start: 0, ..first },
-        Span { end: 9, ..first },
-        Span {
-            ctx: SyntaxContext(1),
-            ..first
-        },
-        span(1),
-    ];
-    assert!(rt; matches!(count(rt.alloc(), &spans[..6]), Ok(6)));
-    assert!(rt; matches!(count(rt.alloc(), &spans), Ok(6)));
+// Rows of spans, and how many differ.
+#[derive(Clone, Copy)]
+struct Spans;
+
+impl Rows for Spans {
+    fn is_so(&self, alloc: Global, [rows, differ, ..]: Fields) -> Result<bool, AllocError> {
+        Ok(count(alloc, rows)? == number(differ))
+    }
 }
 
+const SPANS: &str = rows![
+    (
+        "1 0 1 2 0
+2 0 1 2 0
+1 1 1 2 0
+1 0 0 2 0
+1 0 1 9 0
+1 0 1 2 1",
+        6
+    ),
+    (
+        "1 0 1 2 0
+1 0 1 2 0",
+        1
+    ),
+];
+
 #[test]
-fn delimiters_keep_their_spans(rt: HostRuntime) {
-    let (one, two, seven) = (span(1), span(2), span(7));
-    let single = DelimSpan {
-        opening: one,
-        close: one,
-    };
-    assert!(rt; DelimSpan::from_single(one) == single);
-    let both = DelimSpan {
-        opening: one,
-        close: two,
-    };
+fn spans_are_equal_by_all_five_numbers(rt: HostRuntime) -> Result<(), Wrong> {
+    each(rt.alloc(), &Spans, SPANS, 2)
+}
+
+fn are_spans(spans: DelimSpan, opening: Span, close: Span) -> bool {
+    spans.opening == opening && spans.close == close
+}
+
+fn are_kept(opening: Span, close: Span) -> bool {
     let delimiter = Delimiter {
-        opening: one,
-        close: two,
+        opening,
+        close,
         kind: DelimiterKind::Bracket,
     };
-    assert!(rt; delimiter.delim_span() == both);
-    let invisible = Delimiter {
-        opening: seven,
-        close: seven,
-        kind: DelimiterKind::Invisible,
-    };
-    assert!(rt; Delimiter::invisible_spanned(seven) == invisible);
+    are_spans(delimiter.delim_span(), opening, close)
+}
+
+fn is_invisible(span: Span) -> bool {
+    let delimiter = Delimiter::invisible_spanned(span);
+    delimiter.kind == DelimiterKind::Invisible && are_spans(delimiter.delim_span(), span, span)
 }
 
 #[test]
-fn the_default_punct_is_alone_and_nowhere(rt: HostRuntime) {
-    let punct = Punct {
-        char: '\0',
-        spacing: Spacing::Alone,
-        span: Span::default(),
-    };
-    assert!(rt; Punct::default() == punct);
+fn delimiters_keep_their_spans(_rt: HostRuntime) -> Result<(), Wrong> {
+    let one = span(1);
+    holds(Ok(are_spans(DelimSpan::from_single(one), one, one)))?;
+    holds(Ok(are_kept(one, span(2))))?;
+    holds(Ok(is_invisible(span(7))))
+}
+
+fn is_default(punct: Punct) -> bool {
+    punct.char == '\0' && punct.spacing == Spacing::Alone && punct.span == Span::default()
+}
+
+#[test]
+fn the_default_punct_is_alone_and_nowhere(_rt: HostRuntime) -> Result<(), Wrong> {
+    holds(Ok(is_default(Punct::default())))
 }
 
 // Texts of two symbols, and their order.
-static ORDERS: [(&str, &str, Ordering); 3] = [
-    ("ab", "ab", Ordering::Equal),
-    ("ab", "b", Ordering::Less),
-    ("b", "ab", Ordering::Greater),
+const ORDERS: &str = rows![
+    ("ab", "ab", "equal"),
+    ("ab", "b", "less"),
+    ("b", "ab", "greater")
 ];
+
+fn order_of(name: &str) -> Ordering {
+    match name.as_bytes().first() {
+        Some(b'e') => Ordering::Equal,
+        Some(b'l') => Ordering::Less,
+        _ => Ordering::Greater,
+    }
+}
 
 fn are_ordered(one: &Symbol, two: &Symbol, order: Ordering) -> bool {
     (one == two) == (order == Ordering::Equal)
@@ -102,22 +140,20 @@ fn are_ordered(one: &Symbol, two: &Symbol, order: Ordering) -> bool {
         && one.partial_cmp(two) == Some(order)
 }
 
-fn are_symbols(
-    alloc: Global,
-    text: &str,
-    other: &str,
-    order: Ordering,
-) -> Result<bool, AllocError> {
-    let one = Symbol::intern(alloc, text)?;
-    let two = Symbol::intern(alloc, other)?;
-    Ok(one.as_str() == text && are_ordered(&one, &two, order))
+#[derive(Clone, Copy)]
+struct Orders;
+
+impl Rows for Orders {
+    fn is_so(&self, alloc: Global, [text, other, order, ..]: Fields) -> Result<bool, AllocError> {
+        let one = Symbol::intern(alloc, text)?;
+        let two = Symbol::intern(alloc, other)?;
+        Ok(one.as_str() == text && are_ordered(&one, &two, order_of(order)))
+    }
 }
 
 #[test]
-fn symbols_are_their_texts(rt: HostRuntime) {
-    for &(text, other, order) in &ORDERS {
-        assert!(rt; are_symbols(rt.alloc(), text, other, order).unwrap_or(false));
-    }
+fn symbols_are_their_texts(rt: HostRuntime) -> Result<(), Wrong> {
+    each(rt.alloc(), &Orders, ORDERS, 3)
 }
 
 /// Whether the text is what is written of it.
@@ -144,8 +180,8 @@ fn has_copy(alloc: Global) -> Result<bool, AllocError> {
 }
 
 #[test]
-fn a_copied_symbol_has_the_text(rt: HostRuntime) {
-    assert!(rt; has_copy(rt.alloc()).unwrap_or(false));
+fn a_copied_symbol_has_the_text(rt: HostRuntime) -> Result<(), Wrong> {
+    holds(has_copy(rt.alloc()))
 }
 
 fn put(seen: &mut HashSet<Symbol>, alloc: Global, text: &str) -> Result<(), AllocError> {
@@ -161,8 +197,8 @@ fn are_hashed(alloc: Global) -> Result<bool, AllocError> {
 }
 
 #[test]
-fn symbols_are_hashed_by_their_texts(rt: HostRuntime) {
-    assert!(rt; are_hashed(rt.alloc()).unwrap_or(false));
+fn symbols_are_hashed_by_their_texts(rt: HostRuntime) -> Result<(), Wrong> {
+    holds(are_hashed(rt.alloc()))
 }
 
 // A literal's kind, its suffix's length and its text; what comes before the suffix, the suffix, and what is written.
@@ -209,11 +245,19 @@ fn is_written(
     Ok(is_cut && writes(alloc, &literal, written)?)
 }
 
-#[test]
-fn literals_are_written_with_their_quotes(rt: HostRuntime) {
+// The first literal of which something else is written.
+fn first_unwritten(alloc: Global) -> Option<&'static str> {
     for row in &LITERALS {
-        assert!(rt; is_written(rt.alloc(), row).unwrap_or(false), "{}", row.5);
+        if !is_written(alloc, row).unwrap_or(false) {
+            return Some(row.5);
+        }
     }
+    None
+}
+
+#[test]
+fn literals_are_written_with_their_quotes(rt: HostRuntime) -> Result<(), Wrong> {
+    none(first_unwritten(rt.alloc()))
 }
 
 fn keyword(alloc: Global, is_raw: IdentIsRaw) -> Result<Ident, AllocError> {
@@ -239,8 +283,9 @@ fn is_identifier(alloc: Global, is_raw: IdentIsRaw, written: &str) -> Result<boo
 }
 
 #[test]
-fn identifiers_are_written_with_their_mark_and_shown_as_leaves(rt: HostRuntime) {
-    for (is_raw, written) in [(IdentIsRaw::No, "fn"), (IdentIsRaw::Yes, "r#fn")] {
-        assert!(rt; is_identifier(rt.alloc(), is_raw, written).unwrap_or(false));
-    }
+fn identifiers_are_written_with_their_mark_and_shown_as_leaves(
+    rt: HostRuntime,
+) -> Result<(), Wrong> {
+    holds(is_identifier(rt.alloc(), IdentIsRaw::No, "fn"))?;
+    holds(is_identifier(rt.alloc(), IdentIsRaw::Yes, "r#fn"))
 }

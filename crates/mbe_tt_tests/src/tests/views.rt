@@ -1,19 +1,12 @@
 use super::cursors::{first_misplaced, first_unmoved};
 use super::iterators::{are_in_order, are_spanned, passed};
-use super::parts::{Piece, tree, write, write_open};
+use super::parts::{tree, write, write_open};
 use crate::writing::delimiter;
-use mbe_tt::tt::{DelimiterKind, Spacing, TokenTreesView, TopSubtree, TopSubtreeBuilder};
+use mbe_tt::tt::{DelimiterKind, TokenTreesView, TopSubtree, TopSubtreeBuilder};
 use std::alloc::{AllocError, Allocator, Global};
-use std::test::Fail;
+use test_rows::{Fields, Rows, Wrong, each, number, rows};
 
-pub const SAMPLE: &[Piece] = &[
-    Piece::Ident("a"),
-    Piece::Open(DelimiterKind::Parenthesis),
-    Piece::Punct('+', Spacing::Joint),
-    Piece::Ident("b"),
-    Piece::Close(2),
-    Piece::Text("s"),
-];
+pub const SAMPLE: &str = "a ( +_ b )2 \"s";
 
 // `a (+ b) "s"`, inside braces.
 pub fn sample<A: Allocator + Copy>(alloc: A) -> Result<TopSubtree<A>, AllocError> {
@@ -40,57 +33,57 @@ fn is_one_group(whole: TokenTreesView<'_>, inside: TokenTreesView<'_>) -> bool {
         && leaf.try_into_subtree().is_none()
 }
 
-// What is seen of the sample, and whether it is so.
-fn seen(tree: &TopSubtree) -> [(&'static str, bool); 9] {
+fn is_in_braces(tree: &TopSubtree) -> bool {
+    tree.top_subtree().delimiter == delimiter(DelimiterKind::Brace)
+}
+
+// Whether what the row of that number says of the sample is so.
+fn is_seen(tree: &TopSubtree, row: usize) -> bool {
     let (whole, inside) = (tree.view(), tree.iter().remaining());
-    let is_brace = tree.top_subtree().delimiter == delimiter(DelimiterKind::Brace);
-    [
-        ("the whole is inside braces", is_brace),
-        (
-            "leaves, openings and closings are flat tokens",
-            are_counted(whole, inside),
-        ),
-        (
-            "trees that are no group aren't stripped",
-            inside.strip_invisible() == inside,
-        ),
-        (
-            "a view of one group is a group",
-            is_one_group(whole, inside),
-        ),
-        (
-            "a cursor goes over flat tokens",
-            first_misplaced(inside).is_none(),
-        ),
-        (
-            "an iterator goes to a cursor",
-            first_unmoved(tree).is_none(),
-        ),
-        (
-            "each tree comes once and in order",
-            are_in_order(tree, &["a", "()", "s"]),
-        ),
-        (
-            "a savepoint marks what is passed",
-            passed(tree) == Some((1, 4, 6)),
-        ),
-        ("spans begin trees", are_spanned(tree)),
-    ]
+    match row {
+        0 => is_in_braces(tree),
+        1 => are_counted(whole, inside),
+        2 => inside.strip_invisible() == inside,
+        3 => is_one_group(whole, inside),
+        4 => first_misplaced(inside).is_none(),
+        5 => first_unmoved(tree).is_none(),
+        6 => are_in_order(tree, &["a", "()", "s"]),
+        7 => passed(tree) == Some((1, 4, 6)),
+        8 => are_spanned(tree),
+        _ => false,
+    }
+}
+
+const SEEN: &str = rows![
+    (0, "the whole is inside braces"),
+    (1, "leaves, openings and closings are flat tokens"),
+    (2, "trees that are no group aren't stripped"),
+    (3, "a view of one group is a group"),
+    (4, "a cursor goes over flat tokens"),
+    (5, "an iterator goes to a cursor"),
+    (6, "each tree comes once and in order"),
+    (7, "a savepoint marks what is passed"),
+    (8, "spans begin trees"),
+];
+
+#[derive(Clone, Copy)]
+struct Seen;
+
+impl Rows for Seen {
+    fn is_so(&self, alloc: Global, [row, ..]: Fields) -> Result<bool, AllocError> {
+        Ok(is_seen(&sample(alloc)?, number(row)))
+    }
 }
 
 #[test]
-fn the_sample_is_seen_as_it_is(rt: HostRuntime) -> Result<(), Fail> {
-    let tree = sample(rt.alloc())?;
-    for (what, is_so) in seen(&tree) {
-        assert!(rt; is_so, "{what}");
-    }
-    Ok(())
+fn the_sample_is_seen_as_it_is(rt: HostRuntime) -> Result<(), Wrong> {
+    each(rt.alloc(), &Seen, SEEN, 9)
 }
 
-// The trees of the sample in a group of that kind, which is in an invisible one.
-fn wrapped(alloc: Global, kind: DelimiterKind) -> Result<TopSubtree, AllocError> {
+// The trees of the sample in a group with that opening, which is in an invisible one.
+fn wrapped(alloc: Global, opening: &str) -> Result<TopSubtree, AllocError> {
     let mut builder = TopSubtreeBuilder::new(alloc, delimiter(DelimiterKind::Invisible))?;
-    write_open(&mut builder, alloc, &[Piece::Open(kind)])?;
+    write_open(&mut builder, alloc, opening)?;
     write(&mut builder, alloc, SAMPLE)?;
     Ok(builder.build())
 }
@@ -102,23 +95,21 @@ fn is_opened(group: &TopSubtree, inside: Option<TokenTreesView<'_>>) -> bool {
         && content.strip_invisible() == inside.unwrap_or(content)
 }
 
-fn is_stripped(alloc: Global, kind: DelimiterKind) -> Result<bool, AllocError> {
-    let tree = sample(alloc)?;
-    let inside = match kind {
-        DelimiterKind::Invisible => Some(tree.iter().remaining()),
-        _ => None,
-    };
-    Ok(is_opened(&wrapped(alloc, kind)?, inside))
+// The trees inside a group of such an opening are what is stripped of it, where it is invisible.
+#[derive(Clone, Copy)]
+struct Stripped;
+
+impl Rows for Stripped {
+    fn is_so(&self, alloc: Global, [opening, ..]: Fields) -> Result<bool, AllocError> {
+        let tree = sample(alloc)?;
+        let inside = (opening == "<").then_some(tree.iter().remaining());
+        Ok(is_opened(&wrapped(alloc, opening)?, inside))
+    }
 }
 
+const OPENINGS: &str = rows![("<"), ("("), ("{"), ("[")];
+
 #[test]
-fn one_level_of_an_invisible_group_is_stripped(rt: HostRuntime) {
-    for kind in [
-        DelimiterKind::Invisible,
-        DelimiterKind::Parenthesis,
-        DelimiterKind::Brace,
-        DelimiterKind::Bracket,
-    ] {
-        assert!(rt; is_stripped(rt.alloc(), kind).unwrap_or(false), "{kind:?}");
-    }
+fn one_level_of_an_invisible_group_is_stripped(rt: HostRuntime) -> Result<(), Wrong> {
+    each(rt.alloc(), &Stripped, OPENINGS, 4)
 }
