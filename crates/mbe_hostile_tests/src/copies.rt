@@ -3,6 +3,7 @@ use crate::reading::defined;
 use crate::requests::{Ended, Work, refusals};
 use mbe::{ExpandErrorKind, ParseError, ValueResult};
 use std::alloc::{AllocError, Allocator, Global};
+use test_rows::{Wrong, holds};
 
 /// An error that is copied, with the text that it holds.
 #[derive(Clone, Copy)]
@@ -75,18 +76,18 @@ impl Work for Copied {
     }
 }
 
-static ERRORS: [Copied; 4] = [
-    Copied::Unexpected("so"),
-    Copied::Expected("expected ident"),
-    Copied::Binding("expected Expr"),
-    Copied::Unresolved("x"),
-];
+// Whether so many of its requests are refused at least.
+fn is_refused<W: Work>(alloc: Global, work: &W, at_least: u64) -> Result<bool, AllocError> {
+    Ok(refusals(alloc, work).unwrap_or(0) >= at_least)
+}
 
 #[test]
-fn errors_are_copied_or_refused(rt: HostRuntime) {
-    for (row, work) in ERRORS.iter().enumerate() {
-        assert!(rt; refusals(rt.alloc(), work).unwrap_or(0) > 0, "row {row}");
-    }
+fn errors_are_copied_or_refused(rt: HostRuntime) -> Result<(), Wrong> {
+    let alloc = rt.alloc();
+    holds(is_refused(alloc, &Copied::Unexpected("so"), 1))?;
+    holds(is_refused(alloc, &Copied::Expected("expected ident"), 1))?;
+    holds(is_refused(alloc, &Copied::Binding("expected Expr"), 1))?;
+    holds(is_refused(alloc, &Copied::Unresolved("x"), 1))
 }
 
 /// A macro that is copied, of this definition.
@@ -113,9 +114,8 @@ const EVERY_FORM: &str =
     ${concat(a, $a, 1)} $$ $crate $}; () => {}; x";
 
 #[test]
-fn macros_are_copied_or_refused(rt: HostRuntime) {
-    let count = refusals(rt.alloc(), &Rules(EVERY_FORM)).unwrap_or(0);
-    assert!(rt; count > 10, "only {count} requests");
+fn macros_are_copied_or_refused(rt: HostRuntime) -> Result<(), Wrong> {
+    holds(is_refused(rt.alloc(), &Rules(EVERY_FORM), 11))
 }
 
 /// A number whose clones ask for memory.
@@ -176,8 +176,7 @@ impl Work for Copying {
 }
 
 #[test]
-fn results_are_copied_or_refused(rt: HostRuntime) {
-    for (row, work) in [Copying::Lent, Copying::Whole].iter().enumerate() {
-        assert!(rt; refusals(rt.alloc(), work) == Some(1), "row {row}");
-    }
+fn results_are_copied_or_refused(rt: HostRuntime) -> Result<(), Wrong> {
+    holds(Ok(refusals(rt.alloc(), &Copying::Lent) == Some(1)))?;
+    holds(Ok(refusals(rt.alloc(), &Copying::Whole) == Some(1)))
 }

@@ -4,7 +4,7 @@ ghost use Rattle.mbe.specs.MacroViews.{macro_of};
 
 use crate::reading::{defined, lexed, printed};
 use crate::requests::{Ended, Work, refusals};
-use crate::rows::{Row, rows};
+use crate::rows::ROWS;
 use mbe::{
     DeclarativeMacro, ExpandError, ExpandResult, MacroCallStyle, MatchedArmIndex, ParseError,
     Verdict, expect_fragment,
@@ -14,6 +14,7 @@ use mbe_tt::grammar::PrefixEntryPoint;
 use mbe_tt::span::DelimSpan;
 use mbe_tt::tt::TopSubtree;
 use std::alloc::{AllocError, Allocator, Global};
+use test_rows::{Fields, Rows, Wrong, each, holds};
 
 type Expansion<A> = ExpandResult<(TopSubtree<A>, MatchedArmIndex), A>;
 
@@ -69,12 +70,12 @@ fn push_printed<A: Allocator>(
 }
 
 /// The expansion of a row. The macro and the argument equal copies made before, and expand once more as the row says.
-#[derive(Drop)]
-struct Expanding(&'static Row);
+#[derive(Clone, Copy)]
+struct Expanding(Fields);
 
 impl Work for Expanding {
     fn ended<A: Allocator + Copy>(&self, global: Global, alloc: A) -> Result<Ended, AllocError> {
-        let (definition, argument, _status, want) = *self.0;
+        let [definition, argument, _status, want, ..] = self.0;
         let rules = defined(alloc, definition)?;
         let argument = lexed(alloc, 1, argument)?;
         let (first, is_unchanged) = first_expanded(alloc, &rules, &argument)?;
@@ -113,12 +114,18 @@ fn expands<A: Allocator + Copy>(
     is_shown(global, &expansion, want)
 }
 
-#[test]
-fn each_request_of_an_expansion_refused(rt: HostRuntime) {
-    for row in rows() {
-        let count = refusals(rt.alloc(), &Expanding(row));
-        assert!(rt; count.unwrap_or(0) > 3, "{}", row.0);
+#[derive(Clone, Copy)]
+struct Refused;
+
+impl Rows for Refused {
+    fn is_so(&self, alloc: Global, fields: Fields) -> Result<bool, AllocError> {
+        Ok(refusals(alloc, &Expanding(fields)).unwrap_or(0) > 3)
     }
+}
+
+#[test]
+fn each_request_of_an_expansion_refused(rt: HostRuntime) -> Result<(), Wrong> {
+    each(rt.alloc(), &Refused, ROWS, 9)
 }
 
 /// A fragment that the grammar refuses. The iterator is where it was, and is asked once more.
@@ -147,8 +154,8 @@ impl Work for Fragment {
 }
 
 #[test]
-fn each_request_of_a_fragment_refused(rt: HostRuntime) {
-    assert!(rt; refusals(rt.alloc(), &Fragment).unwrap_or(0) > 1);
+fn each_request_of_a_fragment_refused(rt: HostRuntime) -> Result<(), Wrong> {
+    holds(Ok(refusals(rt.alloc(), &Fragment).unwrap_or(0) > 1))
 }
 
 // The verdict of each rule on the argument, in order.
@@ -208,6 +215,6 @@ static EXPLAINED: Explaining = Explaining {
 };
 
 #[test]
-fn each_request_of_verdicts_refused(rt: HostRuntime) {
-    assert!(rt; refusals(rt.alloc(), &EXPLAINED).unwrap_or(0) > 2);
+fn each_request_of_verdicts_refused(rt: HostRuntime) -> Result<(), Wrong> {
+    holds(Ok(refusals(rt.alloc(), &EXPLAINED).unwrap_or(0) > 2))
 }

@@ -4,6 +4,7 @@ use crate::texts::push_many;
 use std::alloc::{AllocError, Global};
 use std::test::Fail;
 use std::time::{CpuClock, Duration};
+use test_rows::{Fields, Rows, Wrong, each, holds, rows};
 
 // Whether the run prints that, with that status.
 fn prints(alloc: Global, (def, arg): (&str, &str), (status, want): (u8, &str)) -> bool {
@@ -52,20 +53,18 @@ fn push_statements(want: &mut String, end: usize) -> Result<(), AllocError> {
     writeln!(want, "  LITERAL Integer {STATEMENTS} 1@0..{end}")
 }
 
-fn are_statements(alloc: Global) -> bool {
+fn are_statements(alloc: Global) -> Result<bool, AllocError> {
     let definition = "($($k:ident = $e:expr;)*) => {$($k: $e)* ${count($k)}}";
-    let Ok(argument) = "a = 1 + 2;".repeat(alloc, STATEMENTS) else {
-        return false;
-    };
+    let argument = "a = 1 + 2;".repeat(alloc, STATEMENTS)?;
     let mut want = String::new(alloc);
-    push_statements(&mut want, argument.len()).is_ok()
-        && prints(alloc, (definition, argument.as_str()), (0, want.as_str()))
+    push_statements(&mut want, argument.len())?;
+    Ok(prints(alloc, (definition, argument.as_str()), (0, want.as_str())))
 }
 
 // 5,100 tokens of an argument, each of which is lexed, matched, bound, written and printed.
 #[test]
-fn an_argument_of_five_thousand_tokens(rt: HostRuntime) {
-    assert!(rt; are_statements(rt.alloc()));
+fn an_argument_of_five_thousand_tokens(rt: HostRuntime) -> Result<(), Wrong> {
+    holds(are_statements(rt.alloc()))
 }
 
 const NAMES: usize = 1_250;
@@ -94,29 +93,27 @@ fn push_words(want: &mut String, end: usize) -> Result<(), AllocError> {
     Ok(())
 }
 
-fn are_names(alloc: Global) -> bool {
-    let Ok(argument) = "a ".repeat(alloc, NAMES) else {
-        return false;
-    };
+fn are_names(alloc: Global) -> Result<bool, AllocError> {
+    let argument = "a ".repeat(alloc, NAMES)?;
     let mut definition = String::new(alloc);
     let mut want = String::new(alloc);
-    push_definition(&mut definition).is_ok()
-        && push_words(&mut want, argument.len()).is_ok()
-        && prints(
-            alloc,
-            (definition.as_str(), argument.as_str()),
-            (0, want.as_str()),
-        )
+    push_definition(&mut definition)?;
+    push_words(&mut want, argument.len())?;
+    Ok(prints(
+        alloc,
+        (definition.as_str(), argument.as_str()),
+        (0, want.as_str()),
+    ))
 }
 
 // 5,000 tokens of a pattern that binds 1,250 names, and a template that writes them.
 #[test]
-fn a_definition_of_five_thousand_tokens(rt: HostRuntime) {
-    assert!(rt; are_names(rt.alloc()));
+fn a_definition_of_five_thousand_tokens(rt: HostRuntime) -> Result<(), Wrong> {
+    holds(are_names(rt.alloc()))
 }
 
 // Each pattern is a single fragment, which takes a million links and what follows them.
-static CHAINS: [(&str, &str, &str); 5] = [
+const CHAINS: &str = rows![
     ("($t:ty) => {}", "&", "x"),
     ("($p:pat) => {}", "&", "x"),
     ("($e:expr) => {}", "-", "x"),
@@ -124,21 +121,26 @@ static CHAINS: [(&str, &str, &str); 5] = [
     ("($e:expr) => {}", "break ", ""),
 ];
 
-fn is_one_fragment(alloc: Global, &(definition, link, tail): &(&str, &str, &str)) -> bool {
-    let Ok(mut argument) = link.repeat(alloc, 1_000_000) else {
-        return false;
-    };
-    let mut want = String::new(alloc);
-    argument.push_str(tail).is_ok()
-        && push_front(&mut want, argument.len()).is_ok()
-        && prints(alloc, (definition, argument.as_str()), (0, want.as_str()))
+#[derive(Clone, Copy)]
+struct OneFragment;
+
+impl Rows for OneFragment {
+    fn is_so(
+        &self,
+        alloc: Global,
+        [definition, link, tail, ..]: Fields,
+    ) -> Result<bool, AllocError> {
+        let mut argument = link.repeat(alloc, 1_000_000)?;
+        let mut want = String::new(alloc);
+        argument.push_str(tail)?;
+        push_front(&mut want, argument.len())?;
+        Ok(prints(alloc, (definition, argument.as_str()), (0, want.as_str())))
+    }
 }
 
 #[test]
-fn long_chains_are_one_fragment(rt: HostRuntime) {
-    for chain in &CHAINS {
-        assert!(rt; is_one_fragment(rt.alloc(), chain), "{}", chain.1);
-    }
+fn long_chains_are_one_fragment(rt: HostRuntime) -> Result<(), Wrong> {
+    each(rt.alloc(), &OneFragment, CHAINS, 5)
 }
 
 fn push_level(text: &mut String) -> Result<(), AllocError> {

@@ -4,12 +4,13 @@ use crate::rows::ran;
 use crate::texts::push_many;
 use mbe::DeclarativeMacro;
 use std::alloc::{AllocError, Global};
+use test_rows::{Fields, Rows, Wrong, each, rows};
 
 // How many levels docs/DECISIONS.md gives.
 const LIMIT: usize = 256;
 
 // What a definition says before and after its levels, what opens and closes each, and what is in the innermost.
-static NESTS: [Nest; 4] = [
+const NESTS: &str = rows![
     ("(", "(", "$x:ident", ")", ") => {}"),
     ("(", "$(", "$x:ident", ")+", ") => {}"),
     ("($($x:ident)*) => {", "(", "a", ")", "}"),
@@ -27,18 +28,10 @@ fn push_nested(
     push_many(whole, close, levels)
 }
 
-type Nest = (
-    &'static str,
-    &'static str,
-    &'static str,
-    &'static str,
-    &'static str,
-);
-
 // A definition with so many levels.
 fn push_nest(
     whole: &mut String,
-    &(before, open, text, close, after): &Nest,
+    [before, open, text, close, after, ..]: Fields,
     levels: usize,
 ) -> Result<(), AllocError> {
     whole.push_str(before)?;
@@ -46,35 +39,31 @@ fn push_nest(
     whole.push_str(after)
 }
 
-// The status of a run on a definition with so many levels, and no argument. Nothing where there is no memory for it.
-fn status(alloc: Global, nest: &Nest, levels: usize) -> Option<u8> {
+// The status of a run on a definition with so many levels, and no argument.
+fn status(alloc: Global, nest: Fields, levels: usize) -> Result<u8, AllocError> {
     let mut definition = String::new(alloc);
-    push_nest(&mut definition, nest, levels).ok()?;
+    push_nest(&mut definition, nest, levels)?;
     let mut out = Vec::new(alloc);
-    Some(ran(alloc, (definition.as_str(), ""), &mut out).status())
+    Ok(ran(alloc, (definition.as_str(), ""), &mut out).status())
 }
 
-// Whether the limit's levels are read, and one more isn't.
-fn is_limited(alloc: Global, nest: &Nest) -> bool {
-    let within = status(alloc, nest, LIMIT).unwrap_or(9);
-    within <= 1 && status(alloc, nest, LIMIT + 1) == Some(5)
-}
+// The limit's levels are read, and one more isn't.
+#[derive(Clone, Copy)]
+struct Limited;
 
-#[test]
-fn definitions_nest_to_the_limit(rt: HostRuntime) {
-    for (row, nest) in NESTS.iter().enumerate() {
-        assert!(rt; is_limited(rt.alloc(), nest), "row {row}");
+impl Rows for Limited {
+    fn is_so(&self, alloc: Global, nest: Fields) -> Result<bool, AllocError> {
+        Ok(status(alloc, nest, LIMIT)? <= 1 && status(alloc, nest, LIMIT + 1)? == 5)
     }
 }
 
-type Levels = (&'static str, &'static str, &'static str, &'static str);
+#[test]
+fn definitions_nest_to_the_limit(rt: HostRuntime) -> Result<(), Wrong> {
+    each(rt.alloc(), &Limited, NESTS, 4)
+}
 
 // What opens and closes each level of pattern and template, and of the argument.
-static RULES: [Levels; 2] = [("(", ")", "(", ")"), ("$(", ")+", "", "")];
-
-fn rules() -> &'static [Levels] {
-    &RULES
-}
+const RULES: &str = rows![("(", ")", "(", ")"), ("$(", ")+", "", "")];
 
 // A rule of as many levels as may be.
 fn push_rule(text: &mut String, open: &str, close: &str) -> Result<(), AllocError> {
@@ -97,41 +86,47 @@ fn writes_word(alloc: Global, definition: &str, argument: &str) -> bool {
     }
 }
 
-fn is_written(alloc: Global, &(open, close, before, after): &Levels) -> bool {
-    let mut definition = String::new(alloc);
-    let mut argument = String::new(alloc);
-    push_rule(&mut definition, open, close).is_ok()
-        && push_nested(&mut argument, (before, "a", after), LIMIT).is_ok()
-        && writes_word(alloc, definition.as_str(), argument.as_str())
-}
+#[derive(Clone, Copy)]
+struct Deepest;
 
-#[test]
-fn the_deepest_rules_match_and_write(rt: HostRuntime) {
-    for levels in rules() {
-        assert!(rt; is_written(rt.alloc(), levels), "{}", levels.0);
+impl Rows for Deepest {
+    fn is_so(
+        &self,
+        alloc: Global,
+        [open, close, before, after, ..]: Fields,
+    ) -> Result<bool, AllocError> {
+        let mut definition = String::new(alloc);
+        let mut argument = String::new(alloc);
+        push_rule(&mut definition, open, close)?;
+        push_nested(&mut argument, (before, "a", after), LIMIT)?;
+        Ok(writes_word(alloc, definition.as_str(), argument.as_str()))
     }
 }
 
+#[test]
+fn the_deepest_rules_match_and_write(rt: HostRuntime) -> Result<(), Wrong> {
+    each(rt.alloc(), &Deepest, RULES, 2)
+}
+
 // The macro of the deepest rule.
-fn deepest(alloc: Global, open: &str, close: &str) -> Result<DeclarativeMacro, AllocError> {
+fn defined(alloc: Global, open: &str, close: &str) -> Result<DeclarativeMacro, AllocError> {
     let mut text = String::new(alloc);
     push_rule(&mut text, open, close)?;
     parsed(alloc, &lexed(alloc, 0, text.as_str())?)
 }
 
-fn is_copied(alloc: Global, &(open, close, _, _): &Levels) -> bool {
-    let Ok(read) = deepest(alloc, open, close) else {
-        return false;
-    };
-    match read.try_clone(alloc) {
-        Ok(copy) => copy == read && copy.num_rules() == 1,
-        Err(AllocError) => false,
+#[derive(Clone, Copy)]
+struct Copied;
+
+impl Rows for Copied {
+    fn is_so(&self, alloc: Global, [open, close, ..]: Fields) -> Result<bool, AllocError> {
+        let read = defined(alloc, open, close)?;
+        let copy = read.try_clone(alloc)?;
+        Ok(copy == read && copy.num_rules() == 1)
     }
 }
 
 #[test]
-fn the_deepest_rules_are_copied_and_compared(rt: HostRuntime) {
-    for levels in rules() {
-        assert!(rt; is_copied(rt.alloc(), levels), "{}", levels.0);
-    }
+fn the_deepest_rules_are_copied_and_compared(rt: HostRuntime) -> Result<(), Wrong> {
+    each(rt.alloc(), &Copied, RULES, 2)
 }

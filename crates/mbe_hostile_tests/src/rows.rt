@@ -3,16 +3,10 @@ use mbe_program::program::{Outcome, run};
 use mbe_tt::span::Edition;
 use std::alloc::Allocator;
 use std::io::Write;
+use test_rows::rows;
 
 /// A definition and an argument, the status, and what is printed.
-pub type Row = (&'static str, &'static str, u8, &'static str);
-
-const LIST: &str = "\n($($e:expr),* $(,)?) => {\n    $($e);* ;\n};\n";
-
-const SIGNS: &str =
-    "\n(-1) => {-1};\n(- 2) => {- 2};\n(- 3.0) => {- 3.0};\n(@$lit:literal) => {$lit}\n";
-
-static ROWS: [Row; 9] = [
+pub const ROWS: &str = rows![
     (
         "($($x:ident),*) => {$($x);*}",
         "a, b",
@@ -25,7 +19,7 @@ SUBTREE $$ 1@0..4 1@0..4
 ",
     ),
     (
-        LIST,
+        "\n($($e:expr),* $(,)?) => {\n    $($e);* ;\n};\n",
         "\n    _,\n    const { 1 },\n",
         0,
         "arm 0
@@ -40,7 +34,7 @@ SUBTREE $$ 1@0..25 1@0..25
 ",
     ),
     (
-        SIGNS,
+        "\n(-1) => {-1};\n(- 2) => {- 2};\n(- 3.0) => {- 3.0};\n(@$lit:literal) => {$lit}\n",
         "@--1.0",
         1,
         "error: expected literal at 1@1..2
@@ -50,7 +44,7 @@ SUBTREE $$ 1@0..6 1@0..6
 ",
     ),
     (
-        SIGNS,
+        "\n(-1) => {-1};\n(- 2) => {- 2};\n(- 3.0) => {- 3.0};\n(@$lit:literal) => {$lit}\n",
         "@-1",
         0,
         "arm 3
@@ -113,11 +107,6 @@ SUBTREE $$ 1@0..6 1@0..6
 ",
     ),
 ];
-
-/// All rows. A table is part of the proof of each function that names it, so only this one does.
-pub fn rows() -> &'static [Row] {
-    &ROWS
-}
 
 /// The run of texts shorter than 2^32 bytes, all of edition 2024.
 pub fn ran<A: Allocator + Copy, W: Write>(

@@ -10,6 +10,7 @@ use mbe_tt::tt::{
     TopSubtreeBuilder,
 };
 use std::alloc::{AllocError, Allocator, Global};
+use test_rows::{Wrong, holds};
 
 fn whole() -> Span {
     file_span(1, 0, 9)
@@ -123,36 +124,35 @@ impl Work for Writing {
     }
 }
 
-static CALLS: [(Call, &str); 5] = [
-    (Call::Open, "  SUBTREE [] 1@0..9 1@0..9\n"),
-    (Call::Push, "  IDENT   x 1@0..1\n"),
-    (
-        Call::Extend,
-        "  IDENT   x 1@0..1\n  IDENT   x 1@0..1\n  IDENT   x 1@0..1\n",
-    ),
-    (Call::ExtendWithTt, "  PUNCH   + [joint] 2@0..1\n"),
-    (Call::ExtendWithTtAlone, "  PUNCH   + [alone] 2@0..1\n"),
-];
-
-// How often a call is refused of builders that hold up to twenty words. One of them at least has no room left.
-fn refused(alloc: Global, (call, adds): (Call, &'static str)) -> Option<u64> {
-    let mut count = 0u64;
-    for held in 0..20usize {
-        let work = Writing {
-            call,
-            count: held,
-            adds,
-        };
-        count = count.saturating_add(refusals(alloc, &work)?);
+// Whether a call is refused of builders that hold up to twenty words. One of them at least has no room left.
+fn is_refused(alloc: Global, call: Call, adds: &'static str) -> Result<bool, AllocError> {
+    let mut total = 0u64;
+    for count in 0..20usize {
+        let work = Writing { call, count, adds };
+        match refusals(alloc, &work) {
+            Some(refused) => total = total.saturating_add(refused),
+            None => return Ok(false),
+        }
     }
-    Some(count)
+    Ok(total > 0)
 }
 
+const WORD: &str = "  IDENT   x 1@0..1\n";
+
+const THREE_WORDS: &str = "  IDENT   x 1@0..1\n  IDENT   x 1@0..1\n  IDENT   x 1@0..1\n";
+
 #[test]
-fn a_refused_builder_holds_what_it_held(rt: HostRuntime) {
-    for (row, &call) in CALLS.iter().enumerate() {
-        assert!(rt; refused(rt.alloc(), call).unwrap_or(0) > 0, "row {row}");
-    }
+fn a_refused_builder_holds_what_it_held(rt: HostRuntime) -> Result<(), Wrong> {
+    let alloc = rt.alloc();
+    holds(is_refused(alloc, Call::Open, "  SUBTREE [] 1@0..9 1@0..9\n"))?;
+    holds(is_refused(alloc, Call::Push, WORD))?;
+    holds(is_refused(alloc, Call::Extend, THREE_WORDS))?;
+    holds(is_refused(alloc, Call::ExtendWithTt, "  PUNCH   + [joint] 2@0..1\n"))?;
+    holds(is_refused(
+        alloc,
+        Call::ExtendWithTtAlone,
+        "  PUNCH   + [alone] 2@0..1\n",
+    ))
 }
 
 /// A call that makes a value of its own.
@@ -211,11 +211,14 @@ impl Work for Making {
     }
 }
 
-static MAKINGS: [Making; 4] = [Making::Symbol, Making::Empty, Making::Builder, Making::Copy];
+fn is_made(alloc: Global, work: Making) -> Result<bool, AllocError> {
+    Ok(refusals(alloc, &work).unwrap_or(0) > 0)
+}
 
 #[test]
-fn values_are_made_or_refused(rt: HostRuntime) {
-    for (row, work) in MAKINGS.iter().enumerate() {
-        assert!(rt; refusals(rt.alloc(), work).unwrap_or(0) > 0, "row {row}");
-    }
+fn values_are_made_or_refused(rt: HostRuntime) -> Result<(), Wrong> {
+    holds(is_made(rt.alloc(), Making::Symbol))?;
+    holds(is_made(rt.alloc(), Making::Empty))?;
+    holds(is_made(rt.alloc(), Making::Builder))?;
+    holds(is_made(rt.alloc(), Making::Copy))
 }
