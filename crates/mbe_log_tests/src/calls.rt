@@ -53,8 +53,8 @@ fn what(letter: u8) -> What {
     }
 }
 
-// A call of a row: `alloc`, `copy 0`, `nested 1 0`, `default 0`, or what is pushed, as `tree 0 1`, `optional 0 1`, `skipped 0 1` and
-// `missing 0 1`. After its kind come handles, and a name.
+// A call of a row: `alloc`, `copy 0`, `nested 1 0`, `default 0`, or what is pushed, as `tree 0 1`, `optional 0 1`,
+// `skipped 0 1` and `missing 0 1`. After its kind come handles, and a name.
 fn call(row: &str) -> Call {
     let mut words = row.split(' ');
     let kind = words.next().unwrap_or("");

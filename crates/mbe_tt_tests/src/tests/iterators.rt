@@ -39,9 +39,9 @@ fn brackets(kind: DelimiterKind) -> &'static str {
     }
 }
 
-// The text of what a call of an iterator's returns, `done` where that is nothing, and `None` where it refuses. The first letter of
-// its kind says which call: `peek`, `next`, `view`, `char`, `any` of two chars, `$`, `,`, `single` punct, `group`, so many trees
-// `inside` one, `leaf`, `word`, word or `_`, and `quoted` of a literal.
+// The text of what a call of an iterator's returns, `done` where that is nothing, and `None` where it refuses. The first
+// letter of its kind says which call: `peek`, `next`, `view`, `char`, `any` of two chars, `$`, `,`, `single` punct,
+// `group`, so many trees `inside` one, `leaf`, `word`, word or `_`, and `quoted` of a literal.
 fn answer<'a>(iter: &mut TtIter<'a>, kind: &str, given: &str) -> Option<&'a str> {
     let (one, rest) = first_and_rest(given);
     match first_and_rest(kind).0 {

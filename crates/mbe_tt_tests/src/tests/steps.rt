@@ -18,8 +18,8 @@ pub enum Step<'a> {
     Group(&'a str, bool),
 }
 
-/// The step of a row, by the first letter of its kind: `write`, `extend`, `copy`, `alone`, `unwrap`, `keep` or `take back`. After a
-/// colon come the parts, or the identifier.
+/// The step of a row, by the first letter of its kind: `write`, `extend`, `copy`, `alone`, `unwrap`, `keep` or `take back`.
+/// After a colon come the parts, or the identifier.
 pub fn step_of(row: &str) -> Step<'_> {
     let (kind, parts) = row.split_once(": ").unwrap_or((row, ""));
     match kind.as_bytes().first() {
