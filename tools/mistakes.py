@@ -3,9 +3,10 @@
 
     python3 tools/mistakes.py [--write] [--program EXPANDM]
 
-Each row is a file with a definition and a call. `expandm --explain` runs on it, by that EXPANDM or by one built by `rt try`, without proof, and
-rustc. The table has what each reports first, with the place. --write puts it into docs/MACROS.md, in place of the one there; else it is printed.
-The status is 1 if `expandm` says nothing of some row.
+Each row is a file with a definition and a call. `expandm` runs on it with --lint and with --explain, by that EXPANDM or by one built by `rt try`,
+without proof, and rustc. The table has what each reports first, with the place: of `expandm` the error of --lint if there is one, else what --explain
+says. --write puts it into docs/MACROS.md, in place of the one there; else it is printed. The status is 1 if of some row `expandm` has no report
+at the place that rustc names.
 """
 import json
 import os
@@ -39,7 +40,11 @@ ROWS = [
     ("(fn $n:ident ($($a:ident: $t:ty),*)) => { 0 }", "fn f(a u8)"),
     ("([$($x:expr),*]) => { 0 }", "(1, 2)"),
     ("(@sum $x:expr) => { 0 }; ($($x:expr),*) => { 0 }", "@sun 1"),
+    ("($(a)? $(a)?) => { 0 }", "a"),
+    ("(a $($v:vis)*) => { 0 }", "a"),
 ]
+# Here rustc names the whole call, since there is nothing in it.
+EMPTY_CALL = ("($($k:ident = $v:expr),+) => { 0 }", "")
 
 
 def source(rules, argument):
@@ -58,20 +63,27 @@ def by_rustc(path):
     return None
 
 
-def by_expandm(said):
-    """The messages of `expandm` on a file, each with its line and column: those on the rules that don't fit, or else the first one."""
-    found = re.findall(r"^\w+: (.*)\n *--> .*:(\d+):(\d+)$", said, re.M)
-    on_rules = [it for it in found if re.match(r"rule \d+ of `m!` (?!fits)", it[0])]
-    return [(int(line), int(column), message) for message, line, column in on_rules or found[:1]]
+def reports(said):
+    """The messages that `expandm` wrote, each with its level, line and column."""
+    found = re.findall(r"^(\w+): (.*)\n *--> .*:(\d+):(\d+)$", said, re.M)
+    return [(level, (int(line), int(column), message)) for level, message, line, column in found]
 
 
-def run_expandm(folder, names, program):
-    """What `expandm --explain` reports of each file of the folder."""
+def by_expandm(linted, explained):
+    """The first error of --lint; or else the messages of --explain on the rules that don't fit, or its first one."""
+    errors = [(line, column, message + " (`--lint`)") for level, (line, column, message) in reports(linted) if level == "error"]
+    explained = [report for _level, report in reports(explained)]
+    on_rules = [it for it in explained if re.match(r"rule \d+ of `m!` (?!fits)", it[2])]
+    return errors[:1] or on_rules or explained[:1]
+
+
+def run_expandm(folder, names, word, program):
+    """What `expandm` reports of each file of the folder with that word."""
     if program:
-        return {name: subprocess.run([program, "--explain", name], capture_output=True, text=True, cwd=folder).stderr for name in names}
+        return {name: subprocess.run([program, word, name], capture_output=True, text=True, cwd=folder).stderr for name in names}
     for name in names:
         with open(os.path.join(folder, name + ".args"), "w", encoding="utf-8") as it:
-            it.write("--explain\n")
+            it.write(word + "\n")
     ran = subprocess.run(["rt", "try", "--cases", folder, "--", "{}"], capture_output=True, text=True, cwd=f"{TOP}/crates/expandm")
     return cases(ran.stderr)
 
@@ -98,26 +110,29 @@ def main(write, program):
     for name, text in texts.items():
         with open(os.path.join(folder, name), "w", encoding="utf-8") as it:
             it.write(text)
-    said = run_expandm(folder, list(texts), program)
-    rows, silent = ["| Rules, and a call | `expandm` | rustc |", "|---|---|---|"], 0
+    linted = run_expandm(folder, list(texts), "--lint", program)
+    explained = run_expandm(folder, list(texts), "--explain", program)
+    rows, elsewhere = ["| Rules, and a call | `expandm` | rustc |", "|---|---|---|"], []
     for name, (rules, argument) in zip(texts, ROWS):
-        ours = by_expandm(said.get(name, ""))
+        ours = by_expandm(linted.get(name, ""), explained.get(name, ""))
         theirs = by_rustc(os.path.join(folder, name))
-        silent += not ours
+        if (rules, argument) != EMPTY_CALL and theirs and theirs[:2] not in [it[:2] for it in ours]:
+            elsewhere.append(f"`{rules}`, `m!({argument})`: no report at the place that rustc names")
         shown = "; ".join(f"at `{token_at(texts[name], line, column)}`: {message}" for line, column, message in ours) or "nothing"
         rustc = f"at `{token_at(texts[name], theirs[0], theirs[1])}`: {theirs[2]}" if theirs else "nothing"
         rows.append(f"| `{cell(rules)}`, `m!({cell(argument)})` | {cell(shown)} | {cell(rustc)} |")
     table = "\n".join(rows) + "\n"
+    print("".join(line + "\n" for line in elsewhere), end="", file=sys.stderr)
     if not write:
         print(table, end="")
-        return silent
+        return elsewhere
     path = f"{TOP}/docs/MACROS.md"
     with open(path, encoding="utf-8") as it:
         text = it.read()
     front, rest = text.split(BEGIN)
     with open(path, "w", encoding="utf-8") as it:
         it.write(front + BEGIN + table + END + rest.split(END)[1])
-    return silent
+    return elsewhere
 
 
 if __name__ == "__main__":
