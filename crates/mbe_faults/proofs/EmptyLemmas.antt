@@ -202,7 +202,8 @@ module _ (A : Type 0) (HasEdition : SyntaxContext → Edition → Type 0) where
         let same : r.0 ≡ left = whole_left r.0 left front (r.3 front left shows) in
         record {
           reads = λ more h. let k : Simple more f = is_simple o more f p (read h) in
-              subst (λ (g : Forest). Template HasEdition pattern g more) (whole_left k.0 left front (k.3 front left shows)) k.1;
+              subst (λ (g : Forest). Template HasEdition pattern g more)
+                  (whole_left k.0 left front (k.3 front left shows)) k.1;
           at = λ e n w. subst (λ (g : Forest). EmptyAt HasEdition f (passed f g + n)) same
               (r.2 n (subst (λ (g : Forest). EmptyAt HasEdition g n) (sym same) w));
         }

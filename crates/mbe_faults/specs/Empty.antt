@@ -1,5 +1,5 @@
--- Where a definition is refused for a repetition without separator whose body can read nothing: the number of flat tokens
--- before the group of the first one.
+-- Where a definition is refused for a repetition without separator whose body can read nothing: the number of flat
+-- tokens before the group of the first one.
 use Rattle.std.specs.Prelude.{◌≡◌, ◌+◌, ◌&&◌, ℕ, suc, false, true, List, Option, Some, None, Ok}
 use Rattle.mbe_tt.specs.declared.span.SyntaxContext.{SyntaxContext}
 use Rattle.mbe_tt.specs.declared.span.Edition.{Edition}
@@ -37,13 +37,13 @@ module _ (HasEdition : SyntaxContext → Edition → Type 0) where
         Template HasEdition pattern inside body → is_refused_op (repetition body separator repeat) ≡ false →
         EmptyAt rest n → EmptyAt f (passed f rest + n)
 
-  -- What is read after the op is read after the trees that are left; and, if it isn't refused, the first one there is the
-  -- first of all.
+  -- What is read after the op is read after the trees that are left; and, if it isn't refused, the first one there is
+  -- the first of all.
   pub record PassesOp (o : Op) (before left : Forest) : Type 0 where
     pub reads : (os : Ops) → Template HasEdition pattern before (op o os) → Template HasEdition pattern left os
     pub at : is_refused_op o ≡ false → (n : ℕ) → EmptyAt left n → EmptyAt before (passed before left + n)
 
-  -- the first of the rules that these chars separate whose pattern has one, the number of the rules before it, and its place
+  -- the first of the rules that these chars separate whose pattern has one: the number of the rules before, and its place
   pub data RulesEmptyAt (separators : List ℕ) : Forest → ℕ → ℕ → Type 0 where
     in_rule : (f : Forest) (o : RuleTrees) (r : Rule) (n : ℕ) → rule_trees_at f ≡ Ok o → AreParts HasEdition o r
         → EmptyAt o.reads n → RulesEmptyAt separators f 0 (pattern_place f o + n)
