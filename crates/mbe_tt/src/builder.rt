@@ -81,12 +81,13 @@ impl<A: Allocator> TopSubtreeBuilder<A> {
 
     /// Opens a group at the end of the innermost one, and takes the room for its closing. Until it is closed, its closing span
     /// is the opening one. `AllocError` if out of memory.
+    #[inline(always)]
     pub fn open(&mut self, kind: DelimiterKind, span: Span) -> Result<(), AllocError>
         ensures ok { OnOk result
             (self.new ≡ (record { opening = span; close = span; kind = kind }, none) ∷ self.old) }
         ensures err { OnErr result (self.new ≡ self.old) }
     {
-        self.entries.reserve(self.depth + 2)?;
+        reserve(&mut self.entries, self.depth + 2)?;
         let begin = self.entries.len();
         let delimiter = Delimiter {
             opening: span,
@@ -94,7 +95,7 @@ impl<A: Allocator> TopSubtreeBuilder<A> {
             kind,
         };
         self.entries
-            .push(Entry::Open(Subtree { delimiter }, self.at))?;
+            .push_reserved(Entry::Open(Subtree { delimiter }, self.at));
         self.at = begin;
         self.depth += 1;
         Ok(())
@@ -102,6 +103,7 @@ impl<A: Allocator> TopSubtreeBuilder<A> {
 
     /// The kind of the innermost open group; `None` if only the whole is open. So a caller knows by it whether `close` may be
     /// called, and whether a closing fits. The call is the project's own.
+    #[inline(always)]
     pub fn open_kind(&self) -> Option<DelimiterKind>
         ensures kind { result ≡ kind_inside self.now }
         ensures inside { IfSome result (λ _. 1 < length self.now) }
@@ -115,6 +117,7 @@ impl<A: Allocator> TopSubtreeBuilder<A> {
     }
 
     /// Closes the innermost open group with that span. A group other than the whole must be open. It takes no memory.
+    #[inline(always)]
     pub fn close(&mut self, span: Span)
         requires { 1 < length self.old }
         ensures { self.new ≡ closed span self.old }
@@ -322,6 +325,7 @@ fn unwrap_at<A: Allocator>(entries: &mut Vec<Entry<A>, A>, place: usize)
 }
 
 // What is written in the opening at that index.
+#[inline(always)]
 fn opening_at<A: Allocator>(entries: &Vec<Entry<A>, A>, at: usize) -> (Subtree, usize)
     requires { (s : Subtree) × (n : ℕ) × OpensAt (entries_of entries.now.items) at s n }
     ensures { OpensAt (entries_of entries.now.items) at result.0 result.1 }
@@ -334,6 +338,7 @@ fn opening_at<A: Allocator>(entries: &Vec<Entry<A>, A>, at: usize) -> (Subtree, 
 }
 
 // Closes the group whose opening is at that index, at the end, where there is room.
+#[inline(always)]
 fn finish<A: Allocator>(entries: &mut Vec<Entry<A>, A>, at: usize, subtree: Subtree)
     requires opens { (s : Subtree) × (n : ℕ) × OpensAt (entries_of entries.old.items) at s n }
     requires room { length entries.old.items < vec_capacity entries.old }
@@ -345,11 +350,10 @@ fn finish<A: Allocator>(entries: &mut Vec<Entry<A>, A>, at: usize, subtree: Subt
 {
     let len = entries.len() - at - 1;
     set_entry(entries, at, Entry::Open(subtree, len));
-    let Ok(()) = entries.push(Entry::Close(len)) else {
-        unreachable!()
-    };
+    entries.push_reserved(Entry::Close(len));
 }
 
+#[inline(always)]
 fn set_entry<A: Allocator>(entries: &mut Vec<Entry<A>, A>, at: usize, entry: Entry<A>)
     requires { at < length entries.old.items }
     ensures items { entries_of entries.new.items

@@ -10,7 +10,7 @@ pub returns-clause-items : goal.returns-clause-items
 returns-clause-items g c = λ before after s n e at.
     let len : c.len.result ≡ length (entries_of c.args.entries.now.items) =
     omega (arith, c.len.ensures, length-shown c.args.entries.now.items) in
-    shown_append _ _ _ c.in-Ok.ensures.items
+    shown_append _ _ _ c.push_reserved.ensures.items
     ∙ (ap (λ (es : List Entry). es ++ Close ∷ []) c.set_entry.ensures.items
     ∙ (ap (λ (m : ℕ). set (entries_of c.args.entries.now.items) c.args.at (Open c.args.subtree (m - c.args.at - 1))
     ++ Close ∷ []) len

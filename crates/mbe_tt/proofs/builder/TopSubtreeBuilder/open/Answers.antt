@@ -13,12 +13,12 @@ use Rattle.mbe_tt.proofs.builder.TopSubtreeBuilder.open.Goals as goal
 pub invariant_of-self-2 : goal.invariant_of-self-2
 invariant_of-self-2 g c =
     let d : Delimiter = record { opening = c.args.span; close = c.args.span; kind = c.args.kind } in
-    let room : length (entries_of c.push.new.self.items) + (c.self.inside.depth + 1) ≤ vec_capacity c.push.new.self =
+    let room : length (entries_of c.push_reserved.new.self.items) + (c.self.inside.depth + 1) ≤ vec_capacity c.push_reserved.new.self =
     omega (
       arith,
-      length-shown c.push.new.self.items,
-      c.in_ok-push.ensures.len,
-      c.in_ok-push.ensures.capacity,
+      length-shown c.push_reserved.new.self.items,
+      c.push_reserved.ensures.len,
+      c.push_reserved.ensures.capacity,
       c.in_ok-reserve.ensures.ok,
     ) in
     let begin : length (entries_of c.self.inside.entries.items) ≡ c.len-begin.result =
@@ -28,10 +28,10 @@ invariant_of-self-2 g c =
       length-shown c.self.inside.entries.items,
       ap length c.in_ok-reserve.ensures.items,
     ) in
-    subst (λ (n : ℕ). IsBuilding (entries_of c.push.new.self.items) (vec_capacity c.push.new.self) n
+    subst (λ (n : ℕ). IsBuilding (entries_of c.push_reserved.new.self.items) (vec_capacity c.push_reserved.new.self) n
     (c.self.inside.depth + 1)) begin
     (after_open_group _ _ _ _ _ _ d c.self.invariant
-    (shown_append _ _ _ c.in_ok-push.ensures.items
+    (shown_append _ _ _ c.push_reserved.ensures.items
     ∙ ap (λ (es : List Entry). es ++ Open (record { delimiter = d }) c.self.inside.at ∷ [])
     (ap entries_of c.in_ok-reserve.ensures.items))
     room).building
@@ -39,16 +39,16 @@ invariant_of-self-2 g c =
 pub returns-clause-ok : goal.returns-clause-ok
 returns-clause-ok g c =
     let d : Delimiter = record { opening = c.args.span; close = c.args.span; kind = c.args.kind } in
-    let room : length (entries_of c.push.new.self.items) + (c.self.inside.depth + 1) ≤ vec_capacity c.push.new.self =
+    let room : length (entries_of c.push_reserved.new.self.items) + (c.self.inside.depth + 1) ≤ vec_capacity c.push_reserved.new.self =
     omega (
       arith,
-      length-shown c.push.new.self.items,
-      c.in_ok-push.ensures.len,
-      c.in_ok-push.ensures.capacity,
+      length-shown c.push_reserved.new.self.items,
+      c.push_reserved.ensures.len,
+      c.push_reserved.ensures.capacity,
       c.in_ok-reserve.ensures.ok,
     ) in
     (after_open_group _ _ _ _ _ _ d c.self.invariant
-    (shown_append _ _ _ c.in_ok-push.ensures.items
+    (shown_append _ _ _ c.push_reserved.ensures.items
     ∙ ap (λ (es : List Entry). es ++ Open (record { delimiter = d }) c.self.inside.at ∷ [])
     (ap entries_of c.in_ok-reserve.ensures.items))
     room).levels
