@@ -11,13 +11,13 @@ use Rattle.mbe_tt.specs.declared.tt.LitKind.TheVariants.{Str}
 use Rattle.mbe_semantics.specs.declared.macro_call_style.MacroCallStyle.TheVariants.{FnLike}
 use Rattle.mbe_semantics.specs.Syntax.Op as ops
 use Rattle.mbe_semantics.specs.Syntax.Template.{nothing, token, variable, undated}
-use Rattle.mbe_semantics.specs.Syntax.Definition.{Rule, ended, separated}
+use Rattle.mbe_semantics.specs.Syntax.Definition.{Rule}
 use Rattle.mbe_semantics.specs.Bindings.Environment.{environment_of}
 use Rattle.mbe_semantics.specs.Writing.Substitution.{faults, rawness}
 use Rattle.mbe_semantics.specs.Expansion.Expansion.{Applies, FirstThatApplies, this_one, a_later_one}
 use Rattle.mbe_semantics.specs.Examples.Sample.{at, ident_of, taken}
 use Rattle.mbe_semantics.specs.Examples.Examples.{ConcatExample, concat_rule, concat_of, foo}
-use Rattle.mbe_examples.proofs.RuleLemmas.{applies_once, faulty_once}
+use Rattle.mbe_examples.proofs.RuleLemmas.{applies_once, faulty_once, parts, defines_one}
 use Rattle.mbe_semantics.specs.Readings.Item as items
 use Rattle.mbe_semantics.specs.Readings.Item.{Fragment, Item, matched, bound, skipped, rounds, Items, no_items, item, no_rounds, round, items_width}
 use Rattle.mbe_semantics.specs.Readings.Ambiguity.{IsReading}
@@ -46,16 +46,9 @@ minus_refused g = faulty_once g FnLike foo (concat_of minus) foo_items refl (foo
 pub concat_example : ConcatExample
 unfolding unicode_ident chars
 concat_example = record {
-  defines = (
-    None,
-    separated _ none _ _ [] None refl
-        (record {
-          style = refl;
-          reads = variable _ _ _ _ _ _ _ refl (undated refl refl) (nothing _ refl);
-          writes = token _ _ _ _ refl (nothing _ refl);
-        }) refl ended,
-    refl,
-  );
+  defines = defines_one _ _ _ refl
+      (parts refl (variable _ _ _ _ _ _ _ refl (undated refl refl) (nothing _ refl))
+      (token _ _ _ _ refl (nothing _ refl))) refl refl;
   expands = λ g e. (
     concat_rule,
     applies_once g FnLike foo concat_rule foo_items refl refl

@@ -9,12 +9,12 @@ use Rattle.mbe_semantics.specs.Expansion.Error.{ExpandError, binding_error}
 use Rattle.mbe_semantics.specs.declared.macro_call_style.MacroCallStyle.{MacroCallStyle}
 use Rattle.mbe_semantics.specs.declared.macro_call_style.MacroCallStyle.TheVariants.{FnLike, Attr}
 use Rattle.mbe_semantics.specs.Syntax.Template.{nothing, token, variable, repeated, undated, dated_expr}
-use Rattle.mbe_semantics.specs.Syntax.Definition.{ended, separated, unseparated, no_rule}
+use Rattle.mbe_semantics.specs.Syntax.Definition.{separated, unseparated, no_rule}
 use Rattle.mbe_semantics.specs.Bindings.Environment.{environment_of, binding_total}
 use Rattle.mbe_semantics.specs.Expansion.Expansion.{Applies, FirstThatApplies, this_one, a_later_one}
 use Rattle.mbe_semantics.specs.Examples.Sample.{taken, at, text_at, joint_at, alone_at}
 use Rattle.mbe_semantics.specs.Examples.Examples.{EndlessExample, endless_rule, simple_rule, one_a, StyledExample, attr_rule, plain_rule, PathExample, path_rule, path_argument, TextExample, literal_rule, raw_rule, UnboundExample, unbound_rule, RefusedExample, TwiceExample, twice_rule, PunctsExample, puncts_rule, DoubleExample, double_rule, sum_argument, LetExample, FrontExample, front_argument, NoRuleExample, let_rule, let_argument}
-use Rattle.mbe_examples.proofs.RuleLemmas.{answer_cut, answer_fragment, by_run, fits_once, applies_once, faulty_once, closest_alone}
+use Rattle.mbe_examples.proofs.RuleLemmas.{answer_cut, answer_fragment, by_run, fits_once, applies_once, faulty_once, closest_alone, parts, defines_one, defines_two}
 use Rattle.mbe_semantics.specs.Readings.Item as items
 use Rattle.mbe_semantics.specs.Readings.Item.{Fragment, Item, matched, bound, skipped, rounds, Items, no_items, item, no_rounds, round, items_width}
 use Rattle.mbe_semantics.specs.Readings.Ambiguity.{IsReading}
@@ -42,24 +42,11 @@ endless_refused g = faulty_once g FnLike one_a endless_rule a_items refl (endles
 
 pub endless_example : EndlessExample
 endless_example = record {
-  defines = (
-    None,
-    separated _ _ _ _ _ None refl
-        (record {
-          style = refl;
-          reads = variable _ _ _ _ _ _ _ refl (undated refl refl) (nothing _ refl);
-          writes = repeated _ _ _ _ _ _ _ refl (token _ _ _ _ refl (nothing _ refl)) (nothing _ refl);
-        })
-        refl
-        (separated _ none _ _ [] None refl
-        (record {
-          style = refl;
-          reads = variable _ _ _ _ _ _ _ refl (undated refl refl) (nothing _ refl);
-          writes = token _ _ _ _ refl (nothing _ refl);
-        })
-        refl ended),
-    refl,
-  );
+  defines = defines_two _ _ _ _ _ _ refl
+      (parts refl (variable _ _ _ _ _ _ _ refl (undated refl refl) (nothing _ refl))
+      (repeated _ _ _ _ _ _ _ refl (token _ _ _ _ refl (nothing _ refl)) (nothing _ refl))) refl refl
+      (parts refl (variable _ _ _ _ _ _ _ refl (undated refl refl) (nothing _ refl))
+      (token _ _ _ _ refl (nothing _ refl))) refl refl;
   expands = λ g. (
     simple_rule,
     applies_once g FnLike one_a simple_rule a_items refl refl (simple_read g) refl,
@@ -84,17 +71,9 @@ endless_example = record {
 
 pub styled_example : StyledExample
 styled_example = record {
-  defines = (
-    None,
-    separated _ _ _ _ _ None refl
-        (record { style = refl; reads = nothing _ refl; writes = token _ _ _ _ refl (nothing _ refl) }) refl
-        (separated _ none _ _ [] None refl (record {
-          style = refl;
-          reads = nothing _ refl;
-          writes = token _ _ _ _ refl (nothing _ refl);
-        }) refl ended),
-    refl,
-  );
+  defines = defines_two _ _ _ _ _ _ refl
+      (parts refl (nothing _ refl) (token _ _ _ _ refl (nothing _ refl))) refl refl
+      (parts refl (nothing _ refl) (token _ _ _ _ refl (nothing _ refl))) refl refl;
   styles = refl;
   expands = λ g. (
     plain_rule,
@@ -115,16 +94,9 @@ styled_example = record {
 
 pub path_example : PathExample
 path_example = record {
-  defines = (
-    None,
-    separated _ none _ _ [] None refl
-        (record {
-          style = refl;
-          reads = variable _ _ _ _ _ _ _ refl (undated refl refl) (nothing _ refl);
-          writes = token _ _ _ _ refl (nothing _ refl);
-        }) refl ended,
-    refl,
-  );
+  defines = defines_one _ _ _ refl
+      (parts refl (variable _ _ _ _ _ _ _ refl (undated refl refl) (nothing _ refl))
+      (token _ _ _ _ refl (nothing _ refl))) refl refl;
   expands = λ g e. (
     path_rule,
     applies_once g FnLike path_argument path_rule (item no_items (taken (codes "p") items.as_path path_argument)) refl
@@ -139,12 +111,8 @@ path_example = record {
 
 pub text_example : TextExample
 text_example = record {
-  defines_literal = (
-    None,
-    separated _ none _ _ [] None refl
-        (record { style = refl; reads = token _ _ _ _ refl (nothing _ refl); writes = nothing _ refl }) refl ended,
-    refl,
-  );
+  defines_literal = defines_one _ _ _ refl
+      (parts refl (token _ _ _ _ refl (nothing _ refl)) (nothing _ refl)) refl refl;
   expands_literal = λ g. (
     literal_rule,
     applies_once g FnLike _ literal_rule (item no_items (matched 1)) refl refl
@@ -152,12 +120,8 @@ text_example = record {
     this_one _ _ _,
     (_, refl, refl),
   );
-  defines_raw = (
-    None,
-    separated _ none _ _ [] None refl
-        (record { style = refl; reads = token _ _ _ _ refl (nothing _ refl); writes = nothing _ refl }) refl ended,
-    refl,
-  );
+  defines_raw = defines_one _ _ _ refl
+      (parts refl (token _ _ _ _ refl (nothing _ refl)) (nothing _ refl)) refl refl;
   expands_raw = λ g. (
     raw_rule,
     applies_once g FnLike _ raw_rule (item no_items (matched 1)) refl refl
@@ -169,12 +133,8 @@ text_example = record {
 
 pub unbound_example : UnboundExample
 unbound_example = record {
-  defines = (
-    None,
-    separated _ none _ _ [] None refl
-        (record { style = refl; reads = nothing _ refl; writes = token _ _ _ _ refl (nothing _ refl) }) refl ended,
-    refl,
-  );
+  defines = defines_one _ _ _ refl
+      (parts refl (nothing _ refl) (token _ _ _ _ refl (nothing _ refl))) refl refl;
   expands = λ g. (
     unbound_rule,
     applies_once g FnLike none unbound_rule no_items refl refl (refl, refl) refl,
@@ -189,26 +149,18 @@ pub refused_example : RefusedExample
 refused_example = record {
   stray = (
     _,
-    unseparated _ _ _ refl (record { style = refl; reads = nothing _ refl; writes = nothing _ refl }) refl,
+    unseparated _ _ _ refl (parts refl (nothing _ refl) (nothing _ refl)) refl,
     refl,
   );
-  nullable = (
-    None,
-    separated _ none _ _ [] None refl
-        (record {
-          style = refl;
-          reads = repeated _ _ _ _ _ _ _ refl
-              (repeated _ _ _ _ _ _ _ refl (variable _ _ _ _ _ _ _ refl (undated refl refl) (nothing _ refl))
-              (nothing _ refl)) (nothing _ refl);
-          writes = nothing _ refl;
-        }) refl ended,
-    refl,
-  );
+  nullable = defines_one _ _ _ refl
+      (parts refl (repeated _ _ _ _ _ _ _ refl (repeated _ _ _ _ _ _ _ refl (variable _ _ _ _ _ _ _ refl
+      (undated refl refl) (nothing _ refl)) (nothing _ refl)) (nothing _ refl))
+      (nothing _ refl)) refl refl;
   cut_off = (_, no_rule _ _ (has_trees _ refl) refl, refl);
   unclosed = (_, no_rule _ _ (has_trees _ refl) refl, refl);
   doubled = (
     _,
-    separated _ _ _ _ [] _ refl (record { style = refl; reads = nothing _ refl; writes = nothing _ refl }) refl
+    separated _ _ _ _ [] _ refl (parts refl (nothing _ refl) (nothing _ refl)) refl
         (no_rule _ _ (has_trees _ refl) refl),
     refl,
   );
@@ -222,17 +174,10 @@ refused_example = record {
 
 pub twice_example : TwiceExample
 twice_example = record {
-  defines = (
-    None,
-    separated _ none _ _ [] None refl
-        (record {
-          style = refl;
-          reads = variable _ _ _ _ _ _ _ refl (undated refl refl)
-              (variable _ _ _ _ _ _ _ refl (undated refl refl) (nothing _ refl));
-          writes = token _ _ _ _ refl (nothing _ refl);
-        }) refl ended,
-    refl,
-  );
+  defines = defines_one _ _ _ refl
+      (parts refl (variable _ _ _ _ _ _ _ refl (undated refl refl) (variable _ _ _ _ _ _ _ refl
+      (undated refl refl) (nothing _ refl)))
+      (token _ _ _ _ refl (nothing _ refl))) refl refl;
   expands = λ g. (
     twice_rule,
     applies_once g FnLike _ twice_rule (item
@@ -246,17 +191,10 @@ twice_example = record {
 
 pub puncts_example : PunctsExample
 puncts_example = record {
-  defines = (
-    None,
-    separated _ none _ _ [] None refl
-        (record {
-          style = refl;
-          reads = variable _ _ _ _ _ _ _ refl (undated refl refl)
-              (variable _ _ _ _ _ _ _ refl (undated refl refl) (nothing _ refl));
-          writes = token _ _ _ _ refl (token _ _ _ _ refl (nothing _ refl));
-        }) refl ended,
-    refl,
-  );
+  defines = defines_one _ _ _ refl
+      (parts refl (variable _ _ _ _ _ _ _ refl (undated refl refl) (variable _ _ _ _ _ _ _ refl
+      (undated refl refl) (nothing _ refl)))
+      (token _ _ _ _ refl (token _ _ _ _ refl (nothing _ refl)))) refl refl;
   expands = λ g. (
     puncts_rule,
     applies_once g FnLike _ puncts_rule (item (item no_items (taken (codes "a") items.stripped (joint_at 1 0 59 none)))
@@ -271,16 +209,9 @@ puncts_example = record {
 
 pub double_example : DoubleExample
 double_example = record {
-  defines = (
-    None,
-    separated _ none _ _ [] None refl
-        (record {
-          style = refl;
-          reads = variable _ _ _ _ _ _ _ refl (dated_expr _ refl refl) (nothing _ refl);
-          writes = token _ _ _ _ refl (token _ _ _ _ refl (token _ _ _ _ refl (nothing _ refl)));
-        }) refl ended,
-    refl,
-  );
+  defines = defines_one _ _ _ refl
+      (parts refl (variable _ _ _ _ _ _ _ refl (dated_expr _ refl refl) (nothing _ refl))
+      (token _ _ _ _ refl (token _ _ _ _ refl (token _ _ _ _ refl (nothing _ refl))))) refl refl;
   expands = λ g e. (
     double_rule,
     applies_once g FnLike sum_argument double_rule (item no_items (taken (codes "e") items.as_expression sum_argument))
@@ -301,16 +232,9 @@ let_verdict g w = by_run g let_rule.reads let_argument (stuck 0) w refl refl
 
 pub let_example : LetExample
 let_example = record {
-  defines = (
-    None,
-    separated _ none _ _ [] None refl
-        (record {
-          style = refl;
-          reads = variable _ _ _ _ _ _ _ refl (dated_expr _ refl refl) (nothing _ refl);
-          writes = nothing _ refl;
-        }) refl ended,
-    refl,
-  );
+  defines = defines_one _ _ _ refl
+      (parts refl (variable _ _ _ _ _ _ _ refl (dated_expr _ refl refl) (nothing _ refl))
+      (nothing _ refl)) refl refl;
   verdict = let_verdict;
   closest = λ g w. closest_alone g FnLike let_argument let_rule (stuck 0) 0 refl (let_verdict g w)
       (λ is f. absurd ((let_verdict g w).1 is f.1.0));

@@ -2,8 +2,9 @@
 use Rattle.std.specs.Prelude.{None, [], refl}
 use Rattle.mbe_tt.specs.Trees.Tree.{none}
 use Rattle.mbe_semantics.specs.Syntax.Template.{nothing, token, repeated, here}
-use Rattle.mbe_semantics.specs.Syntax.Definition.{ended, no_rule, faulty_rule, unseparated, separated, in_pattern, in_template, faulty}
+use Rattle.mbe_semantics.specs.Syntax.Definition.{no_rule, faulty_rule, unseparated, separated, in_pattern, in_template, faulty}
 use Rattle.mbe_semantics.specs.Examples.FurtherExamples.{FaultExamples, SpecifierExamples}
+use Rattle.mbe_examples.proofs.RuleLemmas.{parts, defines_one}
 
 pub fault_examples : FaultExamples
 fault_examples = record {
@@ -22,38 +23,26 @@ fault_examples = record {
   no_greater = (_, no_rule _ _ (λ e. cc) refl, refl);
   one_element = (_, faulty_rule _ _ _ refl (in_template _ (nothing _ refl) (here _ refl)), refl);
   suffixed = (_, faulty_rule _ _ _ refl (in_template _ (nothing _ refl) (here _ refl)), refl);
-  text_depth = (
-    None,
-    separated _ none _ _ [] None refl
-        (record { style = refl; reads = nothing _ refl; writes = token _ _ _ _ refl (nothing _ refl) }) refl ended,
-    refl,
-  );
-  more_in_braces = (
-    None,
-    separated _ none _ _ [] None refl
-        (record { style = refl; reads = nothing _ refl; writes = token _ _ _ _ refl (nothing _ refl) }) refl ended,
-    refl,
-  );
+  text_depth = defines_one _ _ _ refl
+      (parts refl (nothing _ refl) (token _ _ _ _ refl (nothing _ refl))) refl refl;
+  more_in_braces = defines_one _ _ _ refl
+      (parts refl (nothing _ refl) (token _ _ _ _ refl (nothing _ refl))) refl refl;
   later = (
     _,
-    separated _ _ _ _ _ _ refl (record { style = refl; reads = nothing _ refl; writes = nothing _ refl }) refl
+    separated _ _ _ _ _ _ refl (parts refl (nothing _ refl) (nothing _ refl)) refl
         (faulty_rule _ _ _ refl (in_pattern (here _ refl))),
     refl,
   );
   over_stray = (
     _,
     unseparated _ _ _ refl
-        (record {
-          style = refl;
-          reads = repeated _ _ _ _ _ _ _ refl (nothing _ refl) (nothing _ refl);
-          writes = nothing _ refl;
-        }) refl,
+        (parts refl (repeated _ _ _ _ _ _ _ refl (nothing _ refl) (nothing _ refl)) (nothing _ refl)) refl,
     refl,
   );
   body = (
     _,
-    separated _ _ _ _ _ _ refl (record { style = refl; reads = nothing _ refl; writes = nothing _ refl }) refl
-        (unseparated _ _ _ refl (record { style = refl; reads = nothing _ refl; writes = nothing _ refl }) refl),
+    separated _ _ _ _ _ _ refl (parts refl (nothing _ refl) (nothing _ refl)) refl
+        (unseparated _ _ _ refl (parts refl (nothing _ refl) (nothing _ refl)) refl),
     refl,
   );
   arguments = faulty _ (in_pattern (here _ refl));

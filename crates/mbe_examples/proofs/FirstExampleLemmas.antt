@@ -15,11 +15,10 @@ use Rattle.mbe_semantics.specs.Readings.Verdict.{IsVerdict, one_reading, many_re
 use Rattle.mbe_semantics.specs.Matching.Run.{run, verdict}
 use Rattle.mbe_semantics.proofs.PlainLemmas as plain
 use Rattle.mbe_laws.proofs.Patterns.WordLemmas.{words_never_ambiguous}
-use Rattle.mbe_examples.proofs.RuleLemmas.{by_run, fits_by_run, closest_alone}
+use Rattle.mbe_examples.proofs.RuleLemmas.{by_run, fits_by_run, closest_alone, parts, defines_one}
 use Rattle.mbe_semantics.specs.Syntax.Op.{Op, Ops, no_ops, op}
 use Rattle.mbe_tt.specs.Fragments.Grammar.{Grammar, IsLawful}
 use Rattle.mbe_semantics.specs.Syntax.Template.{pattern, template, Template, nothing, token, variable, grouped, repeated, undated}
-use Rattle.mbe_semantics.specs.Syntax.Definition.{ended, separated}
 use Rattle.mbe_semantics.specs.Examples.FirstExamples.{pair_reads, pair_writes, PairExample, pair_rule, pair_argument, pair_items, CastExample, cast_pattern, cast_argument, cast_rule, OptionalExample, twice_pattern, twice_argument, twice_rule, QuoteExample, quote_pattern, quote_argument, quote_rule, RoundsExample, bx_pattern, bx_argument, bx_rule, TemplateExamples, DefinitionExamples, VerdictExamples, group_pattern, list_pattern, x_variable, token_of, comma, in_parentheses, a_then, comma_then, bx_items, of_kind, list_between, quote_then, arrow_pattern}
 use Rattle.mbe_semantics.specs.Examples.Sample.{is_2024, delimiter_of, at, word, mark, punct_of}
 use Rattle.mbe_semantics.specs.declared.kinds.MetaVarKind.TheVariants as kinds
@@ -53,7 +52,11 @@ pair_applies g = record {
   items = pair_items;
   fits = (
     (λ q. plain.never_ambiguous g pair_rule.reads pair_argument q refl),
-    (pair_read g, λ others r. plain.one_reading g pair_rule.reads pair_argument others pair_items refl r (pair_read g)),
+    (
+      pair_read g,
+      λ others r. plain.one_reading g pair_rule.reads pair_argument others pair_items refl r
+          (pair_read g),
+    ),
   );
   faultless = refl;
 }
@@ -61,12 +64,8 @@ pair_applies g = record {
 pub pair_example : PairExample
 unfolding pair_applies
 pair_example = record {
-  parsed = (
-    None,
-    separated _ none _ _ [] None refl
-        (record { style = refl; reads = pair_pattern; writes = pair_template }) refl ended,
-    refl,
-  );
+  parsed = defines_one _ _ _ refl
+      (parts refl (pair_pattern) (pair_template)) refl refl;
   read = pair_read;
   written = λ g. (
     _,
@@ -136,17 +135,10 @@ twice_verdict g = (
 
 pub optional_example : OptionalExample
 optional_example = record {
-  defines = (
-    None,
-    separated _ none _ _ [] None refl
-        (record {
-          style = refl;
-          reads = repeated _ _ _ _ _ _ _ refl (token _ _ _ _ refl (nothing _ refl))
-              (repeated _ _ _ _ _ _ _ refl (token _ _ _ _ refl (nothing _ refl)) (nothing _ refl));
-          writes = nothing _ refl;
-        }) refl ended,
-    refl,
-  );
+  defines = defines_one _ _ _ refl
+      (parts refl (repeated _ _ _ _ _ _ _ refl (token _ _ _ _ refl (nothing _ refl))
+      (repeated _ _ _ _ _ _ _ refl (token _ _ _ _ refl (nothing _ refl)) (nothing _ refl)))
+      (nothing _ refl)) refl refl;
   one = first_a;
   other = second_a;
   different = differ;
@@ -188,18 +180,10 @@ cast_verdict g = (
 
 pub cast_example : CastExample
 cast_example = record {
-  defines = (
-    None,
-    separated _ none _ _ [] None refl
-        (record {
-          style = refl;
-          reads = repeated _ _ _ _ _ _ _ refl (variable _ _ _ _ _ _ _ refl (undated refl refl) (nothing _ refl))
-              (token _ _ _ _ refl
-              (variable _ _ _ _ _ _ _ refl (undated refl refl) (nothing _ refl)));
-          writes = nothing _ refl;
-        }) refl ended,
-    refl,
-  );
+  defines = defines_one _ _ _ refl
+      (parts refl (repeated _ _ _ _ _ _ _ refl (variable _ _ _ _ _ _ _ refl (undated refl refl)
+      (nothing _ refl)) (token _ _ _ _ refl (variable _ _ _ _ _ _ _ refl (undated refl refl) (nothing _ refl))))
+      (nothing _ refl)) refl refl;
   verdict = cast_verdict;
   closest = λ g. closest_alone g FnLike cast_argument cast_rule (ambiguous 0) 0 refl (cast_verdict g)
       (λ is f. absurd (f.0 0 (cast_verdict g).0));
@@ -227,18 +211,10 @@ quote_verdict g w = by_run g quote_pattern quote_argument (ambiguous 1) w refl r
 
 pub quote_example : QuoteExample
 quote_example = record {
-  defines = (
-    None,
-    separated _ none _ _ [] None refl
-        (record {
-          style = refl;
-          reads = repeated _ _ _ _ _ _ _ refl
-              (token _ _ _ _ refl (repeated _ _ _ _ _ _ _ refl (token _ _ _ _ refl (nothing _ refl)) (nothing _ refl)))
-              (nothing _ refl);
-          writes = nothing _ refl;
-        }) refl ended,
-    refl,
-  );
+  defines = defines_one _ _ _ refl
+      (parts refl (repeated _ _ _ _ _ _ _ refl (token _ _ _ _ refl (repeated _ _ _ _ _ _ _ refl
+      (token _ _ _ _ refl (nothing _ refl)) (nothing _ refl))) (nothing _ refl))
+      (nothing _ refl)) refl refl;
   place = quote_place;
   verdict = quote_verdict;
   closest = λ g w. closest_alone g FnLike quote_argument quote_rule (ambiguous 1) 0 refl (quote_verdict g w)
@@ -262,18 +238,10 @@ bx_applies g w = record { styled = refl; items = bx_items; fits = bx_fits g w; f
 
 pub rounds_example : RoundsExample
 rounds_example = record {
-  defines = (
-    None,
-    separated _ none _ _ [] None refl
-        (record {
-          style = refl;
-          reads = repeated _ _ _ _ _ _ _ refl
-              (token _ _ _ _ refl (repeated _ _ _ _ _ _ _ refl (token _ _ _ _ refl (nothing _ refl)) (nothing _ refl)))
-              (nothing _ refl);
-          writes = nothing _ refl;
-        }) refl ended,
-    refl,
-  );
+  defines = defines_one _ _ _ refl
+      (parts refl (repeated _ _ _ _ _ _ _ refl (token _ _ _ _ refl (repeated _ _ _ _ _ _ _ refl
+      (token _ _ _ _ refl (nothing _ refl)) (nothing _ refl))) (nothing _ refl))
+      (nothing _ refl)) refl refl;
   fits = bx_fits;
   expands = λ g w. (bx_rule, bx_applies g w, this_one _ _ _, (_, refl, refl));
 }
@@ -357,7 +325,7 @@ pub definition_examples : DefinitionExamples
 definition_examples = record {
   stray = (
     _,
-    unseparated _ _ _ refl (record { style = refl; reads = nothing _ refl; writes = nothing _ refl }) refl,
+    unseparated _ _ _ refl (parts refl (nothing _ refl) (nothing _ refl)) refl,
     refl,
   );
   no_template = (_, no_rule _ _ (λ e. false≢true (sym (ap (λ f. nat_le 1 (flat_len f)) e))) refl, refl);

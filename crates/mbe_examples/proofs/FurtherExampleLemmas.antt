@@ -21,7 +21,7 @@ use Rattle.mbe_semantics.specs.Examples.Sample.{taken, text_at, number_at, alone
 use Rattle.std.specs.Fmt.{digits}
 use Rattle.mbe_tt.specs.declared.tt.DelimiterKind.TheVariants.{Parenthesis}
 use Rattle.mbe_semantics.specs.Examples.FurtherExamples.{SignExample, one_rule, two_rule, three_rule, any_literal_rule, signed_argument, spaced_argument, PlusExample, plus_rule, star_argument, InvisibleExample, tree_rule, ident_rule, hidden_rule, hidden_a, NamesExample, one_then_list, list_then_one, two_lists, a_at, MostBindingsExample, one_binding, two_bindings, pq_argument, beside_rule, EarliestExample, earlier_rule, later_rule, p_argument, MarkedExample}
-use Rattle.mbe_examples.proofs.RuleLemmas.{by_run, fits_once, applies_once, applies_by_run}
+use Rattle.mbe_examples.proofs.RuleLemmas.{by_run, fits_once, applies_once, applies_by_run, parts, defines_one}
 use Rattle.mbe_laws.proofs.Matching.RunLemmas.{one_verdict}
 
 -- ---- a literal and its sign
@@ -47,31 +47,17 @@ sign_example = record {
   defines = (
     None,
     separated _ _ _ _ _ None refl
-        (record {
-          style = refl;
-          reads = token _ _ _ _ refl (token _ _ _ _ refl (nothing _ refl));
-          writes = token _ _ _ _ refl (token _ _ _ _ refl (nothing _ refl));
-        }) refl
+        (parts refl (token _ _ _ _ refl (token _ _ _ _ refl (nothing _ refl)))
+        (token _ _ _ _ refl (token _ _ _ _ refl (nothing _ refl)))) refl
         (separated _ _ _ _ _ None refl
-        (record {
-          style = refl;
-          reads = token _ _ _ _ refl (token _ _ _ _ refl (nothing _ refl));
-          writes = token _ _ _ _ refl (token _ _ _ _ refl (nothing _ refl));
-        }) refl
+        (parts refl (token _ _ _ _ refl (token _ _ _ _ refl (nothing _ refl)))
+        (token _ _ _ _ refl (token _ _ _ _ refl (nothing _ refl)))) refl
         (separated _ _ _ _ _ None refl
-        (record {
-          style = refl;
-          reads = token _ _ _ _ refl (token _ _ _ _ refl (nothing _ refl));
-          writes = token _ _ _ _ refl (token _ _ _ _ refl (nothing _ refl));
-        }) refl
+        (parts refl (token _ _ _ _ refl (token _ _ _ _ refl (nothing _ refl)))
+        (token _ _ _ _ refl (token _ _ _ _ refl (nothing _ refl)))) refl
         (separated _ none _ _ [] None refl
-        (record {
-          style = refl;
-          reads = token _ _ _ _ refl
-              (variable _ _ _ _ _ _ _ refl (undated refl refl) (nothing _ refl));
-          writes =
-              token _ _ _ _ refl (nothing _ refl);
-        })
+        (parts refl (token _ _ _ _ refl (variable _ _ _ _ _ _ _ refl (undated refl refl) (nothing _ refl)))
+        (token _ _ _ _ refl (nothing _ refl)))
         refl ended))),
     refl,
   );
@@ -105,27 +91,18 @@ plus_items =
 plus_read : (g : Grammar) → IsReading g plus_rule.reads star_argument plus_items
 plus_read g = ((_, (_, refl, (tt, (_, refl, refl))), refl), refl)
 
-plus_run : (g : Grammar) → verdict g plus_rule.reads star_argument ≡ verdicts.one_reading
+plus_applies : (g : Grammar) → IsLawful g → Applies g FnLike star_argument plus_rule
 unfolding verdict run tree
-plus_run g = refl
-
-abbrev plus_applies : (g : Grammar) → IsLawful g → Applies g FnLike star_argument plus_rule
-plus_applies g w = applies_by_run g FnLike star_argument plus_rule plus_items w refl refl (plus_run g) (plus_read g)
+plus_applies g w = applies_by_run g FnLike star_argument plus_rule plus_items w refl refl refl (plus_read g)
     refl
 
 pub plus_example : PlusExample
+unfolding plus_applies
 plus_example = record {
-  defines = (
-    None,
-    separated _ none _ _ [] None refl
-        (record {
-          style = refl;
-          reads = repeated _ _ _ _ _ _ _ refl (token _ _ _ _ refl (nothing _ refl))
-              (token _ _ _ _ refl (nothing _ refl));
-          writes = nothing _ refl;
-        }) refl ended,
-    refl,
-  );
+  defines = defines_one _ _ _ refl
+      (parts refl (repeated _ _ _ _ _ _ _ refl (token _ _ _ _ refl (nothing _ refl)) (token _ _ _ _ refl
+      (nothing _ refl)))
+      (nothing _ refl)) refl refl;
   expands = λ g w. (plus_rule, plus_applies g w, this_one _ _ _, (_, refl, refl));
 }
 
@@ -170,14 +147,25 @@ stays_items =
     (rounds (round no_rounds (item no_items (word_item 2 (codes "b"))) 0) (item no_items (word_item 4 (codes "c"))))
 
 stays_read : (g : Grammar) → IsReading g one_then_list.reads stays_argument stays_items
-stays_read g = ((_, (_, refl, (refl, refl)), ((tt, tt, (_, refl, (refl, refl)), refl), (_, refl, (refl, refl)))), refl)
+stays_read g = (
+  (
+    _,
+    (_, refl, (refl, refl)),
+    (
+      (tt, tt, (_, refl, (refl, refl)), refl),
+      (
+        _,
+        refl,
+        (refl, refl),
+      ),
+    ),
+  ),
+  refl,
+)
 
-stays_run : (g : Grammar) → verdict g one_then_list.reads stays_argument ≡ verdicts.one_reading
+stays_applies : (g : Grammar) → IsLawful g → Applies g FnLike stays_argument one_then_list
 unfolding verdict run tree
-stays_run g = refl
-
-abbrev stays_applies : (g : Grammar) → IsLawful g → Applies g FnLike stays_argument one_then_list
-stays_applies g w = applies_by_run g FnLike stays_argument one_then_list stays_items w refl refl (stays_run g)
+stays_applies g w = applies_by_run g FnLike stays_argument one_then_list stays_items w refl refl refl
     (stays_read g) refl
 
 abbrev replaces_argument : Forest
@@ -198,13 +186,10 @@ replaces_read g = (
   refl,
 )
 
-replaces_run : (g : Grammar) → verdict g list_then_one.reads replaces_argument ≡ verdicts.one_reading
+replaces_applies : (g : Grammar) → IsLawful g → Applies g FnLike replaces_argument list_then_one
 unfolding verdict run tree
-replaces_run g = refl
-
-abbrev replaces_applies : (g : Grammar) → IsLawful g → Applies g FnLike replaces_argument list_then_one
-replaces_applies g w = applies_by_run g FnLike replaces_argument list_then_one replaces_items w refl refl
-    (replaces_run g) (replaces_read g) refl
+replaces_applies g w = applies_by_run g FnLike replaces_argument list_then_one replaces_items w refl refl refl
+    (replaces_read g) refl
 
 abbrev appended_argument : Forest
 appended_argument = a_at 0 (alone_at 1 2 59 (text_at 1 4 (codes "b") (alone_at 1 5 44 (text_at 1 7 (codes "c") none))))
@@ -224,12 +209,9 @@ appended_read g = (
   refl,
 )
 
-appended_run : (g : Grammar) → verdict g two_lists.reads appended_argument ≡ verdicts.one_reading
+appended_applies : (g : Grammar) → IsLawful g → Applies g FnLike appended_argument two_lists
 unfolding verdict run tree
-appended_run g = refl
-
-abbrev appended_applies : (g : Grammar) → IsLawful g → Applies g FnLike appended_argument two_lists
-appended_applies g w = applies_by_run g FnLike appended_argument two_lists appended_items w refl refl (appended_run g)
+appended_applies g w = applies_by_run g FnLike appended_argument two_lists appended_items w refl refl refl
     (appended_read g) refl
 
 abbrev skipped_argument : Forest
@@ -243,15 +225,13 @@ skipped_items =
 skipped_read : (g : Grammar) → IsReading g two_lists.reads skipped_argument skipped_items
 skipped_read g = ((_, (_, (_, refl, (tt, refl)), refl), (tt, (_, refl, (refl, refl)))), refl)
 
-skipped_run : (g : Grammar) → verdict g two_lists.reads skipped_argument ≡ verdicts.one_reading
+skipped_applies : (g : Grammar) → IsLawful g → Applies g FnLike skipped_argument two_lists
 unfolding verdict run tree
-skipped_run g = refl
-
-abbrev skipped_applies : (g : Grammar) → IsLawful g → Applies g FnLike skipped_argument two_lists
-skipped_applies g w = applies_by_run g FnLike skipped_argument two_lists skipped_items w refl refl (skipped_run g)
+skipped_applies g w = applies_by_run g FnLike skipped_argument two_lists skipped_items w refl refl refl
     (skipped_read g) refl
 
 pub names_example : NamesExample
+unfolding stays_applies replaces_applies appended_applies skipped_applies
 names_example = record {
   stays = λ g w. (one_then_list, stays_applies g w, this_one _ _ _, (_, (_, _, refl, refl, refl), refl));
   replaces = λ g w. (list_then_one, replaces_applies g w, this_one _ _ _, (_, (_, _, refl, refl, refl), refl));
@@ -421,7 +401,14 @@ abbrev p_items : List ℕ → Items
 p_items name = item no_items (taken name items.stripped p_argument)
 
 earlier_fits : (g : Grammar) → Fits g earlier_rule.reads p_argument (p_items (codes "x"))
-earlier_fits g = fits_once g earlier_rule.reads p_argument (p_items (codes "x")) refl ((_, refl, (refl, refl)), refl)
+earlier_fits g = fits_once g earlier_rule.reads p_argument (p_items (codes "x")) refl (
+  (
+    _,
+    refl,
+    (refl, refl),
+  ),
+  refl,
+)
 
 later_fits : (g : Grammar) → Fits g later_rule.reads p_argument (p_items (codes "y"))
 later_fits g = fits_once g later_rule.reads p_argument (p_items (codes "y")) refl ((_, refl, (refl, refl)), refl)

@@ -8,12 +8,11 @@ use Rattle.mbe_tt.specs.Fragments.Grammar.{Grammar}
 use Rattle.mbe_semantics.specs.declared.macro_call_style.MacroCallStyle.TheVariants.{FnLike}
 use Rattle.mbe_semantics.specs.declared.kinds.MetaVarKind.TheVariants as kinds
 use Rattle.mbe_semantics.specs.Syntax.Template.{nothing, token, variable, repeated, undated}
-use Rattle.mbe_semantics.specs.Syntax.Definition.{ended, separated}
 use Rattle.mbe_tt.specs.declared.grammar.PrefixEntryPoint.TheVariants.{Vis}
 use Rattle.mbe_semantics.specs.Expansion.Expansion.{Applies, this_one, a_later_one}
 use Rattle.mbe_semantics.specs.Examples.Sample.{taken, text_at}
 use Rattle.mbe_semantics.specs.Examples.Examples.{ListExample, list_rule, list_argument, IndexExample, index_rule, two_words, UnknownExample, unknown_rule, any_rule, one_a, EmptyExample, empty_rule, ZipExample, zip_rule, zip_argument, CountExample, count_rule, count_argument}
-use Rattle.mbe_examples.proofs.RuleLemmas.{answer_fragment, fits_by_run, applies_by_run, by_run, closest_alone}
+use Rattle.mbe_examples.proofs.RuleLemmas.{answer_fragment, fits_by_run, applies_by_run, by_run, closest_alone, parts, defines_one, defines_two}
 use Rattle.mbe_semantics.specs.Readings.Item as items
 use Rattle.mbe_semantics.specs.Readings.Item.{Fragment, Item, matched, bound, skipped, rounds, Items, no_items, item, no_rounds, round, items_width}
 use Rattle.mbe_semantics.specs.Readings.Ambiguity.{IsReading}
@@ -35,27 +34,24 @@ list_items = item no_items (rounds (round no_rounds
     (item no_items (taken (codes "x") items.stripped (text_at 1 0 (codes "a") none))) 1)
     (item no_items (taken (codes "x") items.stripped (text_at 1 3 (codes "b") none))))
 
-list_applies_run : (g : Grammar) → verdict g list_rule.reads list_argument ≡ verdicts.one_reading
+list_applies : (g : Grammar) → IsLawful g → Applies g FnLike list_argument list_rule
 unfolding verdict run tree
-list_applies_run g = refl
-
-abbrev list_applies : (g : Grammar) → IsLawful g → Applies g FnLike list_argument list_rule
-list_applies g w = applies_by_run g FnLike list_argument list_rule list_items w refl refl (list_applies_run g)
-    ((_, refl, ((tt, tt, (_, refl, (refl, refl)), refl), (_, refl, (refl, refl)))), refl) refl
+list_applies g w = applies_by_run g FnLike list_argument list_rule list_items w refl refl refl (
+  (
+    _,
+    refl,
+    ((tt, tt, (_, refl, (refl, refl)), refl), (_, refl, (refl, refl))),
+  ),
+  refl,
+) refl
 
 pub list_example : ListExample
+unfolding list_applies
 list_example = record {
-  defines = (
-    None,
-    separated _ none _ _ [] None refl
-        (record {
-          style = refl;
-          reads = repeated _ _ _ _ _ _ _ refl (variable _ _ _ _ _ _ _ refl (undated refl refl) (nothing _ refl))
-              (nothing _ refl);
-          writes = repeated _ _ _ _ _ _ _ refl (token _ _ _ _ refl (nothing _ refl)) (nothing _ refl);
-        }) refl ended,
-    refl,
-  );
+  defines = defines_one _ _ _ refl
+      (parts refl (repeated _ _ _ _ _ _ _ refl (variable _ _ _ _ _ _ _ refl (undated refl refl)
+      (nothing _ refl)) (nothing _ refl))
+      (repeated _ _ _ _ _ _ _ refl (token _ _ _ _ refl (nothing _ refl)) (nothing _ refl))) refl refl;
   expands = λ g w. (
     list_rule,
     list_applies g w,
@@ -88,18 +84,11 @@ index_applies g w = record {
 pub index_example : IndexExample
 unfolding index_applies digits
 index_example = record {
-  defines = (
-    None,
-    separated _ none _ _ [] None refl
-        (record {
-          style = refl;
-          reads = repeated _ _ _ _ _ _ _ refl (variable _ _ _ _ _ _ _ refl (undated refl refl) (nothing _ refl))
-              (nothing _ refl);
-          writes = repeated _ _ _ _ _ _ _ refl
-              (token _ _ _ _ refl (token _ _ _ _ refl (token _ _ _ _ refl (nothing _ refl)))) (nothing _ refl);
-        }) refl ended,
-    refl,
-  );
+  defines = defines_one _ _ _ refl
+      (parts refl (repeated _ _ _ _ _ _ _ refl (variable _ _ _ _ _ _ _ refl (undated refl refl)
+      (nothing _ refl)) (nothing _ refl))
+      (repeated _ _ _ _ _ _ _ refl (token _ _ _ _ refl (token _ _ _ _ refl (token _ _ _ _ refl
+      (nothing _ refl)))) (nothing _ refl))) refl refl;
   expands = λ g w. (
     index_rule,
     index_applies g w,
@@ -147,23 +136,12 @@ any_applies g w = record {
 
 pub unknown_example : UnknownExample
 unknown_example = record {
-  defines = (
-    None,
-    separated _ _ _ _ _ None refl
-        (record {
-          style = refl;
-          reads = variable _ _ _ _ _ _ _ refl (undated refl refl) (nothing _ refl);
-          writes = nothing _ refl;
-        }) refl
-        (separated _ none _ _ [] None refl
-        (record {
-          style = refl;
-          reads = repeated _ _ _ _ _ _ _ refl (variable _ _ _ _ _ _ _ refl (undated refl refl) (nothing _ refl))
-              (nothing _ refl);
-          writes = nothing _ refl;
-        }) refl ended),
-    refl,
-  );
+  defines = defines_two _ _ _ _ _ _ refl
+      (parts refl (variable _ _ _ _ _ _ _ refl (undated refl refl) (nothing _ refl))
+      (nothing _ refl)) refl refl
+      (parts refl (repeated _ _ _ _ _ _ _ refl (variable _ _ _ _ _ _ _ refl (undated refl refl)
+      (nothing _ refl)) (nothing _ refl))
+      (nothing _ refl)) refl refl;
   expands = λ g w. (
     any_rule,
     any_applies g w,
@@ -202,30 +180,20 @@ zip_read g = (
   refl,
 )
 
-zip_run : (g : Grammar) → verdict g zip_rule.reads zip_argument ≡ verdicts.one_reading
+zip_applies : (g : Grammar) → IsLawful g → Applies g FnLike zip_argument zip_rule
 unfolding verdict run tree
-zip_run g = refl
-
-abbrev zip_applies : (g : Grammar) → IsLawful g → Applies g FnLike zip_argument zip_rule
-zip_applies g w = applies_by_run g FnLike zip_argument zip_rule zip_items w refl refl (zip_run g) (zip_read g) refl
+zip_applies g w = applies_by_run g FnLike zip_argument zip_rule zip_items w refl refl refl (zip_read g) refl
 
 pub zip_example : ZipExample
+unfolding zip_applies
 zip_example = record {
   items = zip_items;
-  defines = (
-    None,
-    separated _ none _ _ [] None refl
-        (record {
-          style = refl;
-          reads = repeated _ _ _ _ _ _ _ refl (variable _ _ _ _ _ _ _ refl (undated refl refl) (nothing _ refl))
-              (token _ _ _ _ refl
-              (repeated _ _ _ _ _ _ _ refl (variable _ _ _ _ _ _ _ refl (undated refl refl) (nothing _ refl))
-              (nothing _ refl)));
-          writes = repeated _ _ _ _ _ _ _ refl (token _ _ _ _ refl (token _ _ _ _ refl (nothing _ refl)))
-              (nothing _ refl);
-        }) refl ended,
-    refl,
-  );
+  defines = defines_one _ _ _ refl
+      (parts refl (repeated _ _ _ _ _ _ _ refl (variable _ _ _ _ _ _ _ refl (undated refl refl)
+      (nothing _ refl)) (token _ _ _ _ refl (repeated _ _ _ _ _ _ _ refl (variable _ _ _ _ _ _ _ refl
+      (undated refl refl) (nothing _ refl)) (nothing _ refl))))
+      (repeated _ _ _ _ _ _ _ refl (token _ _ _ _ refl (token _ _ _ _ refl (nothing _ refl)))
+      (nothing _ refl))) refl refl;
   reads = zip_read;
   expands = λ g w. (
     zip_rule,
@@ -278,30 +246,19 @@ count_read g = (
   refl,
 )
 
-count_run : (g : Grammar) → verdict g count_rule.reads count_argument ≡ verdicts.one_reading
+count_applies : (g : Grammar) → IsLawful g → Applies g FnLike count_argument count_rule
 unfolding verdict run tree
-count_run g = refl
-
-abbrev count_applies : (g : Grammar) → IsLawful g → Applies g FnLike count_argument count_rule
-count_applies g w = applies_by_run g FnLike count_argument count_rule count_items w refl refl (count_run g)
+count_applies g w = applies_by_run g FnLike count_argument count_rule count_items w refl refl refl
     (count_read g) refl
 
 pub count_example : CountExample
-unfolding digits
+unfolding digits count_applies
 count_example = record {
   items = count_items;
-  defines = (
-    None,
-    separated _ none _ _ [] None refl
-        (record {
-          style = refl;
-          reads = repeated _ _ _ _ _ _ _ refl
-              (repeated _ _ _ _ _ _ _ refl (variable _ _ _ _ _ _ _ refl (undated refl refl) (nothing _ refl))
-              (nothing _ refl)) (nothing _ refl);
-          writes = token _ _ _ _ refl (token _ _ _ _ refl (nothing _ refl));
-        }) refl ended,
-    refl,
-  );
+  defines = defines_one _ _ _ refl
+      (parts refl (repeated _ _ _ _ _ _ _ refl (repeated _ _ _ _ _ _ _ refl (variable _ _ _ _ _ _ _ refl
+      (undated refl refl) (nothing _ refl)) (nothing _ refl)) (nothing _ refl))
+      (token _ _ _ _ refl (token _ _ _ _ refl (nothing _ refl)))) refl refl;
   reads = count_read;
   expands = λ g w. (
     count_rule,
@@ -351,17 +308,10 @@ empty_verdict g w e = (
 
 pub empty_example : EmptyExample
 empty_example = record {
-  defines = (
-    None,
-    separated _ none _ _ [] None refl
-        (record {
-          style = refl;
-          reads = repeated _ _ _ _ _ _ _ refl (variable _ _ _ _ _ _ _ refl (undated refl refl) (nothing _ refl))
-              (nothing _ refl);
-          writes = nothing _ refl;
-        }) refl ended,
-    refl,
-  );
+  defines = defines_one _ _ _ refl
+      (parts refl (repeated _ _ _ _ _ _ _ refl (variable _ _ _ _ _ _ _ refl (undated refl refl)
+      (nothing _ refl)) (nothing _ refl))
+      (nothing _ refl)) refl refl;
   verdict = empty_verdict;
   closest = λ g w e. closest_alone g FnLike none empty_rule many_readings 0 refl (empty_verdict g w e)
       (λ is f. absurd (empty_differ (f.1.1 skipped_round (empty_skipped g)

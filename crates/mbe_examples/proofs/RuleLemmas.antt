@@ -1,13 +1,16 @@
 -- Rules that apply, and rules that are the closest.
-use Rattle.std.specs.Prelude.{◌≡◌, ◌⊎◌, ◌-◌, ◌^◌, ◌&&◌, ◌==◌, not, ℕ, zero, suc, min, if◌then◌else◌, IsTrue, IsFalse, [], ◌∷◌, Option, Some, None, refl}
+use Rattle.std.specs.Prelude.{◌≡◌, ◌⊎◌, ◌-◌, ◌^◌, ◌&&◌, ◌==◌, not, ℕ, zero, suc, min, if◌then◌else◌, IsTrue, IsFalse, [], ◌∷◌, Option, Some, None, Ok, refl}
 use Rattle.std.proofs.Common.{arith, subst, sym, ◌∙◌}
 use Rattle.std.proofs.lemmas.Option.{none-some, same_Some}
-use Rattle.mbe_tt.specs.Trees.Tree.{Forest, flat_len, Cut, cut_flat}
+use Rattle.mbe_tt.specs.Trees.Tree.{Forest, none, flat_len, Cut, cut_flat}
 use Rattle.mbe_tt.specs.Fragments.Grammar.{Grammar, IsLawful}
 use Rattle.mbe_tt.specs.declared.grammar.Front.{Front}
 use Rattle.mbe_semantics.specs.declared.macro_call_style.MacroCallStyle.{MacroCallStyle}
 use Rattle.mbe_semantics.specs.Syntax.Op.{Ops, has_no_repetition}
-use Rattle.mbe_semantics.specs.Syntax.Definition.{Rule}
+use Rattle.mbe_semantics.specs.Syntax.Template as read
+use Rattle.mbe_semantics.specs.Syntax.Template.{Template, Fault}
+use Rattle.mbe_semantics.specs.Syntax.Definition.{Rule, RuleTrees, AreParts, ended, separated, IsMacroRules, rule_trees_at, after_separator, with_refusal}
+use Rattle.mbe_semantics.specs.Examples.Sample.{Defines, is_2024}
 use Rattle.mbe_semantics.specs.Readings.Verdict.{Verdict, IsVerdict, unmatched}
 use Rattle.mbe_semantics.specs.Bindings.Environment.{environment_of, binding_total}
 use Rattle.mbe_semantics.specs.Writing.Substitution.{faults}
@@ -105,3 +108,21 @@ closest_alone g style argument r v k s w b = record {
 
     first_at : (m : ℕ) (q : Rule) → IsStyledAt (r ∷ []) style m q → GoesBefore (λ x. unmatched argument v) (λ x. k) 0 m
     first_at m q p = ◌⊎◌.inr (refl, ◌⊎◌.inr (refl, omega arith))
+
+-- the trees of a rule are read
+pub parts : {o : RuleTrees} {r : Rule} → r.style ≡ o.style → Template is_2024 read.pattern o.reads r.reads
+    → Template is_2024 read.template o.writes r.writes → AreParts is_2024 o r
+parts s p t = record { style = s; reads = p; writes = t }
+
+-- a definition of one rule, of two
+pub defines_one : {fault : Option Fault} (f : Forest) (o : RuleTrees) (r : Rule) → rule_trees_at f ≡ Ok o
+    → AreParts is_2024 o r → after_separator (59 ∷ []) o.back ≡ Some none → fault ≡ with_refusal (r ∷ []) None
+    → IsMacroRules is_2024 f (r ∷ []) fault
+defines_one f o r e p b k = (None, separated f none o r [] None e p b ended, k)
+
+pub defines_two : (f rest : Forest) (o x : RuleTrees) (r q : Rule) → rule_trees_at f ≡ Ok o → AreParts is_2024 o r
+    → after_separator (59 ∷ []) o.back ≡ Some rest → rule_trees_at rest ≡ Ok x → AreParts is_2024 x q
+    → after_separator (59 ∷ []) x.back ≡ Some none → None ≡ with_refusal (r ∷ q ∷ []) None
+    → Defines f (r ∷ q ∷ [])
+defines_two f rest o x r q e p b i j c k =
+    (None, separated f rest o r (q ∷ []) None e p b (separated rest none x q [] None i j c ended), k)

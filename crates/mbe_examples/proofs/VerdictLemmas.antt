@@ -6,7 +6,7 @@ use Rattle.mbe_tt.specs.Trees.Tree.{none}
 use Rattle.mbe_tt.specs.Fragments.Grammar.{Grammar, IsLawful}
 use Rattle.mbe_semantics.specs.declared.macro_call_style.MacroCallStyle.TheVariants.{FnLike}
 use Rattle.mbe_semantics.specs.Syntax.Template.{token, nothing}
-use Rattle.mbe_semantics.specs.Syntax.Definition.{Rule, separated, ended}
+use Rattle.mbe_semantics.specs.Syntax.Definition.{Rule}
 use Rattle.mbe_semantics.specs.Bindings.Environment.{environment_of, binding_total}
 use Rattle.mbe_semantics.specs.Expansion.Recovery.{IsClosest, IsStyledAt, GoesBefore}
 use Rattle.mbe_semantics.specs.Examples.Examples.{NearestExample, far_rule, near_rule, near_argument}
@@ -15,7 +15,7 @@ use Rattle.mbe_semantics.specs.Readings.Ambiguity.{IsReading, Fits}
 use Rattle.mbe_semantics.specs.Readings.Verdict.{Verdict, IsVerdict, stuck, unmatched}
 use Rattle.mbe_semantics.specs.Matching.Run.{run, verdict}
 use Rattle.mbe_semantics.specs.Readings.Steps.{tree}
-use Rattle.mbe_examples.proofs.RuleLemmas.{by_run}
+use Rattle.mbe_examples.proofs.RuleLemmas.{by_run, parts, defines_two}
 use Rattle.mbe_laws.proofs.Matching.RunLemmas.{one_verdict}
 
 -- ---- `(a b) => {}; (a c d) => {}` on `a c`
@@ -99,22 +99,10 @@ far_no g w c = go (c.first 1 near_rule (refl, refl))
 
 pub nearest_example : NearestExample
 nearest_example = record {
-  defines = (
-    None,
-    separated _ _ _ _ _ None refl
-        (record {
-          style = refl;
-          reads = token _ _ _ _ refl (token _ _ _ _ refl (nothing _ refl));
-          writes = nothing _ refl;
-        }) refl
-        (separated _ none _ _ [] None refl
-        (record {
-          style = refl;
-          reads = token _ _ _ _ refl (token _ _ _ _ refl (token _ _ _ _ refl (nothing _ refl)));
-          writes = nothing _ refl;
-        }) refl ended),
-    refl,
-  );
+  defines = defines_two _ _ _ _ _ _ refl
+      (parts refl (token _ _ _ _ refl (token _ _ _ _ refl (nothing _ refl))) (nothing _ refl)) refl refl
+      (parts refl (token _ _ _ _ refl (token _ _ _ _ refl (token _ _ _ _ refl (nothing _ refl))))
+      (nothing _ refl)) refl refl;
   far = far_verdict;
   near = near_verdict;
   closest = near_closest;
