@@ -1,6 +1,6 @@
 // What the names of a match are bound to. A binding is what a template writes for `$x`: the trees that the variable took,
 // or, if `$x` is in a repetition, a list with a binding for each round, to the depth of the repetitions around it.
-ghost use Rattle.std.specs.Prelude.{◌≡◌, ◌-◌, ◌^◌, min, [], length, map, OnOk, OnErr, option_map};
+ghost use Rattle.std.specs.Prelude.{◌≡◌, ◌-◌, ◌^◌, min, [], length, map, IfOk, OnOk, OnErr, option_map};
 ghost use Rattle.indexmap.specs.IndexMap.{index_map_len};
 ghost use Rattle.mbe_semantics.specs.Bindings.Environment.{add_value, binding_total, set_value};
 ghost use Rattle.mbe_semantics.specs.Bindings.Environment.{value_of};
@@ -102,6 +102,14 @@ impl<'a, A: Allocator + Copy> Bindings<'a, A> {
         Bindings {
             inner: IndexMap::new(alloc),
         }
+    }
+
+    // No name is bound, and there is room for so many.
+    pub(crate) fn with_room(alloc: A, names: usize) -> Result<Bindings<'a, A>, AllocError>
+        ensures { IfOk result (λ b. bound_by b ≡ []) }
+    {
+        let inner = IndexMap::with_capacity(alloc, names)?;
+        Ok(Bindings { inner })
     }
 
     /// The name is bound to this now, whatever it was bound to. `AllocError` if out of memory.

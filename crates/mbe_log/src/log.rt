@@ -440,8 +440,8 @@ fn build_part<'a, A: Allocator + Copy>(
     ensures { IfOk result (λ b. (cs : Commands)
         → PartGives (log_of commands.now rounds.now) no_commands part cs → bound_by b ≡ run cs []) }
 {
-    let mut bindings = Bindings::new(alloc);
     let found = places(alloc, commands, part)?;
+    let mut bindings = Bindings::with_room(alloc, found.len())?;
     for place in &found {
         let command = commands[place.list].own_at(place.first);
         bind_command(alloc, commands, rounds, command, depth, &mut bindings)?;

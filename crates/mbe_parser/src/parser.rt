@@ -81,7 +81,12 @@ fn template_within<A: Allocator + Copy, E: Copy + Fn(SyntaxContext) -> Edition>(
         match peeked {
             TtElement::Leaf(Leaf::Ident(ident)) => {
                 let _word = src.next();
-                ops.push(Op::Ident(ident.clone()?))?;
+                let sym = ident.sym.clone()?;
+                ops.push(Op::Ident(Ident {
+                    sym,
+                    is_raw: ident.is_raw,
+                    span: ident.span,
+                }))?;
             }
             TtElement::Leaf(Leaf::Literal(literal)) => {
                 let _literal = src.next();
@@ -123,7 +128,9 @@ fn fitted<A: Allocator>(alloc: A, ops: Vec<Op<A>, A>) -> Result<Vec<Op<A>, A>, A
     Ok(fit)
 }
 
-// The op that begins with the next tree, which is this punct.
+// The op that begins with the next tree, which is this punct. It and what it calls are inlined, since an op is large: moved from result
+// to result, it would cost more than to read it.
+#[inline(always)]
 #[cycle(template)]
 #[tactic(auto, using(mbe_ops::proofs::OpViews::views))]
 fn op_at_punct<A: Allocator + Copy, E: Copy + Fn(SyntaxContext) -> Edition>(
@@ -153,6 +160,7 @@ fn op_at_punct<A: Allocator + Copy, E: Copy + Fn(SyntaxContext) -> Edition>(
 }
 
 // What is after a `$`.
+#[inline(always)]
 #[cycle(template)]
 #[tactic(auto, using(mbe_ops::proofs::OpViews::views))]
 fn after_dollar<A: Allocator + Copy, E: Copy + Fn(SyntaxContext) -> Edition>(
@@ -214,6 +222,7 @@ fn repetition<A: Allocator + Copy, E: Copy + Fn(SyntaxContext) -> Edition>(
 }
 
 // `${..}`, which is in templates alone.
+#[inline(never)]
 fn expression_after_dollar<A: Allocator + Copy>(
     alloc: A,
     inside: TtIter<'_, A>,
@@ -231,6 +240,7 @@ fn expression_after_dollar<A: Allocator + Copy>(
     }
 }
 
+#[inline(always)]
 #[tactic(auto, using(mbe_ops::proofs::OpViews::views))]
 fn leaf_after_dollar<A: Allocator + Copy, E: Copy + Fn(SyntaxContext) -> Edition>(
     alloc: A,
@@ -286,6 +296,7 @@ fn dollar_crate<A: Allocator + Copy>(alloc: A, span: Span) -> Result<Ident<A>, A
     })
 }
 
+#[inline(always)]
 #[tactic(auto, using(mbe_ops::proofs::OpViews::views))]
 fn variable<A: Allocator, E: Copy + Fn(SyntaxContext) -> Edition>(
     edition: E,

@@ -73,8 +73,8 @@ fn checked<A: Allocator>(stops: OpDelimitedIter<'_, A>) -> Found
         refused: false,
     };
     for stop in stops {
-        // Most ops are tokens.
-        if is_token(stop) {
+        // Most ops are tokens and variables.
+        if is_solid(stop) {
             found.empty = false;
         } else {
             found = found.followed_by(checked_stop(stop));
@@ -120,12 +120,13 @@ fn checked_op<A: Allocator>(op: &Op<A>) -> Found
     }
 }
 
-// Whether it reads one token, always.
-fn is_token<A: Allocator>(stop: OpDelimited<'_, A>) -> bool
+// Whether it reads something, always, and has no repetition in it: a token, or a variable of any other kind than `vis`.
+fn is_solid<A: Allocator>(stop: OpDelimited<'_, A>) -> bool
     ensures solid { result ≡ true → is_nullable_stop (stop_of stop.entry) ≡ false }
     ensures lawful { result ≡ true → is_refused_stop (stop_of stop.entry) ≡ false }
 {
     match stop {
+        OpDelimited::Op(Op::Var { kind, .. }) => !may_take_nothing(*kind),
         OpDelimited::Op(op) => matches!(op, Op::Ident(_) | Op::Literal(_) | Op::Punct(_)),
         OpDelimited::Open(_) | OpDelimited::Close(_) => true,
     }

@@ -13,7 +13,7 @@ struct Row {
     binds: &'static str,
 }
 
-static ROWS: [Row; 11] = [
+static ROWS: [Row; 16] = [
     Row {
         calls: &[Call::Alloc],
         handle: 0,
@@ -79,6 +79,76 @@ static ROWS: [Row; 11] = [
         handle: 0,
         entries: (2, 0),
         binds: "-..",
+    },
+    // Of a name that is bound twice in a round, the later value is the round's.
+    Row {
+        calls: &[
+            Call::Alloc,
+            Call::Alloc,
+            Call::Push(0, What::Tree, 0),
+            Call::Push(0, What::Tree, 0),
+            Call::Nested(1, 0),
+        ],
+        handle: 1,
+        entries: (1, 0),
+        binds: "[e]..",
+    },
+    Row {
+        calls: &[
+            Call::Alloc,
+            Call::Alloc,
+            Call::Push(0, What::Tree, 0),
+            Call::Push(0, What::Skipped, 0),
+            Call::Nested(1, 0),
+        ],
+        handle: 1,
+        entries: (1, 0),
+        binds: "[-]..",
+    },
+    Row {
+        calls: &[
+            Call::Alloc,
+            Call::Alloc,
+            Call::Push(0, What::Skipped, 0),
+            Call::Push(0, What::Tree, 1),
+            Call::Push(0, What::Tree, 0),
+            Call::Nested(1, 0),
+        ],
+        handle: 1,
+        entries: (1, 0),
+        binds: "[e][e].",
+    },
+    // Two names in each round, in another order in the second.
+    Row {
+        calls: &[
+            Call::Alloc,
+            Call::Alloc,
+            Call::Push(0, What::Tree, 0),
+            Call::Push(0, What::Tree, 1),
+            Call::Default(0),
+            Call::Push(0, What::Tree, 1),
+            Call::Push(0, What::Tree, 0),
+            Call::Nested(1, 0),
+        ],
+        handle: 1,
+        entries: (1, 0),
+        binds: "[ee][ee].",
+    },
+    // A round that binds another name twice leaves an empty list of the one before.
+    Row {
+        calls: &[
+            Call::Alloc,
+            Call::Alloc,
+            Call::Push(0, What::Tree, 0),
+            Call::Push(0, What::Tree, 2),
+            Call::Default(0),
+            Call::Push(0, What::Tree, 1),
+            Call::Push(0, What::Tree, 1),
+            Call::Nested(1, 0),
+        ],
+        handle: 1,
+        entries: (1, 0),
+        binds: "[e][[]e][e]",
     },
     // Rounds leave a value that is no list.
     Row {

@@ -16,7 +16,7 @@ pub build_part-places-requires-clause-within : goal.build_part-places-requires-c
 build_part-places-requires-clause-within g t c = is_within c.args.commands.now c.args.rounds.now c.requires.grounded.1
 
 pub build_part-loop-place-init : goal.build_part-loop-place-init
-build_part-loop-place-init g t c = λ xs e cs h. (no_commands, h, c.new-bindings.ensures)
+build_part-loop-place-init g t c = λ xs e cs h. (no_commands, h, c.in_ok-bindings.ensures)
 
 pub build_part-bounds-commands-place : goal.build_part-bounds-commands-place
 build_part-bounds-commands-place g t c =

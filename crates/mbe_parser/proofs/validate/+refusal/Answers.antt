@@ -21,18 +21,18 @@ checked-loop-stop-init g t c =
       lighter = omega (arith, weight);
     }
 
-pub checked-loop-stop-preserved-then-is_token : goal.checked-loop-stop-preserved-then-is_token
-checked-loop-stop-preserved-then-is_token g t c =
+pub checked-loop-stop-preserved-then-is_solid : goal.checked-loop-stop-preserved-then-is_solid
+checked-loop-stop-preserved-then-is_solid g t c =
     let before = c.loop-stop in
     let rest = stops_left c.next.new.self in
     let stop = stop_of c.in-Some.stop in
     let here = c.in-Some.ensures.steps in
     record {
       empty = next_nullable _ before.found.empty false false stop _ rest here
-          (sym (c.is_token.ensures.solid c.if-is_token.true))
+          (sym (c.is_solid.ensures.solid c.if-is_solid.true))
           (sym (and-false before.found.empty)) before.invariant.empty;
       refused = next_refused _ before.found.refused false before.found.refused stop _ rest here
-          (sym (c.is_token.ensures.lawful c.if-is_token.true)) (sym (or-false before.found.refused))
+          (sym (c.is_solid.ensures.lawful c.if-is_solid.true)) (sym (or-false before.found.refused))
           before.invariant.refused;
       lighter = rest_no_heavier stop (stops_left c.args.stops) _ rest here before.invariant.lighter;
     }
