@@ -49,9 +49,9 @@ pub(crate) fn eat_puncts<A: Allocator>(puncts: &[Punct], src: &mut TtIter<'_, A>
     }
 }
 
-// What a variable of the kind takes in front. An unknown kind takes nothing.
+/// What a variable of the kind takes in front. An unknown kind takes nothing.
 #[inline(always)]
-pub(crate) fn eat_fragment<'a, A: Allocator, G: FragmentGrammar>(
+pub fn eat_fragment<'a, A: Allocator, G: FragmentGrammar>(
     grammar: &G,
     kind: Option<MetaVarKind>,
     src: &mut TtIter<'a, A>,

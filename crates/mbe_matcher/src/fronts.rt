@@ -32,10 +32,10 @@ fn width_to<A: Allocator>(
     Some(before.remaining().flat_len().saturating_sub(left))
 }
 
-// The width of an op that is a token.
+/// The width of an op that is a token.
 #[tactic(auto, using(mbe_ops::proofs::OpViews::views))]
 #[inline(always)]
-pub(crate) fn token_width<A: Allocator>(op: &Op<A>, src: &TtIter<'_, A>) -> Option<usize>
+pub fn token_width<A: Allocator>(op: &Op<A>, src: &TtIter<'_, A>) -> Option<usize>
     ensures { result ≡ op_width (op_of op.now) src.now }
 {
     match op {
@@ -136,9 +136,9 @@ fn eat_lifetime_of<A: Allocator>(ident: &Ident<A>, src: &mut TtIter<'_, A>) -> b
     eat_ident(ident, src)
 }
 
-// Whether a group of the kind comes first.
+/// Whether a group of the kind comes first.
 #[inline(always)]
-pub(crate) fn opens<A: Allocator>(kind: DelimiterKind, src: &TtIter<'_, A>) -> bool
+pub fn opens<A: Allocator>(kind: DelimiterKind, src: &TtIter<'_, A>) -> bool
     ensures { result ≡ is_opening kind src.now }
 {
     let mut ahead = src.fork();
@@ -148,10 +148,10 @@ pub(crate) fn opens<A: Allocator>(kind: DelimiterKind, src: &TtIter<'_, A>) -> b
     }
 }
 
-// The width of what is between a round and the next one of a repetition, if a next one may
-// begin here.
+/// The width of what is between a round and the next one of a repetition, if a next one may
+/// begin here.
 #[inline(always)]
-pub(crate) fn between_width<A: Allocator>(
+pub fn between_width<A: Allocator>(
     kind: RepeatKind,
     separator: Option<&Separator<A>>,
     src: &TtIter<'_, A>,

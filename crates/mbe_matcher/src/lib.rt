@@ -1,16 +1,16 @@
 // Matches arguments against patterns. A layer of `mbe`: use that crate.
 #![tactic(auto)]
 
-mod eat;
+pub mod eat;
 mod ends;
-mod fronts;
+pub mod fronts;
 pub mod laws;
 pub mod matching;
 mod met;
 mod places;
 mod report;
 mod settle;
-mod skipping;
+pub mod skipping;
 pub mod start;
 mod steps;
 pub mod wanting;

@@ -78,9 +78,9 @@ struct Looked<'a, A: Allocator = Global> {
     ways: Vec<Way<'a, A>, A>,
 }
 
-// An op that reads something by itself.
+/// An op that reads something by itself.
 #[tactic(auto, using(mbe_ops::proofs::OpViews::views))]
-fn op_next<A: Allocator>(op: &Op<A>) -> Option<Wanted<'_, A>>
+pub fn op_next<A: Allocator>(op: &Op<A>) -> Option<Wanted<'_, A>>
     ensures { option_map wanted_seen result ≡ read_next (op_of op.now) }
 {
     match op {
@@ -95,8 +95,8 @@ fn op_next<A: Allocator>(op: &Op<A>) -> Option<Wanted<'_, A>>
     }
 }
 
-// The separator after a round that another may follow.
-fn round_next<A: Allocator>(
+/// The separator after a round that another may follow.
+pub fn round_next<A: Allocator>(
     kind: RepeatKind,
     separator: Option<&Separator<A>>,
 ) -> Option<Wanted<'_, A>>
