@@ -318,8 +318,8 @@ fn unlike<A: Allocator + Copy, G: FragmentGrammar, M: Fn(Span) -> Span + Copy>(
         ≡ true }
     ensures index { IfOk result (λ r. r.value.1 ≡ index) }
     ensures recovered { IfOk result (λ r. IsRecovered (G.grammar call.now.grammar.now)
-        call.now.site (group_of call.now.input) (M.post call.now.marker) (rule_of rule.now) (top_group r.value.0)
-        (errors_of r.err)) }
+        call.now.site (group_of call.now.input) (M.post call.now.marker) (rule_of rule.now)
+        (top_group r.value.0) (errors_of r.err)) }
 {
     let argument = call.input.iter().remaining();
     let spans = call.input.top_subtree().delimiter.delim_span();
@@ -340,7 +340,8 @@ fn beside_error<A: Allocator + Copy, G: FragmentGrammar, M: Fn(Span) -> Span + C
     ensures index { IfOk result (λ r. r.value.1 ≡ index) }
     ensures err { IfOk result (λ r. errors_of r.err ≡ Some (error_of err)) }
     ensures left { IfOk result (λ r. IsWhatIsLeft (G.grammar call.now.grammar.now)
-        (M.post call.now.marker) call.now.site (bound_by bindings.now) (template_of rule.now.rhs) (top_group r.value.0)) }
+        (M.post call.now.marker) call.now.site (bound_by bindings.now)
+        (template_of rule.now.rhs) (top_group r.value.0)) }
 {
     let written = transcribe(
         call.alloc,
