@@ -8,7 +8,7 @@ use Rattle.mbe_tt.specs.declared.tt.DelimiterKind.TheVariants.{Parenthesis, Brac
 use Rattle.mbe_tt.specs.declared.tt.IdentIsRaw.{IdentIsRaw}
 use Rattle.mbe_tt.specs.declared.tt.IdentIsRaw.TheVariants.{No, Yes}
 use Rattle.mbe_tt.specs.declared.tt.LitKind.{LitKind}
-use Rattle.mbe_tt.specs.declared.tt.LitKind.TheVariants.{Byte, Char, Integer, Float, Str, StrRaw, ByteStr, ByteStrRaw, CStr, CStrRaw, Err}
+use Rattle.mbe_tt.specs.declared.tt.LitKind.TheVariants.{StrRaw}
 use Rattle.mbe_tt.specs.Trees.Leaf.{Ident, Literal, literal, punct, ident, is_text}
 use Rattle.mbe_tt.specs.Trees.Tree.{Forest, none, leaf, group, rest_of, any_ident, front_punct, front_group}
 use Rattle.mbe_text.specs.Characters.{slash, star}
@@ -78,16 +78,7 @@ is_plain Yes = false
 -- a raw string with so many `#`
 abbrev pub is_raw_string : ℕ → LitKind → Bool
 is_raw_string hashes (StrRaw n) = n == hashes
-is_raw_string hashes Byte = false
-is_raw_string hashes Char = false
-is_raw_string hashes Integer = false
-is_raw_string hashes Float = false
-is_raw_string hashes Str = false
-is_raw_string hashes ByteStr = false
-is_raw_string hashes (ByteStrRaw n) = false
-is_raw_string hashes CStr = false
-is_raw_string hashes (CStrRaw n) = false
-is_raw_string hashes Err = false
+is_raw_string hashes _ = false
 
 -- tokens as the lexer makes them of a comment, with its span, whatever the spans of the `#` and the brackets around
 -- them

@@ -48,15 +48,7 @@ abbrev pub ends_line : Last → Bool → Bool
 ends_line OpenBrace ends_brace = true
 ends_line Semicolon ends_brace = true
 ends_line CloseBrace ends_brace = ends_brace
-ends_line Start ends_brace = false
-ends_line Word ends_brace = false
-ends_line Keyword ends_brace = false
-ends_line Literal ends_brace = false
-ends_line (Joint c) ends_brace = false
-ends_line (Alone c) ends_brace = false
-ends_line Colons ends_brace = false
-ends_line Open ends_brace = false
-ends_line Close ends_brace = false
+ends_line _ ends_brace = false
 
 abbrev pub is_one_of : ℕ → List ℕ → Bool
 is_one_of c chars = list_any (λ d. c == d) chars
@@ -81,15 +73,7 @@ abbrev pub joins_word : Last → Bool
 joins_word Word = true
 joins_word Keyword = true
 joins_word Literal = true
-joins_word Start = false
-joins_word (Joint c) = false
-joins_word (Alone c) = false
-joins_word Colons = false
-joins_word Open = false
-joins_word OpenBrace = false
-joins_word Close = false
-joins_word CloseBrace = false
-joins_word Semicolon = false
+joins_word _ = false
 
 -- puncts that belong to what is written right after them in a template, as in `&$x` or `Vec<$t>`
 abbrev pub is_prefix : ℕ → Bool
@@ -102,13 +86,7 @@ is_word_apart Open = false
 is_word_apart Colons = false
 is_word_apart (Alone c) = not (is_one_of c (codes ".#$'"))
 is_word_apart (Joint c) = not (is_one_of c (codes ".#$'") || is_prefix c)
-is_word_apart Word = true
-is_word_apart Keyword = true
-is_word_apart Literal = true
-is_word_apart OpenBrace = true
-is_word_apart Close = true
-is_word_apart CloseBrace = true
-is_word_apart Semicolon = true
+is_word_apart _ = true
 
 -- words that go on with what a `}` ends
 abbrev pub goes_on : List ℕ → Bool
@@ -121,14 +99,7 @@ is_literal_apart Start = false
 is_literal_apart Open = false
 is_literal_apart (Alone c) = not (c == 46)
 is_literal_apart (Joint c) = not (c == 46 || is_prefix c)
-is_literal_apart Word = true
-is_literal_apart Keyword = true
-is_literal_apart Literal = true
-is_literal_apart Colons = true
-is_literal_apart OpenBrace = true
-is_literal_apart Close = true
-is_literal_apart CloseBrace = true
-is_literal_apart Semicolon = true
+is_literal_apart _ = true
 
 -- a literal would go on with a word or a literal too, and a `#` right before a string guards it
 abbrev pub joins_literal : Last → Bool
@@ -137,13 +108,7 @@ joins_literal Keyword = true
 joins_literal Literal = true
 joins_literal (Joint c) = c == 35
 joins_literal (Alone c) = c == 35
-joins_literal Start = false
-joins_literal Colons = false
-joins_literal Open = false
-joins_literal OpenBrace = false
-joins_literal Close = false
-joins_literal CloseBrace = false
-joins_literal Semicolon = false
+joins_literal _ = false
 
 -- ---- puncts
 
@@ -159,15 +124,11 @@ abbrev pub is_punct_apart : Last → Bool → ℕ → Spacing → Bool
 is_punct_apart Start one_place char spacing = is_joint spacing && char == 35
 is_punct_apart Open one_place char spacing = false
 is_punct_apart (Joint c) one_place char spacing = not one_place
-is_punct_apart (Alone c) one_place char spacing = true
-is_punct_apart Colons one_place char spacing = true
 is_punct_apart Word one_place char spacing = not (is_one_of char (codes ",;?.:!"))
 is_punct_apart Close one_place char spacing = not (is_one_of char (codes ",;?."))
 is_punct_apart CloseBrace one_place char spacing = not (is_one_of char (codes ",;?."))
 is_punct_apart Literal one_place char spacing = not (is_one_of char (codes ",;?"))
-is_punct_apart Keyword one_place char spacing = true
-is_punct_apart OpenBrace one_place char spacing = true
-is_punct_apart Semicolon one_place char spacing = true
+is_punct_apart _ one_place char spacing = true
 
 -- whether a token at that place is side by side with the one after it
 abbrev pub is_before : Span → Option Span → Bool
@@ -186,27 +147,12 @@ stays_with Literal char beside_next = beside_next || not (char == 46)
 stays_with (Alone c) char beside_next = char == 39
 stays_with Colons char beside_next = char == 39
 stays_with Semicolon char beside_next = char == 39
-stays_with Start char beside_next = true
-stays_with (Joint c) char beside_next = true
-stays_with Open char beside_next = true
-stays_with OpenBrace char beside_next = true
-stays_with Close char beside_next = true
-stays_with CloseBrace char beside_next = true
+stays_with _ char beside_next = true
 
 -- whether a `:` after it makes a `::`
 abbrev pub is_colon : Last → Bool
 is_colon (Joint c) = c == 58
-is_colon Start = false
-is_colon Word = false
-is_colon Keyword = false
-is_colon Literal = false
-is_colon (Alone c) = false
-is_colon Colons = false
-is_colon Open = false
-is_colon OpenBrace = false
-is_colon Close = false
-is_colon CloseBrace = false
-is_colon Semicolon = false
+is_colon _ = false
 
 -- what a punct is to the token after it
 abbrev pub last_punct : Spacing → ℕ → Bool → Last
@@ -225,55 +171,21 @@ is_opening_apart OpenBrace is_brace = false
 is_opening_apart Word is_brace = is_brace
 is_opening_apart Close is_brace = is_brace
 is_opening_apart (Alone c) is_brace = is_brace || not (is_one_of c (codes "!#."))
-is_opening_apart Keyword is_brace = true
-is_opening_apart Literal is_brace = true
-is_opening_apart Colons is_brace = true
-is_opening_apart CloseBrace is_brace = true
-is_opening_apart Semicolon is_brace = true
+is_opening_apart _ is_brace = true
 
 -- whether nothing is between the braces
 abbrev pub is_open_brace : Last → Bool
 is_open_brace OpenBrace = true
-is_open_brace Start = false
-is_open_brace Word = false
-is_open_brace Keyword = false
-is_open_brace Literal = false
-is_open_brace (Joint c) = false
-is_open_brace (Alone c) = false
-is_open_brace Colons = false
-is_open_brace Open = false
-is_open_brace Close = false
-is_open_brace CloseBrace = false
-is_open_brace Semicolon = false
+is_open_brace _ = false
 
 -- ---- doc comments
 
 -- whether a line begins there
 abbrev pub is_line_start : Last → Bool
 is_line_start Start = true
-is_line_start Word = false
-is_line_start Keyword = false
-is_line_start Literal = false
-is_line_start (Joint c) = false
-is_line_start (Alone c) = false
-is_line_start Colons = false
-is_line_start Open = false
-is_line_start OpenBrace = false
-is_line_start Close = false
-is_line_start CloseBrace = false
-is_line_start Semicolon = false
+is_line_start _ = false
 
 -- whether a comment may be next: before one a joint punct would be alone
 abbrev pub may_precede_comment : Last → Bool
 may_precede_comment (Joint c) = false
-may_precede_comment Start = true
-may_precede_comment Word = true
-may_precede_comment Keyword = true
-may_precede_comment Literal = true
-may_precede_comment (Alone c) = true
-may_precede_comment Colons = true
-may_precede_comment Open = true
-may_precede_comment OpenBrace = true
-may_precede_comment Close = true
-may_precede_comment CloseBrace = true
-may_precede_comment Semicolon = true
+may_precede_comment _ = true

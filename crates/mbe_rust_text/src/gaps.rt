@@ -157,15 +157,7 @@ impl Last {
         match self {
             Last::OpenBrace | Last::Semicolon => true,
             Last::CloseBrace => ends_brace,
-            Last::Start
-            | Last::Word
-            | Last::Keyword
-            | Last::Literal
-            | Last::Joint(_)
-            | Last::Alone(_)
-            | Last::Colons
-            | Last::Open
-            | Last::Close => false,
+            _ => false,
         }
     }
 
@@ -173,18 +165,7 @@ impl Last {
     pub(crate) fn joins_word(self) -> bool
         ensures { result ≡ spec.joins_word self }
     {
-        match self {
-            Last::Word | Last::Keyword | Last::Literal => true,
-            Last::Start
-            | Last::Joint(_)
-            | Last::Alone(_)
-            | Last::Colons
-            | Last::Open
-            | Last::OpenBrace
-            | Last::Close
-            | Last::CloseBrace
-            | Last::Semicolon => false,
-        }
+        matches!(self, Last::Word | Last::Keyword | Last::Literal)
     }
 
     // They go on with a literal too, and a `#` right before a string guards it.
@@ -194,13 +175,7 @@ impl Last {
         match self {
             Last::Word | Last::Keyword | Last::Literal => true,
             Last::Alone(c) | Last::Joint(c) => c == '#',
-            Last::Start
-            | Last::Colons
-            | Last::Open
-            | Last::OpenBrace
-            | Last::Close
-            | Last::CloseBrace
-            | Last::Semicolon => false,
+            _ => false,
         }
     }
 
@@ -211,13 +186,7 @@ impl Last {
             Last::Start | Last::Open | Last::Colons => false,
             Last::Alone(c) => !matches!(c, '.' | '#' | '$' | '\''),
             Last::Joint(c) => !matches!(c, '.' | '#' | '$' | '\'') && !is_prefix(c),
-            Last::Word
-            | Last::Keyword
-            | Last::Literal
-            | Last::OpenBrace
-            | Last::Close
-            | Last::CloseBrace
-            | Last::Semicolon => true,
+            _ => true,
         }
     }
 
@@ -228,14 +197,7 @@ impl Last {
             Last::Start | Last::Open => false,
             Last::Alone(c) => c != '.',
             Last::Joint(c) => c != '.' && !is_prefix(c),
-            Last::Word
-            | Last::Keyword
-            | Last::Literal
-            | Last::Colons
-            | Last::OpenBrace
-            | Last::Close
-            | Last::CloseBrace
-            | Last::Semicolon => true,
+            _ => true,
         }
     }
 
@@ -249,11 +211,10 @@ impl Last {
             Last::Start => is_joint(spacing) && char == '#',
             Last::Open => false,
             Last::Joint(_) => !one_place,
-            Last::Alone(_) | Last::Colons => true,
             Last::Word => !matches!(char, ',' | ';' | '?' | '.' | ':' | '!'),
             Last::Close | Last::CloseBrace => !matches!(char, ',' | ';' | '?' | '.'),
             Last::Literal => !matches!(char, ',' | ';' | '?'),
-            Last::Keyword | Last::OpenBrace | Last::Semicolon => true,
+            _ => true,
         }
     }
 
@@ -267,12 +228,7 @@ impl Last {
             Last::Word | Last::Keyword => !matches!(char, '#' | '\''),
             Last::Literal => beside_next || char != '.',
             Last::Alone(_) | Last::Colons | Last::Semicolon => char == '\'',
-            Last::Start
-            | Last::Joint(_)
-            | Last::Open
-            | Last::OpenBrace
-            | Last::Close
-            | Last::CloseBrace => true,
+            _ => true,
         }
     }
 
@@ -282,17 +238,7 @@ impl Last {
     {
         match self {
             Last::Joint(c) => c == ':',
-            Last::Start
-            | Last::Word
-            | Last::Keyword
-            | Last::Literal
-            | Last::Alone(_)
-            | Last::Colons
-            | Last::Open
-            | Last::OpenBrace
-            | Last::Close
-            | Last::CloseBrace
-            | Last::Semicolon => false,
+            _ => false,
         }
     }
 
@@ -303,67 +249,27 @@ impl Last {
             Last::Start | Last::Open | Last::Joint(_) | Last::OpenBrace => false,
             Last::Word | Last::Close => is_brace,
             Last::Alone(c) => is_brace || !matches!(c, '!' | '#' | '.'),
-            Last::Keyword | Last::Literal | Last::Colons | Last::CloseBrace | Last::Semicolon =>
-                true,
+            _ => true,
         }
     }
 
     pub(crate) fn is_open_brace(self) -> bool
         ensures { result ≡ spec.is_open_brace self }
     {
-        match self {
-            Last::OpenBrace => true,
-            Last::Start
-            | Last::Word
-            | Last::Keyword
-            | Last::Literal
-            | Last::Joint(_)
-            | Last::Alone(_)
-            | Last::Colons
-            | Last::Open
-            | Last::Close
-            | Last::CloseBrace
-            | Last::Semicolon => false,
-        }
+        matches!(self, Last::OpenBrace)
     }
 
     // Whether a line begins there.
     pub(crate) fn is_line_start(self) -> bool
         ensures { result ≡ spec.is_line_start self }
     {
-        match self {
-            Last::Start => true,
-            Last::Word
-            | Last::Keyword
-            | Last::Literal
-            | Last::Joint(_)
-            | Last::Alone(_)
-            | Last::Colons
-            | Last::Open
-            | Last::OpenBrace
-            | Last::Close
-            | Last::CloseBrace
-            | Last::Semicolon => false,
-        }
+        matches!(self, Last::Start)
     }
 
     // Whether a comment may be next: before one a joint punct would be alone.
     pub(crate) fn may_precede_comment(self) -> bool
         ensures { result ≡ spec.may_precede_comment self }
     {
-        match self {
-            Last::Joint(_) => false,
-            Last::Start
-            | Last::Word
-            | Last::Keyword
-            | Last::Literal
-            | Last::Alone(_)
-            | Last::Colons
-            | Last::Open
-            | Last::OpenBrace
-            | Last::Close
-            | Last::CloseBrace
-            | Last::Semicolon => true,
-        }
+        !matches!(self, Last::Joint(_))
     }
 }

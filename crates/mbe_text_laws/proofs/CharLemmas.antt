@@ -2,7 +2,6 @@
 use Rattle.std.proofs.Common.{◌≡◌, ℕ, ◌⊎◌, inl, inr, ◌==◌, not, ◌&&◌, ◌||◌, if◌then◌else◌, Bool, true, false, List, [], ◌∷◌, ◌++◌, drop, refl, sym, ap, ◌∙◌, arith, codes, Option, Some, None, Ok, Err, encode_utf8_all, chars}
 use Rattle.std.specs.Char.{char_set_contains, is_ascii_digit}
 use Rattle.unicode_ident.proofs.Computing.{unicode_ident}
-use Rattle.mbe_tt.specs.Trees.Leaf.{Literal}
 use Rattle.mbe_tt.specs.Trees.Literals as marks
 use Rattle.mbe_tt.specs.Trees.Editions.{at_least_2021}
 use Rattle.mbe_tt.specs.declared.span.Edition.{Edition}
@@ -14,12 +13,12 @@ use Rattle.mbe_text.specs.declared.wrong.Wrong.TheVariants as wrong
 use Rattle.mbe_text.specs.Escapes.{Left, check_char}
 use Rattle.mbe_text.specs.Extents.{front, from_later_quote, from_char_end}
 use Rattle.mbe_text.specs.Rust.{Token, read_rust, literal, char, char_until, open_char, within, lifetime, plain_lifetime, raw_lifetime, begins_lifetime, may_be_raw}
-use Rattle.mbe_text.specs.Shapes.{Shape, identifier, literal_of, punct_of, lifetime_of, doc_of, opening, closing}
+use Rattle.mbe_text.specs.Shapes.{Shape, literal_of, lifetime_of}
 use Rattle.mbe_text.specs.Words.{past_word}
 use Rattle.mbe_text_laws.specs.Back.{CharsAreRead, is_char}
-use Rattle.mbe_text_laws.specs.Rust.{is_start, continues_word, begins_literal, IsReadBefore}
+use Rattle.mbe_text_laws.specs.Rust.{is_start, continues_word, begins_literal}
 use Rattle.mbe_text_laws.proofs.StepLemmas.{bytes_front}
-use Rattle.mbe_text_laws.proofs.QuoteLemmas.{Found, found_more, same_char, Parts, parts_on, front_of, token_of, Extends, extends, one_char, two_chars, letter_begins, b_is_start, ended, dot_ended}
+use Rattle.mbe_text_laws.proofs.QuoteLemmas.{Found, found_more, same_char, Parts, parts_on, front_of, token_of, extends, one_char, two_chars, letter_begins, b_is_start, AllExtend, all_are_read}
 
 -- ---- the quote that ends a char
 
@@ -267,12 +266,7 @@ byte_case e cs rest shape h k =
 -- a lifetime is no literal
 abbrev is_literal : Shape → Bool
 is_literal (literal_of text suffix n kind) = true
-is_literal (identifier name raw) = false
-is_literal (punct_of c sp) = false
-is_literal (lifetime_of name raw) = false
-is_literal (doc_of text inner) = false
-is_literal (opening k) = false
-is_literal (closing k) = false
+is_literal _ = false
 
 abbrev reads_literal : Token → Bool
 reads_literal (Ok r) = is_literal r.0
@@ -386,10 +380,7 @@ tick_begins : (cs : List ℕ) → begins_literal (39 ∷ cs) ≡ true
 unfolding unicode_ident
 tick_begins cs = refl
 
-char_extends : (e : Edition) (k : LitKind) (b rest text suffix : List ℕ) (n : ℕ) (kind : LitKind)
-    → is_char k ≡ true → continues_word rest ≡ false
-    → read_rust e (chars (marks.opening k ++ b) ++ []) ≡ Some (Ok (literal_of text suffix n kind, []))
-    → Extends e (marks.opening k ++ b) rest (literal_of text suffix n kind)
+char_extends : AllExtend is_char
 char_extends e kinds.Char b rest text suffix n kind i k h =
     extends e (39 ∷ b) (39 ∷ chars b) rest (literal_of text suffix n kind) (one_char 39 b (omega arith))
     (tick_begins (chars b)) (λ r. char_case e (chars b) rest text suffix n kind r k) h
@@ -399,23 +390,5 @@ char_extends e kinds.Byte b rest text suffix n kind i k h =
     (letter_begins 98 (39 ∷ chars b) b_is_start) (λ r. byte_case e (chars b) rest (literal_of text suffix n kind) r k) h
 char_extends e k b rest text suffix n kind i p h = absurd (cc)
 
-before_of : (e : Edition) (l : Literal) (rest : List ℕ) → is_char l.kind ≡ true → IsReadBefore e l []
-    → continues_word rest ≡ false → IsReadBefore e l rest
-before_of e l rest i b k = record {
-  text = b.text;
-  suffix = b.suffix;
-  parts = b.parts;
-  read = (char_extends e l.kind (marks.literal_text l ++
-      (marks.closing l.kind ++ marks.literal_suffix l)) rest b.text b.suffix l.suffix_len l.kind i k b.read).read;
-}
-
 pub chars_are_read : CharsAreRead
-chars_are_read e l i u b = (
-  record {
-    utf8 = u;
-    front = (char_extends e l.kind (marks.literal_text l ++
-        (marks.closing l.kind ++ marks.literal_suffix l)) [] b.text b.suffix l.suffix_len l.kind i refl b.read).begun;
-    whole = λ rest h. before_of e l rest i b (ended rest h);
-  },
-  λ rest h. before_of e l rest i b (dot_ended rest h),
-)
+chars_are_read = all_are_read is_char char_extends

@@ -25,6 +25,7 @@ use Rattle.mbe_text_laws.proofs.EndLemmas.{gap_ends_literal, punct_not_continue}
 use Rattle.mbe_text_laws.proofs.CommentLemmas.{no_comment_at}
 use Rattle.mbe_text_laws.proofs.TextLemmas.{spelled, after, ahead, the_gap, gap_of}
 use Rattle.mbe_text_laws.proofs.FollowLemmas.{is_sign, is_side, opening_is, closing_is, follows, follows_punct, fronted, never, ends_alone, alone_like, alone_ends, word_front}
+use Rattle.mbe_text_laws.proofs.QuoteLemmas.{same_char}
 
 -- ---- puncts
 
@@ -137,14 +138,7 @@ dot_together false side depth cs h = absurd (cc)
 dot_is : (c : ℕ) → (c == 46) ≡ true → (c == 59 ≡ false) × (c == 58 ≡ false) × (not (is_one_of c
     (codes ",;?")) ≡ true) × (not (is_one_of c (codes ".#$'")) ≡ false)
     × ((c == 39) ≡ false) × ((c == 35) ≡ false)
-dot_is c h = (
-  grind (arith, nat_tests, h),
-  grind (arith, nat_tests, h),
-  grind (arith, nat_tests, h),
-  grind (arith, nat_tests, h),
-  grind (arith, nat_tests, h),
-  grind (arith, nat_tests, h),
-)
+dot_is c h = rw (same_char c 46 h) (refl, refl, refl, refl, refl, refl)
 
 -- a field or a range goes on
 abbrev pub goes : List ℕ → Bool

@@ -14,7 +14,7 @@ use Rattle.mbe_text.specs.declared.wrong.Wrong.TheVariants as wrong
 use Rattle.mbe_text.specs.Characters.{has, begins, begins_with, past, bytes_before}
 use Rattle.mbe_text.specs.Escapes.{At}
 use Rattle.mbe_text.specs.Rust.{Token, read_rust, literal, base_of, digit_of, has_digit, past_exponent, past_digits, past_fraction, large_digit, is_too_large, is_ten, float, integer, number_of, number}
-use Rattle.mbe_text.specs.Shapes.{Shape, identifier, literal_of, punct_of, lifetime_of, doc_of, opening, closing}
+use Rattle.mbe_text.specs.Shapes.{Shape, literal_of}
 use Rattle.mbe_text_laws.specs.Back.{NumbersAreRead, ends_with_dot, is_bare_integer}
 use Rattle.mbe_text_laws.specs.Rust.{is_start, continues_word, begins_word, begins_number, begins_literal, begins_field, ends_literal, IsReadBefore}
 use Rattle.mbe_text_laws.proofs.QuoteLemmas.{literal_on, ended, field_ended, dot_ended, not_start_of, token_of, shape_of}
@@ -381,12 +381,7 @@ last_past k (d ∷ ds) h = last_if (has k d) k d ds refl (last_past k ds) h
 -- an integer without a suffix
 abbrev pub is_bare : Shape → Bool
 is_bare (literal_of text suffix n kind) = is_bare_integer kind n
-is_bare (identifier name raw) = false
-is_bare (punct_of c sp) = false
-is_bare (lifetime_of name raw) = false
-is_bare (doc_of text inner) = false
-is_bare (opening k) = false
-is_bare (closing k) = false
+is_bare _ = false
 
 -- where nothing follows its digits it is one
 bare_of : (base : _) (cs : List ℕ) (d : ℕ) (ds : List ℕ) (shape : Shape) (l : Option (List ℕ))

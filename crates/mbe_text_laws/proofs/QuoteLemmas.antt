@@ -1,6 +1,7 @@
 -- A literal in quotes that is read by itself is read before whatever doesn't go on with its suffix.
 use Rattle.std.proofs.Common.{◌≡◌, ℕ, ◌==◌, ◌-◌, ◌<◌, ◌&&◌, ◌||◌, if◌then◌else◌, Bool, true, false, List, [], ◌∷◌, ◌++◌, length, take, refl, sym, ap, ◌∙◌, arith, codes, Option, Some, None, Ok, Err, append_assoc, append-nil, length-append, encode_utf8_all}
 use Rattle.std.specs.Prelude.{nat_le, bytes_eq}
+use Rattle.std.specs.Str.{IsUtf8}
 use Rattle.std.proofs.lemmas.Bool.Decides.{nat_tests}
 use Rattle.std.proofs.Math.Seq.{take-append_seam}
 use Rattle.unicode_ident.specs.Ident.{is_xid_start, is_xid_continue}
@@ -22,7 +23,7 @@ use Rattle.mbe_text.specs.Rust.{Token, read_rust, literal, past_suffix, string, 
 use Rattle.mbe_text.specs.Shapes.{Shape, identifier, literal_of, punct_of, lifetime_of, doc_of, opening, closing}
 use Rattle.mbe_text.specs.Words.{past_word}
 use Rattle.mbe_text_laws.specs.Back.{StringsAreRead, is_string}
-use Rattle.mbe_text_laws.specs.Rust.{is_start, continues_word, begins_literal, begins_field, ends_literal, IsReadBefore}
+use Rattle.mbe_text_laws.specs.Rust.{is_start, continues_word, begins_literal, begins_field, ends_literal, IsReadBefore, IsLiteral, MayPrecedeDots}
 use Rattle.mbe_text_laws.proofs.TextLemmas.{ascii_utf8, ascii_chars}
 use Rattle.mbe_text_laws.proofs.StepLemmas.{past_all, bytes_front}
 
@@ -332,10 +333,14 @@ quote_begins : (cs : List ℕ) → begins_literal (34 ∷ cs) ≡ true
 unfolding unicode_ident
 quote_begins cs = refl
 
-string_extends : (e : Edition) (k : LitKind) (b rest text suffix : List ℕ) (n : ℕ) (kind : LitKind)
-    → is_string k ≡ true → continues_word rest ≡ false
+-- the literals of those kinds do, before whatever doesn't go on with their suffixes
+abbrev pub AllExtend : (LitKind → Bool) → Type 0
+AllExtend are_those = (e : Edition) (k : LitKind) (b rest text suffix : List ℕ) (n : ℕ) (kind : LitKind)
+    → are_those k ≡ true → continues_word rest ≡ false
     → read_rust e (chars (marks.opening k ++ b) ++ []) ≡ Some (Ok (literal_of text suffix n kind, []))
     → Extends e (marks.opening k ++ b) rest (literal_of text suffix n kind)
+
+string_extends : AllExtend is_string
 string_extends e kinds.Str b rest text suffix n kind i k h =
     extends e (34 ∷ b) (34 ∷ chars b) rest (literal_of text suffix n kind) (one_char 34 b (omega arith))
     (quote_begins (chars b))
@@ -348,24 +353,7 @@ string_extends e kinds.CStr b rest text suffix n kind i k h =
     extends e (99 ∷ (34 ∷ b)) (99 ∷ (34 ∷ chars b)) rest (literal_of text suffix n kind) (two_chars 99 34 b
     (omega arith) (omega arith))
     (letter_begins 99 (34 ∷ chars b) c_is_start) (λ r. c_case e (chars b) rest text suffix n kind r k) h
-string_extends e kinds.Byte b rest text suffix n kind i k h = absurd (cc)
-string_extends e kinds.Char b rest text suffix n kind i k h = absurd (cc)
-string_extends e kinds.Integer b rest text suffix n kind i k h = absurd (cc)
-string_extends e kinds.Float b rest text suffix n kind i k h = absurd (cc)
-string_extends e (kinds.StrRaw m) b rest text suffix n kind i k h = absurd (cc)
-string_extends e (kinds.ByteStrRaw m) b rest text suffix n kind i k h = absurd (cc)
-string_extends e (kinds.CStrRaw m) b rest text suffix n kind i k h = absurd (cc)
-string_extends e kinds.Err b rest text suffix n kind i k h = absurd (cc)
-
-before_of : (e : Edition) (l : Literal) (rest : List ℕ) → is_string l.kind ≡ true → IsReadBefore e l []
-    → continues_word rest ≡ false → IsReadBefore e l rest
-before_of e l rest i b k = record {
-  text = b.text;
-  suffix = b.suffix;
-  parts = b.parts;
-  read = (string_extends e l.kind (marks.literal_text l ++
-      (marks.closing l.kind ++ marks.literal_suffix l)) rest b.text b.suffix l.suffix_len l.kind i k b.read).read;
-}
+string_extends e k b rest text suffix n kind i p h = absurd (cc)
 
 pub ended : (rest : List ℕ) → ends_literal rest ≡ true → continues_word rest ≡ false
 ended [] h = refl
@@ -383,13 +371,25 @@ dot_ended (c ∷ cs) h =
     let dot : c ≡ 46 = grind (arith, nat_tests, h) in
     ap is_xid_continue dot ∙ is_xid_continue-ascii 46 (omega arith)
 
-pub strings_are_read : StringsAreRead
-strings_are_read e l i u b = (
-  record {
-    utf8 = u;
-    front = (string_extends e l.kind (marks.literal_text l ++
-        (marks.closing l.kind ++ marks.literal_suffix l)) [] b.text b.suffix l.suffix_len l.kind i refl b.read).begun;
-    whole = λ rest h. before_of e l rest i b (ended rest h);
-  },
-  λ rest h. before_of e l rest i b (dot_ended rest h),
+-- what is written of a literal after its opening
+abbrev opened_text : Literal → List ℕ
+opened_text l = marks.literal_text l ++ (marks.closing l.kind ++ marks.literal_suffix l)
+
+-- so each of them stays what it is
+pub all_are_read : (are_those : LitKind → Bool) → AllExtend are_those → (e : Edition) (l : Literal)
+    → are_those l.kind ≡ true → IsUtf8 (marks.literal_output l) → IsReadBefore e l []
+    → IsLiteral e l × MayPrecedeDots e l
+all_are_read are_those all e l i u b = (
+  record { utf8 = u; front = (extended [] refl).begun; whole = λ rest h. before rest (ended rest h) },
+  λ rest h. before rest (dot_ended rest h),
 )
+  where
+    extended : (rest : List ℕ) → continues_word rest ≡ false
+        → Extends e (marks.opening l.kind ++ opened_text l) rest (literal_of b.text b.suffix l.suffix_len l.kind)
+    extended rest k = all e l.kind (opened_text l) rest b.text b.suffix l.suffix_len l.kind i k b.read
+
+    before : (rest : List ℕ) → continues_word rest ≡ false → IsReadBefore e l rest
+    before rest k = record { text = b.text; suffix = b.suffix; parts = b.parts; read = (extended rest k).read }
+
+pub strings_are_read : StringsAreRead
+strings_are_read = all_are_read is_string string_extends

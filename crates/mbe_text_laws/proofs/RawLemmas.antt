@@ -4,7 +4,6 @@ use Rattle.std.specs.Prelude.{nat_le, replicate}
 use Rattle.std.proofs.Math.Seq.{drop-append_seam}
 use Rattle.std.proofs.lemmas.Str.{encode_ascii}
 use Rattle.unicode_ident.proofs.Computing.{unicode_ident}
-use Rattle.mbe_tt.specs.Trees.Leaf.{Literal}
 use Rattle.mbe_tt.specs.Trees.Literals as marks
 use Rattle.mbe_tt.specs.declared.span.Edition.{Edition}
 use Rattle.mbe_tt.specs.declared.span.Edition.TheVariants.{Edition2015, Edition2018, Edition2021, Edition2024}
@@ -17,10 +16,10 @@ use Rattle.mbe_text.specs.Extents.{front, from_raw_end}
 use Rattle.mbe_text.specs.Rust.{Token, read_rust, literal, raw_kind, raw_until, raw_body, raw_string}
 use Rattle.mbe_text.specs.Shapes.{Shape, literal_of}
 use Rattle.mbe_text_laws.specs.Back.{RawStringsAreRead, is_raw}
-use Rattle.mbe_text_laws.specs.Rust.{continues_word, IsReadBefore}
+use Rattle.mbe_text_laws.specs.Rust.{continues_word}
 use Rattle.mbe_text_laws.proofs.EndLemmas.{r_is_start}
 use Rattle.mbe_text_laws.proofs.StepLemmas.{bytes_front}
-use Rattle.mbe_text_laws.proofs.QuoteLemmas.{same_char, Parts, parts_on, front_of, token_of, checked, checked_is, is_identifier, Extends, extends, one_char, two_chars, letter_begins, b_is_start, c_is_start, ended, dot_ended}
+use Rattle.mbe_text_laws.proofs.QuoteLemmas.{same_char, Parts, parts_on, front_of, token_of, checked, checked_is, is_identifier, extends, one_char, two_chars, letter_begins, b_is_start, c_is_start, AllExtend, all_are_read}
 
 -- so many `#`
 abbrev pub marked : ℕ → List ℕ
@@ -289,10 +288,7 @@ marked_chars zero b = one_char 34 b (omega arith)
 marked_chars (suc n) b =
     one_char 35 ((marked n ++ (34 ∷ [])) ++ b) (omega arith) ∙ ap (λ (x : List ℕ). 35 ∷ x) (marked_chars n b)
 
-raw_extends : (e : Edition) (k : LitKind) (b rest text suffix : List ℕ) (n : ℕ) (kind : LitKind)
-    → is_raw k ≡ true → continues_word rest ≡ false
-    → read_rust e (chars (marks.opening k ++ b) ++ []) ≡ Some (Ok (literal_of text suffix n kind, []))
-    → Extends e (marks.opening k ++ b) rest (literal_of text suffix n kind)
+raw_extends : AllExtend is_raw
 raw_extends e (kinds.StrRaw m) b rest text suffix n kind i k h =
     let body : List ℕ = (marked m ++ (34 ∷ [])) ++ b in
     let cs : List ℕ = marked m ++ (34 ∷ chars b) in
@@ -319,23 +315,5 @@ raw_extends e (kinds.CStrRaw m) b rest text suffix n kind i k h =
     ∙ c_case e m (chars b) rest text suffix n kind r k) h
 raw_extends e k b rest text suffix n kind i p h = absurd (cc)
 
-before_of : (e : Edition) (l : Literal) (rest : List ℕ) → is_raw l.kind ≡ true → IsReadBefore e l []
-    → continues_word rest ≡ false → IsReadBefore e l rest
-before_of e l rest i b k = record {
-  text = b.text;
-  suffix = b.suffix;
-  parts = b.parts;
-  read = (raw_extends e l.kind (marks.literal_text l ++
-      (marks.closing l.kind ++ marks.literal_suffix l)) rest b.text b.suffix l.suffix_len l.kind i k b.read).read;
-}
-
 pub raw_strings_are_read : RawStringsAreRead
-raw_strings_are_read e l i u b = (
-  record {
-    utf8 = u;
-    front = (raw_extends e l.kind (marks.literal_text l ++
-        (marks.closing l.kind ++ marks.literal_suffix l)) [] b.text b.suffix l.suffix_len l.kind i refl b.read).begun;
-    whole = λ rest h. before_of e l rest i b (ended rest h);
-  },
-  λ rest h. before_of e l rest i b (dot_ended rest h),
-)
+raw_strings_are_read = all_are_read is_raw raw_extends

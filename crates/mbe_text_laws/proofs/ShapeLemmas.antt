@@ -368,6 +368,12 @@ r_raw e (suc zero) cs rest shape u h =
 r_raw e (suc (suc n)) cs rest shape u h =
     search (lexed_raw e (114 ∷ []) (suc (suc n)) cs rest shape (one_byte 114 [] (omega arith) refl) u, h)
 
+c_quote_bytes : encode_utf8_all (99 ∷ (34 ∷ [])) ≡ 99 ∷ (34 ∷ [])
+c_quote_bytes = one_byte 99 (34 ∷ []) (omega arith) (one_byte 34 [] (omega arith) refl)
+
+c_r_bytes : encode_utf8_all (99 ∷ (114 ∷ [])) ≡ 99 ∷ (114 ∷ [])
+c_r_bytes = one_byte 99 (114 ∷ []) (omega arith) (one_byte 114 [] (omega arith) refl)
+
 -- C strings are since 2021
 c_string : (e : Edition) (cs rest : List ℕ) (shape : Shape) → at_least_2021 e ≡ true
     → scalars (99 ∷ (34 ∷ cs)) ≡ true
@@ -376,14 +382,12 @@ c_string Edition2015 cs rest shape n u h = absurd (cc)
 c_string Edition2018 cs rest shape n u h = absurd (cc)
 c_string Edition2021 cs rest shape n u h =
     search (
-      lexed_string Edition2021 kinds.CStr (99 ∷ (34 ∷ [])) cs rest shape refl refl refl
-          (one_byte 99 (34 ∷ []) (omega arith) (one_byte 34 [] (omega arith) refl)) (omega arith) u,
+      lexed_string Edition2021 kinds.CStr (99 ∷ (34 ∷ [])) cs rest shape refl refl refl c_quote_bytes (omega arith) u,
       h,
     )
 c_string Edition2024 cs rest shape n u h =
     search (
-      lexed_string Edition2024 kinds.CStr (99 ∷ (34 ∷ [])) cs rest shape refl refl refl
-          (one_byte 99 (34 ∷ []) (omega arith) (one_byte 34 [] (omega arith) refl)) (omega arith) u,
+      lexed_string Edition2024 kinds.CStr (99 ∷ (34 ∷ [])) cs rest shape refl refl refl c_quote_bytes (omega arith) u,
       h,
     )
 
@@ -394,29 +398,13 @@ c_raw : (e : Edition) (n : ℕ) (cs rest : List ℕ) (shape : Shape) → at_leas
 c_raw Edition2015 n cs rest shape is u h = absurd (cc)
 c_raw Edition2018 n cs rest shape is u h = absurd (cc)
 c_raw Edition2021 zero cs rest shape is u h =
-    search (
-      lexed_raw Edition2021 (99 ∷ (114 ∷ [])) 0 cs rest shape
-          (one_byte 99 (114 ∷ []) (omega arith) (one_byte 114 [] (omega arith) refl)) u,
-      h,
-    )
+    search (lexed_raw Edition2021 (99 ∷ (114 ∷ [])) 0 cs rest shape c_r_bytes u, h)
 c_raw Edition2021 (suc n) cs rest shape is u h =
-    search (
-      lexed_raw Edition2021 (99 ∷ (114 ∷ [])) (suc n) cs rest shape
-          (one_byte 99 (114 ∷ []) (omega arith) (one_byte 114 [] (omega arith) refl)) u,
-      h,
-    )
+    search (lexed_raw Edition2021 (99 ∷ (114 ∷ [])) (suc n) cs rest shape c_r_bytes u, h)
 c_raw Edition2024 zero cs rest shape is u h =
-    search (
-      lexed_raw Edition2024 (99 ∷ (114 ∷ [])) 0 cs rest shape
-          (one_byte 99 (114 ∷ []) (omega arith) (one_byte 114 [] (omega arith) refl)) u,
-      h,
-    )
+    search (lexed_raw Edition2024 (99 ∷ (114 ∷ [])) 0 cs rest shape c_r_bytes u, h)
 c_raw Edition2024 (suc n) cs rest shape is u h =
-    search (
-      lexed_raw Edition2024 (99 ∷ (114 ∷ [])) (suc n) cs rest shape
-          (one_byte 99 (114 ∷ []) (omega arith) (one_byte 114 [] (omega arith) refl)) u,
-      h,
-    )
+    search (lexed_raw Edition2024 (99 ∷ (114 ∷ [])) (suc n) cs rest shape c_r_bytes u, h)
 
 -- ---- what begins with an `r`, a `b` or a `c`
 

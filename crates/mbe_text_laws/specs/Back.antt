@@ -6,7 +6,7 @@ use Rattle.mbe_tt.specs.declared.tt.Delimiter.{Delimiter}
 use Rattle.mbe_tt.specs.Trees.Leaf.{Leaf, Literal, literal, punct, ident}
 use Rattle.mbe_tt.specs.Trees.Literals.{literal_output}
 use Rattle.mbe_tt.specs.declared.tt.LitKind.{LitKind}
-use Rattle.mbe_tt.specs.declared.tt.LitKind.TheVariants.{Byte, Char, Integer, Float, Str, StrRaw, ByteStr, ByteStrRaw, CStr, CStrRaw, Err}
+use Rattle.mbe_tt.specs.declared.tt.LitKind.TheVariants.{Byte, Char, Integer, Str, StrRaw, ByteStr, ByteStrRaw, CStr, CStrRaw}
 use Rattle.mbe_tt.specs.Trees.Top.{Top, no_span}
 use Rattle.mbe_tt.specs.Trees.Tree.{Forest, none, leaf, group}
 use Rattle.mbe_rust_text.specs.Writing.{text_of}
@@ -47,14 +47,7 @@ abbrev pub is_string : LitKind → Bool
 is_string Str = true
 is_string ByteStr = true
 is_string CStr = true
-is_string Byte = false
-is_string Char = false
-is_string Integer = false
-is_string Float = false
-is_string (StrRaw n) = false
-is_string (ByteStrRaw n) = false
-is_string (CStrRaw n) = false
-is_string Err = false
+is_string _ = false
 
 -- a string that is read whole by itself is a literal, and one that a `.` may follow
 abbrev pub StringsAreRead : Type 0
@@ -66,29 +59,14 @@ StringsAreRead = (edition : Edition) (l : Literal) → is_string l.kind ≡ true
 abbrev pub is_char : LitKind → Bool
 is_char Char = true
 is_char Byte = true
-is_char Integer = false
-is_char Float = false
-is_char Str = false
-is_char (StrRaw n) = false
-is_char ByteStr = false
-is_char (ByteStrRaw n) = false
-is_char CStr = false
-is_char (CStrRaw n) = false
-is_char Err = false
+is_char _ = false
 
 -- a string without escapes
 abbrev pub is_raw : LitKind → Bool
 is_raw (StrRaw n) = true
 is_raw (ByteStrRaw n) = true
 is_raw (CStrRaw n) = true
-is_raw Byte = false
-is_raw Char = false
-is_raw Integer = false
-is_raw Float = false
-is_raw Str = false
-is_raw ByteStr = false
-is_raw CStr = false
-is_raw Err = false
+is_raw _ = false
 
 -- the same of a char or a byte
 abbrev pub CharsAreRead : Type 0
@@ -113,16 +91,7 @@ ends_with_dot (c ∷ (d ∷ cs)) = ends_with_dot (d ∷ cs)
 -- an integer without a suffix
 abbrev pub is_bare_integer : LitKind → ℕ → Bool
 is_bare_integer Integer suffix_len = suffix_len == 0
-is_bare_integer Byte suffix_len = false
-is_bare_integer Char suffix_len = false
-is_bare_integer Float suffix_len = false
-is_bare_integer Str suffix_len = false
-is_bare_integer (StrRaw n) suffix_len = false
-is_bare_integer ByteStr suffix_len = false
-is_bare_integer (ByteStrRaw n) suffix_len = false
-is_bare_integer CStr suffix_len = false
-is_bare_integer (CStrRaw n) suffix_len = false
-is_bare_integer Err suffix_len = false
+is_bare_integer _ suffix_len = false
 
 -- A number that is read whole by itself is a literal. The `.` of a field or a range may follow it, but for `1.`; any
 -- `.` may, where it is no integer without a suffix either.
