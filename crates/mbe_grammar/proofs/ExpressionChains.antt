@@ -2,11 +2,13 @@
 use Rattle.std.proofs.Common.{◌≡◌, ℕ, ◌<◌, Bool, true, false, List, [], ◌∷◌, map, None, Ok, Err, refl, sym, ap, ◌∙◌, subst, arith}
 use Rattle.std.specs.Prelude.{codes}
 use Rattle.mbe_tt.specs.Trees.Tree.{Forest, flat_len}
-use Rattle.mbe_grammar.specs.declared.step.Miss.{Miss}
-use Rattle.mbe_grammar.specs.declared.step.Miss.TheVariants.{Absent, Fault}
-use Rattle.mbe_grammar.specs.Rule.{one, part, ◌or◌, Step, ◌>>=◌, or_else, has_to_stand, if_present, if_absent, or_miss, following_one, meaning, in_turn}
+use Rattle.mbe_rules.specs.declared.step.Miss.{Miss}
+use Rattle.mbe_rules.specs.declared.step.Miss.TheVariants.{Absent, Fault}
+use Rattle.mbe_grammar.specs.Rule.{one, part, ◌or◌, meaning, in_turn}
+use Rattle.mbe_rules.specs.Terminals.{Step, or_absent, after_one}
+use Rattle.mbe_rules.specs.Rule.{◌>>=◌, or_else, has_to_fit, if_fits, if_absent}
 use Rattle.mbe_grammar.specs.RuleLaws.{meaning_leaves}
-use Rattle.mbe_grammar.specs.SingleTrees.{is_one_of, is_literal}
+use Rattle.mbe_rules.specs.SingleTrees.{is_one_of, is_literal}
 use Rattle.mbe_grammar.specs.SampleGrammar.{Rules, Nonterminal, word, words, brace, any_group, expr_start, Operator, Operation, Expr, Prefix, Unary, Operand, KeywordBlock, JumpWord, JumpValue, Jump, PathExpr, Primary, Post, rule_of, takes}
 use Rattle.mbe_grammar.specs.Chains.{jump_to_value, plain_operand}
 use Rattle.mbe_grammar.specs.Lawful.{takes_some, takes_leaves}
@@ -21,7 +23,7 @@ turns_done : (x : Nonterminal) (f g : Forest) → takes_some x ≡ true → in_t
     → takes x g ≡ Err Absent
 turns_done x f g p e = in_turn_done (takes x) (λ h. rw p at (takes_leaves x h)) f g e
 
-stood : (s : Step) (g : Forest) → has_to_stand s ≡ Ok g → s ≡ Ok g
+stood : (s : Step) (g : Forest) → has_to_fit s ≡ Ok g → s ≡ Ok g
 stood (Ok h) g e = e
 stood (Err Absent) g e = cc
 stood (Err Fault) g e = cc
@@ -37,7 +39,7 @@ unary_done f g e =
 
 operation_done : (f g : Forest) → takes Operation f ≡ Ok g → takes Post g ≡ Err Absent
 operation_done f g e =
-    let (start, _, unary) = then_placed (takes Operator f) (λ h. has_to_stand (takes Unary h)) g
+    let (start, _, unary) = then_placed (takes Operator f) (λ h. has_to_fit (takes Unary h)) g
     (sym (takes_by_rule Operation f) ∙ e) in
     unary_done start g (stood (takes Unary start) g unary)
 
@@ -58,24 +60,24 @@ operations_end f g e =
 
 -- ---- an operator and what follows it
 
-operation_by : (f g : Forest) (u : Step) → takes Unary g ≡ u → takes Operation f ≡ has_to_stand u
-    → in_turn (takes Operation) f ≡ has_to_stand (takes Expr g)
+operation_by : (f g : Forest) (u : Step) → takes Unary g ≡ u → takes Operation f ≡ has_to_fit u
+    → in_turn (takes Operation) f ≡ has_to_fit (takes Expr g)
 operation_by f g (Ok h) unary operation =
     turns_on Operation f h refl operation
     ∙ (sym (in_turn_placed (takes Operation) h)
-    ∙ ap has_to_stand (sym (takes_by_rule Expr g ∙ ap (λ s. s >>= in_turn (takes Operation)) unary)))
+    ∙ ap has_to_fit (sym (takes_by_rule Expr g ∙ ap (λ s. s >>= in_turn (takes Operation)) unary)))
 operation_by f g (Err Absent) unary operation =
-    turns_fault Operation f operation ∙ ap has_to_stand
+    turns_fault Operation f operation ∙ ap has_to_fit
     (sym (takes_by_rule Expr g ∙ ap (λ s. s >>= in_turn (takes Operation)) unary))
 operation_by f g (Err Fault) unary operation =
-    turns_fault Operation f operation ∙ ap has_to_stand
+    turns_fault Operation f operation ∙ ap has_to_fit
     (sym (takes_by_rule Expr g ∙ ap (λ s. s >>= in_turn (takes Operation)) unary))
 
 operation_after : (f : Forest) (s : Step) → takes Operator f ≡ s
-    → takes Operation f ≡ (s >>= λ g. has_to_stand (takes Unary g))
-operation_after f s e = takes_by_rule Operation f ∙ ap (λ t. t >>= λ g. has_to_stand (takes Unary g)) e
+    → takes Operation f ≡ (s >>= λ g. has_to_fit (takes Unary g))
+operation_after f s e = takes_by_rule Operation f ∙ ap (λ t. t >>= λ g. has_to_fit (takes Unary g)) e
 
-pub operator_on : (f g : Forest) → takes Operator f ≡ Ok g → in_turn (takes Operation) f ≡ has_to_stand (takes Expr g)
+pub operator_on : (f g : Forest) → takes Operator f ≡ Ok g → in_turn (takes Operation) f ≡ has_to_fit (takes Expr g)
 operator_on f g e = operation_by f g (takes Unary g) refl (operation_after f (Ok g) e)
 
 pub operator_absent : (f : Forest) → takes Operator f ≡ Err Absent → in_turn (takes Operation) f ≡ Ok f
@@ -96,54 +98,54 @@ jump_begins : (f g : Forest) → takes JumpWord f ≡ Ok g → Begins (is_one_of
 jump_begins f g e = one_placed (is_one_of jumps) f _ (then_placed _ _ g (sym (takes_by_rule JumpWord f) ∙ e)).1
 
 no_other_word : (others : List (List ℕ)) → are_apart jumps others ≡ true → (f : Forest) → Begins (is_one_of jumps) f
-    → following_one (is_one_of others) f ≡ None
+    → after_one (is_one_of others) f ≡ None
 no_other_word others apart f h = one_absent (is_one_of jumps) (is_one_of others) (words_apart jumps others apart) f h
 
 keyword_block_absent : (f : Forest) → Begins (is_one_of jumps) f → takes KeywordBlock f ≡ Err Absent
 keyword_block_absent f h =
-    takes_by_rule KeywordBlock f ∙ ap (λ x. or_miss Absent x >>= meaning takes brace)
+    takes_by_rule KeywordBlock f ∙ ap (λ x. or_absent x >>= meaning takes brace)
     (no_other_word (map codes ("const" ∷ "unsafe" ∷ [])) refl f h)
 
-placed_first : (s t : Step) → or_else (has_to_stand s) t ≡ has_to_stand s
+placed_first : (s t : Step) → or_else (has_to_fit s) t ≡ has_to_fit s
 placed_first (Ok g) t = refl
 placed_first (Err Absent) t = refl
 placed_first (Err Fault) t = refl
 
 -- where a jump is, the operand by itself is that
-primary_jump : (f g : Forest) (s : Step) → takes JumpWord f ≡ Ok g → takes Jump f ≡ has_to_stand s
-    → takes Primary f ≡ has_to_stand s
+primary_jump : (f g : Forest) (s : Step) → takes JumpWord f ≡ Ok g → takes Jump f ≡ has_to_fit s
+    → takes Primary f ≡ has_to_fit s
 primary_jump f g s e jump =
     let h = jump_begins f g e in
     let after_block : Rules = part Jump or any_group or part PathExpr in
     let after_literal : Rules = part KeywordBlock or after_block in
     let after_word : Rules = one is_literal or after_literal in
     takes_by_rule Primary f
-    ∙ (ap (λ x. if_absent (or_miss Absent x) f >>= meaning takes (words ("_" ∷ "true" ∷ "false" ∷ []) or after_word))
+    ∙ (ap (λ x. if_absent (or_absent x) f >>= meaning takes (words ("_" ∷ "true" ∷ "false" ∷ []) or after_word))
     (no_other_word (codes "let" ∷ []) refl f h)
-    ∙ (ap (λ x. or_else (or_miss Absent x) (meaning takes after_word f))
+    ∙ (ap (λ x. or_else (or_absent x) (meaning takes after_word f))
     (no_other_word (map codes ("_" ∷ "true" ∷ "false" ∷ [])) refl f h)
-    ∙ (ap (λ x. or_else (or_miss Absent x) (meaning takes after_literal f))
+    ∙ (ap (λ x. or_else (or_absent x) (meaning takes after_literal f))
     (one_absent (is_one_of jumps) is_literal (word_is_no_literal jumps) f h)
     ∙ (ap (λ t. or_else t (meaning takes after_block f)) (keyword_block_absent f h)
     ∙ (ap (λ t. or_else t (meaning takes (any_group or part PathExpr) f)) jump ∙ placed_first s _)))))
 
 -- a jump and its value
-ahead_parts : (s : Step) (f g : Forest) → if_present s f ≡ Ok g → (f ≡ g) × (if_present s f ≡ Ok f)
+ahead_parts : (s : Step) (f g : Forest) → if_fits s f ≡ Ok g → (f ≡ g) × (if_fits s f ≡ Ok f)
 ahead_parts (Ok h) f g e = (cc, refl)
 ahead_parts (Err miss) f g e = cc
 
-jump_value : (f g : Forest) → takes JumpWord f ≡ Ok g → if_present (meaning takes expr_start g) g ≡ Ok g
-    → takes Jump f ≡ has_to_stand (takes Expr g)
+jump_value : (f g : Forest) → takes JumpWord f ≡ Ok g → if_fits (meaning takes expr_start g) g ≡ Ok g
+    → takes Jump f ≡ has_to_fit (takes Expr g)
 jump_value f g word start =
     takes_by_rule Jump f
     ∙ (ap (λ s. s >>= λ h. or_else (takes JumpValue h) (Ok h)) word
-    ∙ (ap (λ s. or_else s (Ok g)) (takes_by_rule JumpValue g ∙ ap (λ s. s >>= λ h. has_to_stand (takes Expr h)) start)
+    ∙ (ap (λ s. or_else s (Ok g)) (takes_by_rule JumpValue g ∙ ap (λ s. s >>= λ h. has_to_fit (takes Expr h)) start)
     ∙ placed_first (takes Expr g) (Ok g)))
 
 -- nothing is taken after an expression
 ends_there : (s : Step) (posts operations : Forest → Step) → ((g : Forest) → s ≡ Ok g → posts g ≡ Ok g)
     → ((g : Forest) → s ≡ Ok g → operations g ≡ Ok g)
-    → ((has_to_stand s >>= posts) >>= operations) ≡ has_to_stand s
+    → ((has_to_fit s >>= posts) >>= operations) ≡ has_to_fit s
 ends_there (Ok g) posts operations a b = ap (λ t. t >>= operations) (a g refl) ∙ b g refl
 ends_there (Err Absent) posts operations a b = refl
 ends_there (Err Fault) posts operations a b = refl
@@ -157,19 +159,19 @@ pub prefixes_miss : (f : Forest) (miss : Miss) → in_turn (takes Prefix) f ≡ 
 prefixes_miss f miss e = expr_from f (Err miss) e
 
 jump_parts : (f g : Forest) → meaning takes jump_to_value f ≡ Ok g
-    → (takes JumpWord f ≡ Ok g) × (if_present (meaning takes expr_start g) g ≡ Ok g)
+    → (takes JumpWord f ≡ Ok g) × (if_fits (meaning takes expr_start g) g ≡ Ok g)
 jump_parts f g e =
-    let (h, word, start) = then_placed (takes JumpWord f) (λ k. if_present (meaning takes expr_start k) k) g e in
+    let (h, word, start) = then_placed (takes JumpWord f) (λ k. if_fits (meaning takes expr_start k) k) g e in
     let (same, placed) = ahead_parts (meaning takes expr_start h) h g start in
-    let P : Forest → Type 0 = λ k. (takes JumpWord f ≡ Ok k) × (if_present (meaning takes expr_start k) k ≡ Ok k) in
+    let P : Forest → Type 0 = λ k. (takes JumpWord f ≡ Ok k) × (if_fits (meaning takes expr_start k) k ≡ Ok k) in
     subst P same (word, placed)
 
 -- a jump's value is the rest of the whole
 pub jump_on : (f start g : Forest) → in_turn (takes Prefix) f ≡ Ok start → meaning takes jump_to_value start ≡ Ok g
-    → takes Expr f ≡ has_to_stand (takes Expr g)
+    → takes Expr f ≡ has_to_fit (takes Expr g)
 jump_on f start g e jump =
     let (word, placed) = jump_parts start g jump in
-    let primary : takes Primary start ≡ has_to_stand (takes Expr g) =
+    let primary : takes Primary start ≡ has_to_fit (takes Expr g) =
     primary_jump start g (takes Expr g) word (jump_value start g word placed) in
     expr_from f (Ok start) e
     ∙ (ap (λ t. t >>= in_turn (takes Operation))
@@ -203,10 +205,10 @@ value_absent (Err miss) start whole h e = refl
 jump_alone : (f : Forest) → meaning takes jump_to_value f ≡ Err Absent → takes Jump f ≡ takes JumpWord f
 jump_alone f e =
     takes_by_rule Jump f
-    ∙ value_absent (takes JumpWord f) (λ g. if_present (meaning takes expr_start g) g)
+    ∙ value_absent (takes JumpWord f) (λ g. if_fits (meaning takes expr_start g) g)
     (λ g. or_else (takes JumpValue g) (Ok g))
     (λ g absent. ap (λ s. or_else s (Ok g))
-    (takes_by_rule JumpValue g ∙ ap (λ s. s >>= λ h. has_to_stand (takes Expr h)) absent)) e
+    (takes_by_rule JumpValue g ∙ ap (λ s. s >>= λ h. has_to_fit (takes Expr h)) absent)) e
 
 not_ahead_same : (s : Step) (f : Forest) (k l : Forest → Step) → k f ≡ l f
     → (if_absent s f >>= k) ≡ (if_absent s f >>= l)

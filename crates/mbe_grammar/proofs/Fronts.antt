@@ -12,9 +12,12 @@ use Rattle.mbe_tt.specs.declared.tt.Punct.{Punct}
 use Rattle.mbe_tt.specs.declared.tt.IdentIsRaw.{IdentIsRaw}
 use Rattle.mbe_tt.specs.declared.tt.IdentIsRaw.TheVariants.{No, Yes}
 use Rattle.mbe_tt.specs.declared.tt.DelimiterKind.{DelimiterKind}
-use Rattle.mbe_grammar.specs.declared.step.Miss.TheVariants.{Absent, Fault}
-use Rattle.mbe_grammar.specs.Rule.{Step, ◌>>=◌, or_else, or_miss, following_one, after_puncts, may_begin}
-use Rattle.mbe_grammar.specs.SingleTrees.{is_word, is_one_of, is_name, is_literal, is_punct, is_group}
+use Rattle.mbe_rules.specs.declared.step.Miss.TheVariants.{Absent, Fault}
+use Rattle.mbe_grammar.specs.Rule.{may_begin}
+use Rattle.mbe_rules.specs.Terminals.{Step, or_absent, after_one, after_operator}
+use Rattle.mbe_rules.specs.Rule.{◌>>=◌, or_else}
+use Rattle.mbe_grammar.specs.SingleTrees.{is_name}
+use Rattle.mbe_rules.specs.SingleTrees.{is_word, is_one_of, is_literal, is_punct, is_group}
 
 -- the first tree passes the test
 abbrev pub Begins : (Tree → Bool) → Forest → Type 0
@@ -29,7 +32,7 @@ Apart p q = (t : Tree) → p t ≡ true → q t ≡ false
 if_false : (b : Bool) (x : Option Forest) → b ≡ false → (if b then x else None) ≡ None
 if_false b x e = rw e
 
-pub one_absent : (p q : Tree → Bool) → Apart p q → (f : Forest) → Begins p f → following_one q f ≡ None
+pub one_absent : (p q : Tree → Bool) → Apart p q → (f : Forest) → Begins p f → after_one q f ≡ None
 one_absent p q apart none h = absurd h
 one_absent p q apart (leaf l rest) h = if_false _ (Some rest) (apart (Leaf_tree l) h)
 one_absent p q apart (group d inside rest) h = if_false _ (Some rest) (apart (Group_tree d inside) h)
@@ -46,7 +49,7 @@ glue_other : (p : Punct) (rest : Forest) (char : ℕ) (chars : List ℕ) → (p.
 glue_other p rest char chars e = rw (longest_other _ _ p (if_joint p.spacing (joined 2 rest)) char chars e)
 
 pub puncts_absent : (p : Tree → Bool) (char : ℕ) (chars : List ℕ) → Apart p (is_punct char) → (f : Forest) → Begins p f
-    → after_puncts ((char ∷ chars) ∷ []) f ≡ None
+    → after_operator ((char ∷ chars) ∷ []) f ≡ None
 puncts_absent p char chars apart none h = absurd h
 puncts_absent p char chars apart (group d inside rest) h = refl
 puncts_absent p char chars apart (leaf (literal x) rest) h = refl
@@ -54,7 +57,7 @@ puncts_absent p char chars apart (leaf (ident i) rest) h = refl
 puncts_absent p char chars apart (leaf (punct q) rest) h =
     if_false _ _ (glue_other q rest char chars (apart (Leaf_tree (punct q)) h))
 
-pub absent_unless : (chars : List ℕ) (f : Forest) → may_begin chars f ≡ false → after_puncts (chars ∷ []) f ≡ None
+pub absent_unless : (chars : List ℕ) (f : Forest) → may_begin chars f ≡ false → after_operator (chars ∷ []) f ≡ None
 absent_unless [] f e = absurd (false≢true (sym e))
 absent_unless (char ∷ chars) none e = refl
 absent_unless (char ∷ chars) (group d inside rest) e = refl
@@ -146,11 +149,11 @@ either_apart p q r a b t h = elim (or_cases (p t) (q t) h) [ inl e ↦ a t e | i
 
 -- ---- what comes first where a rule fits
 
-first_placed : (a : Bool) (rest g : Forest) → or_miss Absent (if a then Some rest else None) ≡ Ok g → a ≡ true
+first_placed : (a : Bool) (rest g : Forest) → or_absent (if a then Some rest else None) ≡ Ok g → a ≡ true
 first_placed true rest g e = refl
 first_placed false rest g e = cc
 
-pub one_placed : (p : Tree → Bool) (f g : Forest) → or_miss Absent (following_one p f) ≡ Ok g → Begins p f
+pub one_placed : (p : Tree → Bool) (f g : Forest) → or_absent (after_one p f) ≡ Ok g → Begins p f
 one_placed p none g e = cc
 one_placed p (leaf l rest) g e = first_placed _ rest g e
 one_placed p (group d inside rest) g e = first_placed _ rest g e

@@ -3,9 +3,11 @@ use Rattle.std.proofs.Common.{◌≡◌, ℕ, ◌<◌, Bool, List, [], ◌∷◌
 use Rattle.std.specs.Prelude.{codes}
 use Rattle.mbe_tt.specs.Trees.Tree.{Forest, Tree, flat_len}
 use Rattle.mbe_tt.specs.declared.tt.DelimiterKind.TheVariants.{Parenthesis, Bracket}
-use Rattle.mbe_grammar.specs.declared.step.Miss.TheVariants.{Absent, Fault}
-use Rattle.mbe_grammar.specs.Rule.{one, part, ◌or◌, Step, ◌>>=◌, or_else, or_miss, following_one, meaning}
-use Rattle.mbe_grammar.specs.SingleTrees.{is_one_of, is_literal, is_punct, is_group}
+use Rattle.mbe_rules.specs.declared.step.Miss.TheVariants.{Absent, Fault}
+use Rattle.mbe_grammar.specs.Rule.{one, part, ◌or◌, meaning}
+use Rattle.mbe_rules.specs.Terminals.{Step, or_absent, after_one}
+use Rattle.mbe_rules.specs.Rule.{◌>>=◌, or_else}
+use Rattle.mbe_rules.specs.SingleTrees.{is_one_of, is_literal, is_punct, is_group}
 use Rattle.mbe_grammar.specs.SampleGrammar.{Rules, word, parenthesis_or_bracket, SignedLiteral, BindingMode, BoundPat, PathPat, Pat, rule_of, takes}
 use Rattle.mbe_grammar.specs.Chains.{direct_pattern}
 use Rattle.mbe_grammar.proofs.Rules.{never_faults}
@@ -29,7 +31,7 @@ mode_begins f g e =
     ]
 
 mode_apart : (q : Tree → Bool) → Apart (is_punct 38) q → Apart (is_one_of mode_words) q → (f : Forest)
-    → Begins begins_mode f → following_one q f ≡ None
+    → Begins begins_mode f → after_one q f ≡ None
 mode_apart q a b f h = one_absent begins_mode q (either_apart (is_punct 38) (is_one_of mode_words) q a b) f h
 
 signed_absent : (f : Forest) → Begins begins_mode f → takes SignedLiteral f ≡ Err Absent
@@ -38,9 +40,9 @@ signed_absent f h =
     either_apart (is_punct 38) (is_one_of mode_words) (is_punct 45) (signs_apart 38 45 refl)
     (word_is_no_punct mode_words 45) in
     takes_by_rule SignedLiteral f
-    ∙ (ap (λ x. or_else (or_miss Absent x) (Ok f) >>= meaning takes (one is_literal))
+    ∙ (ap (λ x. or_else (or_absent x) (Ok f) >>= meaning takes (one is_literal))
     (puncts_absent begins_mode 45 [] no_minus f h)
-    ∙ ap (or_miss Absent) (mode_apart is_literal (sign_is_no_literal 38) (word_is_no_literal mode_words) f h))
+    ∙ ap (or_absent) (mode_apart is_literal (sign_is_no_literal 38) (word_is_no_literal mode_words) f h))
 
 -- a pattern is that after its mode, or else the mode is a path
 pat_on : (f g : Forest) → takes BindingMode f ≡ Ok g → takes Pat f ≡ or_else (takes Pat g) (takes PathPat f)
@@ -53,11 +55,11 @@ pat_on f g e =
     let after_word : Rules = part SignedLiteral or part BoundPat or parenthesis_or_bracket or part PathPat in
     let after_literal : Rules = part BoundPat or parenthesis_or_bracket or part PathPat in
     takes_by_rule Pat f
-    ∙ (ap (λ x. or_else (or_miss Absent x) (meaning takes after_word f)) no_word
+    ∙ (ap (λ x. or_else (or_absent x) (meaning takes after_word f)) no_word
     ∙ (ap (λ s. or_else s (meaning takes after_literal f)) (signed_absent f h)
     ∙ (ap (λ s. or_else s (meaning takes (parenthesis_or_bracket or part PathPat) f))
     (takes_by_rule BoundPat f ∙ ap (λ s. s >>= takes Pat) e)
-    ∙ ap (λ x. or_else (takes Pat g) (or_else (or_miss Absent x) (takes PathPat f))) no_group)))
+    ∙ ap (λ x. or_else (takes Pat g) (or_else (or_absent x) (takes PathPat f))) no_group)))
 
 or_regroup : (s t u : Step) → or_else (or_else s t) u ≡ or_else s (or_else t u)
 or_regroup (Ok g) t u = refl

@@ -2,8 +2,10 @@
 use Rattle.std.proofs.Common.{◌≡◌, ℕ, zero, suc, ◌+◌, ◌-◌, ◌*◌, ◌<◌, ◌≤◌, Bool, true, false, ◌&&◌, Option, Some, None, Ok, Err, refl, sym, ap, ◌∙◌, subst, arith, ltb-true, zero-add}
 use Rattle.std.specs.Prelude.{if◌then◌else◌, nat_lt}
 use Rattle.mbe_tt.specs.Trees.Tree.{Forest, flat_len}
-use Rattle.mbe_grammar.specs.declared.step.Miss.TheVariants.{Absent, Fault}
-use Rattle.mbe_grammar.specs.Rule.{Rule, one, puncts_of, through, to_closing_angle, part, ◌then◌, ◌or◌, maybe, repeated, needed, ahead, not_ahead, Step, ◌>>=◌, or_else, has_to_stand, if_present, if_absent, or_miss, once_more, times, in_turn, meaning, taken_within, taken}
+use Rattle.mbe_rules.specs.declared.step.Miss.TheVariants.{Absent, Fault}
+use Rattle.mbe_grammar.specs.Rule.{Rule, one, puncts_of, through, to_closing_angle, part, ◌then◌, ◌or◌, maybe, repeated, needed, ahead, not_ahead, in_turn, meaning, taken_within, taken}
+use Rattle.mbe_rules.specs.Terminals.{Step, or_absent}
+use Rattle.mbe_rules.specs.Rule.{◌>>=◌, or_else, has_to_fit, if_fits, if_absent, once_more, times}
 use Rattle.mbe_grammar.specs.RuleLaws.{count, Leaves, leaves_weaker, is_solid, Solid, meaning_leaves, within_leaves, taken_leaves}
 
 -- ---- parts that call one another
@@ -61,7 +63,7 @@ times_same (suc n) m r s h e f le =
 in_turn_same : (r s : Forest → Step) (f : Forest) → ((g : Forest) → Leaves false g (s g))
     → ((g : Forest) → flat_len g ≤ flat_len f → r g ≡ s g)
     → in_turn r f ≡ in_turn s f
-unfolding in_turn
+unfolding in_turn times
 in_turn_same r s f h e = times_same (suc (flat_len f)) (flat_len f) r s h e f (omega arith)
 
 both_true : (a b : Bool) → (a && b) ≡ true → (a ≡ true) × (b ≡ true)
@@ -97,8 +99,8 @@ agree solid rank c d l n e (repeated r) k f b le =
     in_turn_same (meaning c r) (meaning d r) f
     (λ g. leaves_weaker (is_solid solid r) g (meaning d r g) (meaning_leaves solid d l r g))
     (λ g h. agree solid rank c d l n e r k g b (omega arith))
-agree solid rank c d l n e (needed r) k f b le = ap has_to_stand (agree solid rank c d l n e r k f b le)
-agree solid rank c d l n e (ahead r) k f b le = ap (λ t. if_present t f) (agree solid rank c d l n e r k f b le)
+agree solid rank c d l n e (needed r) k f b le = ap has_to_fit (agree solid rank c d l n e r k f b le)
+agree solid rank c d l n e (ahead r) k f b le = ap (λ t. if_fits t f) (agree solid rank c d l n e r k f b le)
 agree solid rank c d l n e (not_ahead r) k f b le = ap (λ t. if_absent t f) (agree solid rank c d l n e r k f b le)
 
 one_deeper : {P : Type 0} {rules : P → Rule P} (o : Order rules) (n : ℕ) (x : P) (f : Forest)
@@ -153,6 +155,7 @@ once_more_shorter f (Err Fault) k l h e = refl
 
 times_enough : (n m : ℕ) (r : Forest → Step) → ((g : Forest) → Leaves true g (r g)) → (f : Forest) → flat_len f < n
     → flat_len f < m → times n r f ≡ times m r f
+unfolding times
 times_enough zero m r h f p q = absurd (omega arith)
 times_enough (suc n) zero r h f p q = absurd (omega arith)
 times_enough (suc n) (suc m) r h f p q =
@@ -168,17 +171,17 @@ shorter f g s h e = let P : Step → Type 0 = λ t. Leaves true f t in let l : L
 
 pub in_turn_on : (r : Forest → Step) → ((g : Forest) → Leaves true g (r g)) → (f g : Forest) → r f ≡ Ok g
     → in_turn r f ≡ in_turn r g
-unfolding in_turn
+unfolding in_turn times
 in_turn_on r h f g e =
     ap (λ s. once_more s (times (flat_len f) r) f) e
     ∙ times_enough (flat_len f) (suc (flat_len g)) r h g (shorter f g (r f) (h f) e) (omega arith)
 
 pub in_turn_ends : (r : Forest → Step) (f : Forest) → r f ≡ Err Absent → in_turn r f ≡ Ok f
-unfolding in_turn
+unfolding in_turn times
 in_turn_ends r f e = ap (λ s. once_more s (times (flat_len f) r) f) e
 
 pub in_turn_faults : (r : Forest → Step) (f : Forest) → r f ≡ Err Fault → in_turn r f ≡ Err Fault
-unfolding in_turn
+unfolding in_turn times
 in_turn_faults r f e = ap (λ s. once_more s (times (flat_len f) r) f) e
 
 -- where it ends, the rule doesn't stand once more
@@ -191,13 +194,14 @@ once_more_done f g (Err Fault) r more e l k t = cc
 
 times_done : (n : ℕ) (r : Forest → Step) → ((g : Forest) → Leaves true g (r g)) → (f g : Forest) → flat_len f < n
     → times n r f ≡ Ok g → r g ≡ Err Absent
+unfolding times
 times_done zero r h f g lt t = absurd (omega arith)
 times_done (suc n) r h f g lt t = once_more_done f g (r f) r (times n r) refl (h f)
     (λ k le. times_done n r h k g (omega arith)) t
 
 pub in_turn_done : (r : Forest → Step) → ((g : Forest) → Leaves true g (r g)) → (f g : Forest) → in_turn r f ≡ Ok g
     → r g ≡ Err Absent
-unfolding in_turn
+unfolding in_turn times
 in_turn_done r h f g t = times_done (suc (flat_len f)) r h f g (omega arith) t
 
 -- what each step leads to, and holds before the first
@@ -210,28 +214,30 @@ once_more_keeps P f g (Err Fault) more here step k t = cc
 
 times_keeps : (P : Forest → Type 0) (n : ℕ) (r : Forest → Step) → ((f g : Forest) → r f ≡ Ok g → P g) → (f g : Forest)
     → P f → times n r f ≡ Ok g → P g
+unfolding times
 times_keeps P zero r h f g here t = let e : f ≡ g = cc in subst P e here
 times_keeps P (suc n) r h f g here t = once_more_keeps P f g (r f) (times n r) here (h f)
     (λ k now. times_keeps P n r h k g now) t
 
 pub in_turn_keeps : (P : Forest → Type 0) (r : Forest → Step) → ((f g : Forest) → r f ≡ Ok g → P g) → (f g : Forest)
     → P f → in_turn r f ≡ Ok g → P g
-unfolding in_turn
+unfolding in_turn times
 in_turn_keeps P r h f g here t = times_keeps P (suc (flat_len f)) r h f g here t
 
 -- a repetition always is
-once_more_placed : (f : Forest) (s : Step) (more : Forest → Step) → ((g : Forest) → has_to_stand (more g) ≡ more g)
-    → has_to_stand (once_more s more f) ≡ once_more s more f
+once_more_placed : (f : Forest) (s : Step) (more : Forest → Step) → ((g : Forest) → has_to_fit (more g) ≡ more g)
+    → has_to_fit (once_more s more f) ≡ once_more s more f
 once_more_placed f (Ok g) more h = h g
 once_more_placed f (Err Absent) more h = refl
 once_more_placed f (Err Fault) more h = refl
 
-times_stand : (n : ℕ) (r : Forest → Step) (f : Forest) → has_to_stand (times n r f) ≡ times n r f
+times_stand : (n : ℕ) (r : Forest → Step) (f : Forest) → has_to_fit (times n r f) ≡ times n r f
+unfolding times
 times_stand zero r f = refl
 times_stand (suc n) r f = once_more_placed f (r f) (times n r) (times_stand n r)
 
-pub in_turn_placed : (r : Forest → Step) (f : Forest) → has_to_stand (in_turn r f) ≡ in_turn r f
-unfolding in_turn
+pub in_turn_placed : (r : Forest → Step) (f : Forest) → has_to_fit (in_turn r f) ≡ in_turn r f
+unfolding in_turn times
 in_turn_placed r f = times_stand (suc (flat_len f)) r f
 
 -- ---- rules without a fault
@@ -254,7 +260,7 @@ is_calm calm (not_ahead r) = is_calm calm r
 abbrev Calm : Step → Type 0
 Calm s = s ≡ Err Fault → ⊥
 
-miss_calm : (x : Option Forest) → Calm (or_miss Absent x)
+miss_calm : (x : Option Forest) → Calm (or_absent x)
 miss_calm None e = cc
 miss_calm (Some rest) e = cc
 
@@ -267,7 +273,7 @@ or_calm (Ok g) t h k e = h e
 or_calm (Err Absent) t h k e = k e
 or_calm (Err Fault) t h k e = h e
 
-ahead_calm : (f : Forest) (s : Step) → Calm s → Calm (if_present s f)
+ahead_calm : (f : Forest) (s : Step) → Calm s → Calm (if_fits s f)
 ahead_calm f (Ok g) h e = cc
 ahead_calm f (Err miss) h e = h e
 

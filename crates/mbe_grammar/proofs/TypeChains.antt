@@ -2,13 +2,16 @@
 use Rattle.std.proofs.Common.{◌≡◌, ℕ, zero, suc, ◌<◌, Bool, true, false, List, [], ◌∷◌, None, Ok, Err, inl, inr, refl, sym, ap, ◌∙◌, arith, true≢false}
 use Rattle.std.specs.Prelude.{◌==◌, codes}
 use Rattle.mbe_tt.specs.Trees.Tree.{Forest, Tree, flat_len}
-use Rattle.mbe_grammar.specs.declared.step.Miss.TheVariants.{Absent, Fault}
+use Rattle.mbe_rules.specs.declared.step.Miss.TheVariants.{Absent, Fault}
 use Rattle.mbe_grammar.specs.declared.types.PathStyle.{PathStyle}
 use Rattle.mbe_grammar.specs.declared.types.PathStyle.TheVariants.{Plain, Expression}
 use Rattle.mbe_tt.specs.declared.tt.DelimiterKind.{DelimiterKind}
 use Rattle.mbe_tt.specs.declared.tt.DelimiterKind.TheVariants.{Parenthesis, Bracket}
-use Rattle.mbe_grammar.specs.Rule.{one, part, ◌then◌, ◌or◌, maybe, repeated, needed, ahead, Step, ◌>>=◌, or_else, or_miss, following_one, meaning, in_turn}
-use Rattle.mbe_grammar.specs.SingleTrees.{is_one_of, is_name, is_punct, is_group}
+use Rattle.mbe_grammar.specs.Rule.{one, part, ◌then◌, ◌or◌, maybe, repeated, needed, ahead, meaning, in_turn}
+use Rattle.mbe_rules.specs.Terminals.{Step, or_absent, after_one}
+use Rattle.mbe_rules.specs.Rule.{◌>>=◌, or_else}
+use Rattle.mbe_grammar.specs.SingleTrees.{is_name}
+use Rattle.mbe_rules.specs.SingleTrees.{is_one_of, is_punct, is_group}
 use Rattle.mbe_grammar.specs.SampleGrammar.{Rules, word, words, puncts, reference_sign, pointer_sign, parenthesis_or_bracket, Nonterminal, Lifetime, Angle, Turbofish, Colons, Segment, NextSegment, Path, Indirection, Pointee, Ty, rule_of, takes}
 use Rattle.mbe_grammar.specs.Chains.{direct_type}
 use Rattle.mbe_grammar.proofs.Rules.{never_faults}
@@ -22,9 +25,9 @@ abbrev begins_indirection : Tree → Bool
 begins_indirection = either_of (is_punct 38) (is_punct 42)
 
 sign_placed : (char : ℕ) (r : Rules) (f g : Forest)
-    → (or_miss Absent (following_one (is_punct char) f) >>= meaning takes r) ≡ Ok g → Begins (is_punct char) f
+    → (or_absent (after_one (is_punct char) f) >>= meaning takes r) ≡ Ok g → Begins (is_punct char) f
 sign_placed char r f g e = one_placed (is_punct char) f _
-    (then_placed (or_miss Absent (following_one (is_punct char) f)) (meaning takes r) g e).1
+    (then_placed (or_absent (after_one (is_punct char) f)) (meaning takes r) g e).1
 
 indirection_begins : (f g : Forest) → takes Indirection f ≡ Ok g → Begins begins_indirection f
 indirection_begins f g e =
@@ -44,16 +47,16 @@ apart_from char a b = either_apart (is_punct 38) (is_punct 42) (is_punct char) (
 colons_absent : (f : Forest) → Begins begins_indirection f → takes Colons f ≡ Err Absent
 colons_absent f h =
     takes_by_rule Colons f
-    ∙ ap (λ x. or_miss Absent x >>= meaning takes (needed (ahead (one is_name or part Angle))))
+    ∙ ap (λ x. or_absent x >>= meaning takes (needed (ahead (one is_name or part Angle))))
     (puncts_absent begins_indirection 58 (58 ∷ []) (apart_from 58 refl refl) f h)
 
-segment_absent : (style : PathStyle) (f : Forest) → following_one is_name f ≡ None
+segment_absent : (style : PathStyle) (f : Forest) → after_one is_name f ≡ None
     → takes (Segment style) f ≡ Err Absent
 segment_absent Plain f e =
-    takes_by_rule (Segment Plain) f ∙ ap (λ x. or_miss Absent x >>= meaning takes
+    takes_by_rule (Segment Plain) f ∙ ap (λ x. or_absent x >>= meaning takes
     (maybe (maybe (puncts "::") then part Angle))) e
 segment_absent Expression f e = takes_by_rule (Segment Expression) f
-    ∙ ap (λ x. or_miss Absent x >>= meaning takes (maybe (part Turbofish))) e
+    ∙ ap (λ x. or_absent x >>= meaning takes (maybe (part Turbofish))) e
 
 path_absent : (style : PathStyle) (f : Forest) → Begins begins_indirection f → takes (Path style) f ≡ Err Absent
 path_absent style f h =
@@ -66,14 +69,14 @@ path_absent style f h =
     (segment_absent style f (one_absent begins_indirection is_name no_name f h)))
 
 word_absent : (texts : List (List ℕ)) (f : Forest) → Begins begins_indirection f
-    → following_one (is_one_of texts) f ≡ None
+    → after_one (is_one_of texts) f ≡ None
 word_absent texts f h =
     one_absent begins_indirection (is_one_of texts)
     (either_apart (is_punct 38) (is_punct 42) (is_one_of texts) (sign_is_no_word 38 texts)
     (sign_is_no_word 42 texts)) f h
 
 group_absent : (kinds : List DelimiterKind) (f : Forest) → Begins begins_indirection f
-    → following_one (is_group kinds) f ≡ None
+    → after_one (is_group kinds) f ≡ None
 group_absent kinds f h =
     one_absent begins_indirection (is_group kinds)
     (either_apart (is_punct 38) (is_punct 42) (is_group kinds) (sign_is_no_group 38 kinds)
@@ -89,10 +92,10 @@ ty_on f g e =
     let after_word : Rules = puncts "!" or parenthesis_or_bracket or part Pointee or part (Path Plain) in
     let after_never : Rules = parenthesis_or_bracket or part Pointee or part (Path Plain) in
     takes_by_rule Ty f
-    ∙ (ap (λ x. or_else (or_miss Absent x) (meaning takes after_word f)) (word_absent (codes "_" ∷ []) f h)
-    ∙ (ap (λ x. or_else (or_miss Absent x) (meaning takes after_never f))
+    ∙ (ap (λ x. or_else (or_absent x) (meaning takes after_word f)) (word_absent (codes "_" ∷ []) f h)
+    ∙ (ap (λ x. or_else (or_absent x) (meaning takes after_never f))
     (puncts_absent begins_indirection 33 [] (apart_from 33 refl refl) f h)
-    ∙ (ap (λ x. or_else (or_miss Absent x) (or_else (takes Pointee f) (takes (Path Plain) f)))
+    ∙ (ap (λ x. or_else (or_absent x) (or_else (takes Pointee f) (takes (Path Plain) f)))
     (group_absent (Parenthesis ∷ Bracket ∷ []) f h)
     ∙ (absent_last (takes Pointee f) (takes (Path Plain) f) (path_absent Plain f h) ∙ pointee))))
 

@@ -1,9 +1,7 @@
 pub mod Chains
-pub mod FlatTrees
 pub mod Lawful
 pub mod Links
 pub mod Rule
 pub mod RuleLaws
 pub mod SampleGrammar
 pub mod SingleTrees
-pub mod Steps

@@ -2,16 +2,17 @@
 use Rattle.std.specs.Prelude.{ℕ, ◌<◌, ⊤, Result, Ok, Err}
 use Rattle.mbe_tt.specs.Trees.Tree.{flat_len}
 use Rattle.mbe_tt.specs.Views.View.{trees}
-use Rattle.mbe_grammar.specs.declared.step.Miss.{Miss}
+use Rattle.mbe_rules.specs.declared.step.Miss.{Miss}
 use Rattle.mbe_grammar.specs.declared.expressions.Link.{Link}
 use Rattle.mbe_grammar.specs.declared.expressions.Link.TheVariants.{End, GoesOn}
-use Rattle.mbe_grammar.specs.Rule.{Step, has_to_stand}
+use Rattle.mbe_rules.specs.Terminals.{Step}
+use Rattle.mbe_rules.specs.Rule.{has_to_fit}
 use Rattle.mbe_grammar.specs.SampleGrammar.{Expr, takes}
 
 -- the whole takes what its front does where it ends there, and else what the rest does, which has to fit
 abbrev pub whole : {A : Type 0} → Result (Link A) Miss → Step
 whole (Ok (End rest)) = Ok (trees rest)
-whole (Ok (GoesOn rest)) = has_to_stand (takes Expr (trees rest))
+whole (Ok (GoesOn rest)) = has_to_fit (takes Expr (trees rest))
 whole (Err miss) = Err miss
 
 -- the rest has fewer flat tokens than that

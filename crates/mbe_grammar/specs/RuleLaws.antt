@@ -9,9 +9,11 @@ use Rattle.mbe_tt.specs.Trees.Tree.{Forest, none, leaf, group, Tree, Leaf_tree, 
 use Rattle.mbe_tt.specs.Trees.Leaf.{Leaf, punct, literal, ident}
 use Rattle.mbe_tt.specs.Trees.Glue.{glue, chars_of, if_joint, joined}
 use Rattle.mbe_tt.specs.declared.tt.Punct.{Punct}
-use Rattle.mbe_grammar.specs.declared.step.Miss.{Miss}
-use Rattle.mbe_grammar.specs.declared.step.Miss.TheVariants.{Absent, Fault}
-use Rattle.mbe_grammar.specs.Rule.{Rule, one, puncts_of, through, to_closing_angle, part, ◌then◌, ◌or◌, maybe, repeated, needed, ahead, not_ahead, Step, ◌>>=◌, or_else, has_to_stand, if_present, if_absent, or_miss, once_more, times, in_turn, following_one, after_puncts, past_first, after_angle, is_char, begins_arrow, meaning, taken_within, taken}
+use Rattle.mbe_rules.specs.declared.step.Miss.TheVariants.{Absent, Fault}
+use Rattle.mbe_grammar.specs.Rule.{Rule, one, puncts_of, through, to_closing_angle, part, ◌then◌, ◌or◌, maybe, repeated, needed, ahead, not_ahead, or_fault, in_turn, past_first, after_angle, begins_arrow, meaning, taken_within, taken}
+use Rattle.mbe_rules.specs.Terminals.{Step, or_absent, after_one, after_operator}
+use Rattle.mbe_rules.specs.Rule.{◌>>=◌, or_else, has_to_fit, if_fits, if_absent, once_more, times}
+use Rattle.mbe_rules.specs.SingleTrees.{is_char}
 
 -- ---- what is left
 
@@ -58,12 +60,12 @@ maybe_leaves a f (Ok g) h = leaves_weaker a f (Ok g) h
 maybe_leaves a f (Err Absent) h = omega arith
 maybe_leaves a f (Err Fault) h = tt
 
-needed_leaves : (a : Bool) (f : Forest) (s : Step) → Leaves a f s → Leaves a f (has_to_stand s)
+needed_leaves : (a : Bool) (f : Forest) (s : Step) → Leaves a f s → Leaves a f (has_to_fit s)
 needed_leaves a f (Ok g) h = h
 needed_leaves a f (Err Absent) h = tt
 needed_leaves a f (Err Fault) h = tt
 
-ahead_leaves : (f : Forest) (s : Step) → Leaves false f (if_present s f)
+ahead_leaves : (f : Forest) (s : Step) → Leaves false f (if_fits s f)
 ahead_leaves f (Ok g) = omega arith
 ahead_leaves f (Err miss) = tt
 
@@ -80,6 +82,7 @@ once_more_leaves f (Err Fault) more h k = tt
 
 times_leaves : (n : ℕ) (r : Forest → Step) → ((g : Forest) → Leaves false g (r g)) → (f : Forest)
     → Leaves false f (times n r f)
+unfolding times
 times_leaves zero r k f = omega arith
 times_leaves (suc n) r k f = once_more_leaves f (r f) (times n r) (k f) (times_leaves n r k)
 
@@ -90,44 +93,44 @@ in_turn_leaves r k f = times_leaves (suc (flat_len f)) r k f
 
 -- ---- what single trees and puncts leave
 
-if_leaves : (b : Bool) (f g : Forest) (miss : Miss) → suc (flat_len g) ≤ flat_len f
-    → Leaves true f (or_miss miss (if b then Some g else None))
-if_leaves true f g miss h = omega arith
-if_leaves false f g miss h = tt
+if_leaves : (b : Bool) (f g : Forest) → suc (flat_len g) ≤ flat_len f
+    → Leaves true f (or_absent (if b then Some g else None))
+if_leaves true f g h = omega arith
+if_leaves false f g h = tt
 
-one_leaves : (p : Tree → Bool) (f : Forest) → Leaves true f (or_miss Absent (following_one p f))
+one_leaves : (p : Tree → Bool) (f : Forest) → Leaves true f (or_absent (after_one p f))
 one_leaves p none = tt
-one_leaves p (leaf l rest) = if_leaves (p (Leaf_tree l)) (leaf l rest) rest Absent (omega arith)
-one_leaves p (group d inside rest) = if_leaves (p (Group_tree d inside)) (group d inside rest) rest Absent (omega arith)
+one_leaves p (leaf l rest) = if_leaves (p (Leaf_tree l)) (leaf l rest) rest (omega arith)
+one_leaves p (group d inside rest) = if_leaves (p (Group_tree d inside)) (group d inside rest) rest (omega arith)
 
 first_or_more : (b : Bool) (f rest : Forest) (more : Option Forest) → suc (flat_len rest) ≤ flat_len f
-    → Leaves true rest (or_miss Fault more) → Leaves true f (or_miss Fault (if b then Some rest else more))
+    → Leaves true rest (or_fault more) → Leaves true f (or_fault (if b then Some rest else more))
 first_or_more true f rest more h k = omega arith
 first_or_more false f rest (Some g) h k = omega arith
 first_or_more false f rest None h k = tt
 
-through_leaves : (p : Tree → Bool) (f : Forest) → Leaves true f (or_miss Fault (past_first p f))
+through_leaves : (p : Tree → Bool) (f : Forest) → Leaves true f (or_fault (past_first p f))
 through_leaves p none = tt
 through_leaves p (leaf l rest) = first_or_more (p (Leaf_tree l)) (leaf l rest) rest _ (omega arith)
     (through_leaves p rest)
 through_leaves p (group d inside rest) =
     first_or_more (p (Group_tree d inside)) (group d inside rest) rest _ (omega arith) (through_leaves p rest)
 
-three_leave : (a b c : Bool) (f : Forest) (x y z w : Option Forest) → Leaves true f (or_miss Fault x)
-    → Leaves true f (or_miss Fault y)
-    → Leaves true f (or_miss Fault z) → Leaves true f (or_miss Fault w)
-    → Leaves true f (or_miss Fault (if a then x else if b then (if c then y else z) else w))
+three_leave : (a b c : Bool) (f : Forest) (x y z w : Option Forest) → Leaves true f (or_fault x)
+    → Leaves true f (or_fault y)
+    → Leaves true f (or_fault z) → Leaves true f (or_fault w)
+    → Leaves true f (or_fault (if a then x else if b then (if c then y else z) else w))
 three_leave true b c f x y z w h i j k = h
 three_leave false true true f x y z w h i j k = i
 three_leave false true false f x y z w h i j k = j
 three_leave false false c f x y z w h i j k = k
 
 after_leaves : (f rest : Forest) (x : Option Forest) → suc (flat_len rest) ≤ flat_len f
-    → Leaves true rest (or_miss Fault x) → Leaves true f (or_miss Fault x)
+    → Leaves true rest (or_fault x) → Leaves true f (or_fault x)
 after_leaves f rest (Some g) h k = omega arith
 after_leaves f rest None h k = tt
 
-angle_leaves : (more : ℕ) (arrow : Bool) (f : Forest) → Leaves true f (or_miss Fault (after_angle more arrow f))
+angle_leaves : (more : ℕ) (arrow : Bool) (f : Forest) → Leaves true f (or_fault (after_angle more arrow f))
 angle_leaves more arrow none = tt
 angle_leaves more arrow (group d inside rest) =
     after_leaves (group d inside rest) rest (after_angle more false rest) (omega arith) (angle_leaves more false rest)
@@ -157,13 +160,13 @@ skip_some (suc n) l rest h = omega (arith, skip_shorter n rest)
 glue_some : (p : Punct) (rest : Forest) → 0 < length (glue (leaf (punct p) rest))
 glue_some p rest = longest_some _ _ p (if_joint p.spacing (joined 2 rest))
 
-puncts_leaves : (texts : List (List ℕ)) (f : Forest) → Leaves true f (or_miss Absent (after_puncts texts f))
+puncts_leaves : (texts : List (List ℕ)) (f : Forest) → Leaves true f (or_absent (after_operator texts f))
 puncts_leaves texts none = tt
 puncts_leaves texts (group d inside rest) = tt
 puncts_leaves texts (leaf (literal x) rest) = tt
 puncts_leaves texts (leaf (ident x) rest) = tt
 puncts_leaves texts (leaf (punct p) rest) =
-    if_leaves (list_any (bytes_eq (chars_of (glue (leaf (punct p) rest)))) texts) (leaf (punct p) rest) _ Absent
+    if_leaves (list_any (bytes_eq (chars_of (glue (leaf (punct p) rest)))) texts) (leaf (punct p) rest) _
     (skip_some _ (punct p) rest (glue_some p rest))
 
 -- ---- what rules leave

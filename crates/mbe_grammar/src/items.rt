@@ -3,16 +3,18 @@ ghost use Rattle.std.specs.Prelude.{◌≡◌};
 ghost use Rattle.mbe_tt.specs.Views.Element.{element_tree};
 ghost use Rattle.mbe_tt.specs.Trees.Tree.{first};
 ghost use Rattle.mbe_tt.specs.Views.View.{trees};
-ghost use Rattle.mbe_grammar.specs.Rule.{or_miss, following_one, past_first, meaning};
+ghost use Rattle.mbe_grammar.specs.Rule.{or_fault, past_first, meaning};
+ghost use Rattle.mbe_rules.specs.Terminals.{or_absent, after_one};
 ghost use Rattle.mbe_grammar.specs.SingleTrees.{is_scope};
 ghost use Rattle.mbe_grammar.specs.SampleGrammar.{takes, is_item_end, short_item, long_item, item_word, const_block, public, Block, Assignment, Meta, Annotation, Let, ItemStmt, Stmt, Item, Vis};
-ghost use Rattle.mbe_grammar.specs.Steps.{seen};
+ghost use Rattle.mbe_rules.specs.Steps.{seen};
 
 use crate::expressions::{VISIBLE, expr};
 use crate::patterns::pat_top;
-use crate::step::{Miss, Step, ahead, maybe, not_ahead};
-use crate::tokens::{group, puncts, word};
+use crate::tokens::puncts;
 use crate::types::{PathStyle, path, ty};
+use mbe_rules::step::{Miss, Step, ahead, maybe, not_ahead};
+use mbe_rules::terminals::{group, word};
 use mbe_tt::tt::{DelimiterKind, Leaf, TokenTreesView, TtElement};
 use std::alloc::Allocator;
 
@@ -115,7 +117,7 @@ fn is_item_end<A: Allocator>(tree: &TtElement<'_, A>, at_brace: bool) -> bool
 
 // All trees to the first that ends an item, with that.
 fn up_to_end<'t, A: Allocator>(tokens: TokenTreesView<'t, A>, at_brace: bool) -> Step<'t, A>
-    ensures { seen result ≡ or_miss Miss.Fault
+    ensures { seen result ≡ or_fault
         (past_first (is_item_end at_brace) (trees tokens.entry)) }
 {
     let mut iter = tokens.iter();
@@ -152,7 +154,7 @@ pub fn item<'t, A: Allocator>(tokens: TokenTreesView<'t, A>) -> Step<'t, A>
 
 // A group in parentheses that begins with `crate`, `self`, `super` or `in`.
 fn scope<'t, A: Allocator>(tokens: TokenTreesView<'t, A>) -> Step<'t, A>
-    ensures { seen result ≡ or_miss Miss.Absent (following_one is_scope (trees tokens.entry)) }
+    ensures { seen result ≡ or_absent (after_one is_scope (trees tokens.entry)) }
 {
     let mut iter = tokens.iter();
     match iter.expect_subtree() {

@@ -5,14 +5,14 @@
 ghost use Rattle.std.specs.Prelude.{◌≡◌};
 ghost use Rattle.mbe_tt.specs.Views.View.{trees};
 ghost use Rattle.mbe_grammar.specs.SampleGrammar.{takes, part_of, answer};
-ghost use Rattle.mbe_grammar.specs.Steps.{seen};
+ghost use Rattle.mbe_rules.specs.Steps.{seen};
 
 // The step of the first part that is there.
 macro_rules! first_of {
     ($step:expr) => { $step };
     ($step:expr, $($more:expr),+) => {
         match $step {
-            Err(crate::step::Miss::Absent) => first_of!($($more),+),
+            Err(mbe_rules::step::Miss::Absent) => first_of!($($more),+),
             taken => taken,
         }
     };
@@ -21,16 +21,15 @@ macro_rules! first_of {
 mod expressions;
 mod items;
 mod patterns;
-mod step;
 mod tokens;
 mod types;
 
 use crate::expressions::expr;
 use crate::items::{block, item, meta, stmt, vis};
 use crate::patterns::{pat, pat_top};
-use crate::step::Step;
-use crate::tokens::is_text_of;
 use crate::types::{PathStyle, path, ty};
+use mbe_rules::step::Step;
+use mbe_rules::terminals::is_text_of;
 use mbe_tt::grammar::{FragmentGrammar, Front, PrefixEntryPoint};
 use mbe_tt::tt::TokenTreesView;
 use std::alloc::{AllocError, Allocator};

@@ -1,62 +1,21 @@
-// Single trees, puncts that are taken together, and trees up to a closing one.
-ghost use Rattle.std.specs.Prelude.{◌≡◌, ◌<◌, IfOk, [], ◌∷◌, map, false};
-ghost use Rattle.std.specs.List.{list_any};
+// Names without keywords, trees that are no puncts, puncts that are taken together, and trees up to a closing one.
+ghost use Rattle.std.specs.Prelude.{◌≡◌, [], ◌∷◌, false};
 ghost use Rattle.std.specs.Str.{bytes_eq};
 ghost use Rattle.mbe_tt.specs.Trees.Glue.{chars_of};
-ghost use Rattle.mbe_tt.specs.Trees.Tree.{flat_len, is_same_kind};
+ghost use Rattle.mbe_tt.specs.Trees.Tree.{flat_len};
 ghost use Rattle.mbe_tt.specs.Views.View.{trees};
-ghost use Rattle.mbe_grammar.specs.Rule.{or_miss, following_one, after_puncts, after_angle, may_begin};
-ghost use Rattle.mbe_grammar.specs.SingleTrees.{is_word, is_one_of, is_name, is_identifier, is_literal, is_no_punct, is_punct, is_group};
-ghost use Rattle.mbe_grammar.specs.Steps.{seen};
+ghost use Rattle.mbe_grammar.specs.Rule.{or_fault, after_angle, may_begin};
+ghost use Rattle.mbe_rules.specs.Terminals.{or_absent, after_one, after_operator};
+ghost use Rattle.mbe_grammar.specs.SingleTrees.{is_name, is_no_punct};
+ghost use Rattle.mbe_rules.specs.Steps.{seen};
 
-use crate::step::{Miss, Step};
-use mbe_tt::tt::{
-    DelimiterKind, Ident, IdentIsRaw, Leaf, Punct, Spacing, TokenTreesView, TtElement,
-};
+use mbe_rules::step::{Miss, Step};
+use mbe_tt::tt::{Leaf, Punct, Spacing, TokenTreesView, TtElement};
 use std::alloc::Allocator;
-
-/// The trees after a word: an identifier of one of those texts that isn't raw.
-pub fn word<'t, A: Allocator>(tokens: TokenTreesView<'t, A>, texts: &[&str]) -> Step<'t, A>
-    ensures { seen result ≡ or_miss Miss.Absent
-        (following_one (is_one_of (map (λ t. t.now) texts.now)) (trees tokens.entry)) }
-{
-    let mut iter = tokens.iter();
-    match iter.expect_ident_or_underscore() {
-        Ok(ident) if is_word(ident, texts) => Ok(iter.remaining()),
-        _ => Err(Miss::Absent),
-    }
-}
-
-fn is_word<A: Allocator>(ident: &Ident<A>, texts: &[&str]) -> bool
-    ensures { result ≡ is_word (map (λ t. t.now) texts.now) ident.now.is_raw ident.now.sym }
-{
-    match ident.is_raw {
-        IdentIsRaw::No => is_text_of(ident.sym.as_str(), texts),
-        IdentIsRaw::Yes => false,
-    }
-}
-
-/// Whether the text is one of those.
-pub fn is_text_of(text: &str, texts: &[&str]) -> bool
-    ensures { result ≡ list_any (λ t. bytes_eq text.now t.now) texts.now }
-{
-    texts.iter().any(|t| text == *t)
-}
-
-/// The trees after an identifier.
-pub fn identifier<'t, A: Allocator>(tokens: TokenTreesView<'t, A>) -> Step<'t, A>
-    ensures { seen result ≡ or_miss Miss.Absent (following_one is_identifier (trees tokens.entry)) }
-{
-    let mut iter = tokens.iter();
-    match iter.expect_ident_or_underscore() {
-        Ok(_ident) => Ok(iter.remaining()),
-        Err(()) => Err(Miss::Absent),
-    }
-}
 
 /// The trees after an identifier other than `_`.
 pub fn name<'t, A: Allocator>(tokens: TokenTreesView<'t, A>) -> Step<'t, A>
-    ensures { seen result ≡ or_miss Miss.Absent (following_one is_name (trees tokens.entry)) }
+    ensures { seen result ≡ or_absent (after_one is_name (trees tokens.entry)) }
 {
     let mut iter = tokens.iter();
     match iter.expect_ident() {
@@ -65,20 +24,9 @@ pub fn name<'t, A: Allocator>(tokens: TokenTreesView<'t, A>) -> Step<'t, A>
     }
 }
 
-/// The trees after a literal.
-pub fn literal<'t, A: Allocator>(tokens: TokenTreesView<'t, A>) -> Step<'t, A>
-    ensures { seen result ≡ or_miss Miss.Absent (following_one is_literal (trees tokens.entry)) }
-{
-    let mut iter = tokens.iter();
-    match iter.next() {
-        Some(TtElement::Leaf(Leaf::Literal(_))) => Ok(iter.remaining()),
-        _ => Err(Miss::Absent),
-    }
-}
-
 /// The trees after a first one that is no punct.
 pub fn no_punct<'t, A: Allocator>(tokens: TokenTreesView<'t, A>) -> Step<'t, A>
-    ensures { seen result ≡ or_miss Miss.Absent (following_one is_no_punct (trees tokens.entry)) }
+    ensures { seen result ≡ or_absent (after_one is_no_punct (trees tokens.entry)) }
 {
     let mut iter = tokens.iter();
     match iter.next() {
@@ -87,43 +35,10 @@ pub fn no_punct<'t, A: Allocator>(tokens: TokenTreesView<'t, A>) -> Step<'t, A>
     }
 }
 
-/// The trees after a punct of that char, whatever is taken together with it.
-pub fn sign<'t, A: Allocator>(tokens: TokenTreesView<'t, A>, char: char) -> Step<'t, A>
-    ensures { seen result ≡ or_miss Miss.Absent (following_one (is_punct char) (trees tokens.entry)) }
-{
-    let mut iter = tokens.iter();
-    match iter.expect_char(char) {
-        Ok(()) => Ok(iter.remaining()),
-        Err(()) => Err(Miss::Absent),
-    }
-}
-
-/// The trees after a group of one of those kinds.
-pub fn group<'t, A: Allocator>(
-    tokens: TokenTreesView<'t, A>,
-    kinds: &[DelimiterKind],
-) -> Step<'t, A>
-    ensures { seen result ≡ or_miss Miss.Absent
-        (following_one (is_group kinds.now) (trees tokens.entry)) }
-{
-    let mut iter = tokens.iter();
-    match iter.expect_subtree() {
-        Ok((subtree, _inside)) if is_kind_of(subtree.delimiter.kind, kinds) => Ok(iter.remaining()),
-        _ => Err(Miss::Absent),
-    }
-}
-
-fn is_kind_of(kind: DelimiterKind, kinds: &[DelimiterKind]) -> bool
-    ensures { result ≡ list_any (is_same_kind kind) kinds.now }
-{
-    kinds.iter().any(|k| kind == *k)
-}
-
 /// The trees after the puncts that are taken together, if they have those chars.
 #[tactic(auto, using(crate::proofs::Fronts::absent_unless))]
 pub fn puncts<'t, A: Allocator>(tokens: TokenTreesView<'t, A>, chars: &[char]) -> Step<'t, A>
-    ensures { seen result ≡ or_miss Miss.Absent
-        (after_puncts (chars.now ∷ []) (trees tokens.entry)) }
+    ensures { seen result ≡ or_absent (after_operator (chars.now ∷ []) (trees tokens.entry)) }
 {
     if !may_begin(tokens, chars) {
         return Err(Miss::Absent);
@@ -162,7 +77,7 @@ fn have_chars(puncts: &[Punct], chars: &[char]) -> bool
 
 /// The trees after the `>` that closes a `<` before them, with those between.
 pub fn closing<'t, A: Allocator>(tokens: TokenTreesView<'t, A>) -> Step<'t, A>
-    ensures { seen result ≡ or_miss Miss.Fault (after_angle 0 false (trees tokens.entry)) }
+    ensures { seen result ≡ or_fault (after_angle 0 false (trees tokens.entry)) }
 {
     let _most = tokens.flat_len();
     let mut iter = tokens.iter();

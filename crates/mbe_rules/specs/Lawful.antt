@@ -74,7 +74,7 @@ within_levels (token l ∷ ts) = omega (arith, within_levels ts)
 within_levels (opening d ∷ ts) = omega (arith, within_levels ts, opened d (levels ts).level (levels ts).around)
 within_levels (closing d ∷ ts) = omega (arith, within_levels ts)
 
-flat_len-trees_of_flat : (ts : List FlatToken) → flat_len (trees_of_flat ts) ≤ length ts
+pub flat_len-trees_of_flat : (ts : List FlatToken) → flat_len (trees_of_flat ts) ≤ length ts
 flat_len-trees_of_flat ts = omega (arith, within_levels ts)
 
 count_within : (entry : PrefixEntryPoint) (f : Forest) (s : Step) (n : ℕ) → flat_len f ≤ n

@@ -3,7 +3,7 @@
 #![tactic(auto)]
 
 pub mod node;
-mod step;
+pub mod step;
 pub mod table;
 mod taking;
-mod terminals;
+pub mod terminals;

@@ -29,6 +29,16 @@ pub fn maybe<'t, A: Allocator>(step: Step<'t, A>, tokens: TokenTreesView<'t, A>)
     }
 }
 
+/// The step of a rule, or that of another where the rule doesn't fit.
+pub fn either<'t, A: Allocator>(step: Step<'t, A>, other: Step<'t, A>) -> Step<'t, A>
+    ensures { seen result ≡ or_else (seen step.entry) (seen other.entry) }
+{
+    match step {
+        Err(Miss::Absent) => other,
+        taken => taken,
+    }
+}
+
 /// The step over a group, by the step of a rule in its content.
 pub fn emptied<'t, A: Allocator>(inside: Step<'t, A>, rest: TokenTreesView<'t, A>) -> Step<'t, A>
     ensures { seen result ≡ emptied (seen inside.entry) (trees rest.entry) }

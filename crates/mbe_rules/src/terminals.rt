@@ -47,8 +47,9 @@ pub fn terminal<'t, A: Allocator>(
     }
 }
 
+/// The trees after a word: an identifier of one of those texts that isn't raw.
 #[inline(never)]
-fn word<'t, A: Allocator>(tokens: TokenTreesView<'t, A>, texts: &[&str]) -> Step<'t, A>
+pub fn word<'t, A: Allocator>(tokens: TokenTreesView<'t, A>, texts: &[&str]) -> Step<'t, A>
     ensures { seen result ≡ or_absent
         (after_one (is_one_of (map (λ t. t.now) texts.now)) (trees tokens.entry)) }
 {
@@ -68,14 +69,16 @@ fn is_word<A: Allocator>(ident: &Ident<A>, texts: &[&str]) -> bool
     }
 }
 
-fn is_text_of(text: &str, texts: &[&str]) -> bool
+/// Whether the text is one of those.
+pub fn is_text_of(text: &str, texts: &[&str]) -> bool
     ensures { result ≡ list_any (λ t. bytes_eq text.now t.now) texts.now }
 {
     texts.iter().any(|t| text == *t)
 }
 
+/// The trees after an identifier.
 #[inline(never)]
-fn identifier<'t, A: Allocator>(tokens: TokenTreesView<'t, A>) -> Step<'t, A>
+pub fn identifier<'t, A: Allocator>(tokens: TokenTreesView<'t, A>) -> Step<'t, A>
     ensures { seen result ≡ or_absent (after_one is_identifier (trees tokens.entry)) }
 {
     let mut iter = tokens.iter();
@@ -107,8 +110,9 @@ fn is_keyword<A: Allocator>(table: &RuleTable<'_>, ident: &Ident<A>) -> bool
     }
 }
 
+/// The trees after a literal.
 #[inline(never)]
-fn literal<'t, A: Allocator>(tokens: TokenTreesView<'t, A>) -> Step<'t, A>
+pub fn literal<'t, A: Allocator>(tokens: TokenTreesView<'t, A>) -> Step<'t, A>
     ensures { seen result ≡ or_absent (after_one is_literal (trees tokens.entry)) }
 {
     let mut iter = tokens.iter();
@@ -172,8 +176,9 @@ fn since<'t, A: Allocator>(
     }
 }
 
+/// The trees after a punct of that char, whatever would be taken together with it.
 #[inline(never)]
-fn sign<'t, A: Allocator>(tokens: TokenTreesView<'t, A>, char: char) -> Step<'t, A>
+pub fn sign<'t, A: Allocator>(tokens: TokenTreesView<'t, A>, char: char) -> Step<'t, A>
     ensures { seen result ≡ or_absent (after_one (is_punct char) (trees tokens.entry)) }
 {
     let mut iter = tokens.iter();
@@ -183,8 +188,12 @@ fn sign<'t, A: Allocator>(tokens: TokenTreesView<'t, A>, char: char) -> Step<'t,
     }
 }
 
+/// The trees after a group of one of those kinds.
 #[inline(never)]
-fn group<'t, A: Allocator>(tokens: TokenTreesView<'t, A>, kinds: &[DelimiterKind]) -> Step<'t, A>
+pub fn group<'t, A: Allocator>(
+    tokens: TokenTreesView<'t, A>,
+    kinds: &[DelimiterKind],
+) -> Step<'t, A>
     ensures { seen result ≡ or_absent (after_one (is_group kinds.now) (trees tokens.entry)) }
 {
     let mut iter = tokens.iter();
