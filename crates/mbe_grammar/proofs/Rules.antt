@@ -55,6 +55,7 @@ once_more_same f (Err Fault) k l h e = refl
 times_same : (n m : ℕ) (r s : Forest → Step) → ((g : Forest) → Leaves false g (s g))
     → ((g : Forest) → flat_len g ≤ m → r g ≡ s g)
     → (f : Forest) → flat_len f ≤ m → times n r f ≡ times n s f
+unfolding times
 times_same zero m r s h e f le = refl
 times_same (suc n) m r s h e f le =
     ap (λ t. once_more t (times n r) f) (e f le)
