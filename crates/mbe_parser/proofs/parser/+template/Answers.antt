@@ -17,7 +17,7 @@ use Rattle.mbe_parser.proofs.parser.+template.Goals as goal
 pub template_within-trees-preserved-in_ok-push-in-Leaf-Ident : goal.template_within-trees-preserved-in_ok-push-in-Leaf-Ident
 template_within-trees-preserved-in_ok-push-in-Leaf-Ident g t c =
     let l = c.trees in
-    let i = record c.in-Leaf-Ident.ident.now { sym = c.in_ok-sym-in-Leaf-Ident.sym } in
+    let i = record c.in-Leaf-Ident.ident { sym = c.in_ok-sym-in-Leaf-Ident.sym } in
     let left = c.next-word.new.self in
     let front : Some (Leaf_tree (leaves.ident (ident_of i))) ≡ first l.src = search rules in
     let at = first_tree l.src left _ front c.next-word.ensures.rest in
@@ -33,7 +33,7 @@ template_within-trees-preserved-in_ok-push-in-Leaf-Ident g t c =
 
 pub template_within-trees-smaller-in_ok-push-in-Leaf-Ident : goal.template_within-trees-smaller-in_ok-push-in-Leaf-Ident
 template_within-trees-smaller-in_ok-push-in-Leaf-Ident g t c =
-    let front : Some (Leaf_tree (leaves.ident (ident_of c.in-Leaf-Ident.ident.now))) ≡ first c.trees.src =
+    let front : Some (Leaf_tree (leaves.ident (ident_of c.in-Leaf-Ident.ident))) ≡ first c.trees.src =
     search rules in
     omega (arith, ap flat_len (first_tree c.trees.src c.next-word.new.self _ front c.next-word.ensures.rest))
 
