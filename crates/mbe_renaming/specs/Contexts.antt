@@ -55,7 +55,7 @@ marked n cs span = record span { ctx = record { 0 = step_context n cs (span.ctx)
 
 -- ---- steps in steps
 
--- A list of contexts has, for each context of a step, beginning with 1, the one that the macro's token had: 0 in a file.
+-- A list of contexts has, for each context of a step, from 1 on, the one that the macro's token had: 0 in a file.
 abbrev pub context_before : List ℕ → ℕ → ℕ
 context_before contexts n = unwrap_or (slice_get contexts (n - 1)) 0
 
