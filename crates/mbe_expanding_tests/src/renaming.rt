@@ -137,15 +137,64 @@ const ROWS: &str = rows![
         "{ let a_1 = 1; fn a() {} a_1 + a }",
         0,
     ),
-    // Attributes, and rules of macros.
+    // Attributes.
     (
         "{ #[a] let a = 1; a + a__0 }",
         "{ #[a] let a_1 = 1; a_1 + a }",
         0,
     ),
+    // Rules of macros may name locals and labels of the step that wrote them, and what they match may be one.
     (
         "{ macro_rules! m { ($a:expr) => { a } } let a = 1; a + a__0 }",
-        "{ macro_rules! m { ($a:expr) => { a } } let a_1 = 1; a_1 + a }",
+        "{ macro_rules! m { ($a:expr) => { a } } let a = 1; a + a }",
+        1,
+    ),
+    (
+        "{ let a = 1; macro_rules! m { () => { println!(\"{a}\") } } a + a__0 }",
+        "{ let a = 1; macro_rules! m { () => { println!(\"{a}\") } } a + a }",
+        1,
+    ),
+    (
+        "'a: loop { macro_rules! m { () => { break 'a } } 'a__0: loop {} }",
+        "'a: loop { macro_rules! m { () => { break 'a } } 'a: loop {} }",
+        1,
+    ),
+    (
+        "{ let a = 1; macro_rules! m { (a) => { 2 } } a + a__0 }",
+        "{ let a = 1; macro_rules! m { (a) => { 2 } } a + a }",
+        1,
+    ),
+    (
+        "{ let a = 1; macro_rules! m { () => { a__3 } } a + a__0 }",
+        "{ let a = 1; macro_rules! m { () => { a } } a + a }",
+        1,
+    ),
+    // Not so a variable, a field, a path and a macro's name.
+    (
+        "{ let a = 1; macro_rules! m { ($a:expr) => { $a + b.a } } a + a__0 }",
+        "{ let a_1 = 1; macro_rules! m { ($a:expr) => { $a + b.a } } a_1 + a }",
+        0,
+    ),
+    (
+        "{ let a = 1; macro_rules! m { () => { a::b + b::a + a!() } } a + a__0 }",
+        "{ let a_1 = 1; macro_rules! m { () => { a::b + b::a + a!() } } a_1 + a }",
+        0,
+    ),
+    // Nor what another step or the caller wrote, whose names are others.
+    (
+        "{ let a = 1; macro_rules! m { () => { a__2 } } a }",
+        "{ let a_1 = 1; macro_rules! m { () => { a } } a_1 }",
+        0,
+    ),
+    (
+        "{ let a = 1; macro_rules! m { () => { a__0 } } a }",
+        "{ let a_1 = 1; macro_rules! m { () => { a } } a_1 }",
+        0,
+    ),
+    // A new name that rules use.
+    (
+        "{ let a = 1; macro_rules! m { () => { a_1 } } a + a__0 }",
+        "{ let a_2 = 1; macro_rules! m { () => { a_1 } } a_2 + a }",
         0,
     ),
     // What a macro is called with.
@@ -375,5 +424,5 @@ impl Rows for Renaming {
 
 #[test]
 fn names_are_kept_apart(rt: HostRuntime) -> Result<(), Wrong> {
-    each(rt.alloc(), &Renaming, ROWS, 56)
+    each(rt.alloc(), &Renaming, ROWS, 65)
 }

@@ -69,6 +69,7 @@ pub skips : (taken : List ℕ → Bool) (text all : List ℕ) (n : ℕ) → n < 
 skips taken text all zero h f e = begins taken text all e
 skips taken text all (suc n) h f e =
     let earlier = skips taken text all n (omega (arith, h)) (λ k l. f k (omega (arith, l))) e in
-    let next = tried taken text (numbered text (1 + n)) all (1 + n) (omega (arith, h)) refl (f n (omega arith)) earlier in
+    let low : 1 + n < 2 ^ 64 - 1 = omega (arith, h) in
+    let next = tried taken text (numbered text (1 + n)) all (1 + n) low refl (f n (omega arith)) earlier in
     let same : 1 + n + 1 ≡ 1 + suc n = omega arith in
     subst (λ m. Trying taken text m all) same next

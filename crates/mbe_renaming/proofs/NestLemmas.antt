@@ -1,9 +1,8 @@
 -- Which contexts were made of which: one context more.
 use Rattle.std.proofs.Common.{◌≡◌, ℕ, zero, suc, ◌-◌, ◌<◌, ◌≤◌, List, [], ◌∷◌, ◌++◌, length, refl, ap, sym, subst, ◌∙◌, append_assoc, append-nil, arith}
-use Rattle.std.specs.Prelude.{nat_lt, true, false, if◌then◌else◌}
 use Rattle.std.proofs.lemmas.Bool.{lt-ltb, le-ltb}
 use Rattle.mbe_renaming.specs.declared.naming.Nesting.{Nesting}
-use Rattle.mbe_renaming.specs.Contexts.{numbered, context_before, nesting, nestings_of, nestings_down, nestings_after}
+use Rattle.mbe_renaming.specs.Contexts.{numbered, context_before, nesting, nestings_of, nestings_down}
 
 one_less : (n : ℕ) → 0 < n → n ≡ suc (n - 1)
 one_less n h = omega (arith, h)

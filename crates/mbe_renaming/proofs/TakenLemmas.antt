@@ -8,7 +8,8 @@ use Rattle.mbe_renaming.specs.Naming.{numbered, fresh, AreTaken}
 use Rattle.mbe_renaming.proofs.SameLemmas.{true_or_false, or_cases, or_left, or_right, same_text, text_same}
 use Rattle.mbe_renaming.proofs.FreshLemmas.{Trying, skips, found}
 
-given_more : (given : List Naming) (x : Naming) (t : List ℕ) → is_given given t ≡ true → is_given (given ++ (x ∷ [])) t ≡ true
+given_more : (given : List Naming) (x : Naming) (t : List ℕ)
+    → is_given given t ≡ true → is_given (given ++ (x ∷ [])) t ≡ true
 given_more [] x t e = cc
 given_more (n ∷ ns) x t e = elim (or_cases (bytes_eq n.name t) (is_given ns t) e) [
   | inl h ↦ or_left (bytes_eq n.name t) (is_given (ns ++ (x ∷ [])) t) h
@@ -59,7 +60,8 @@ begins_after ws names given text n h e l =
 -- the next number is taken, or it is the one that is given
 next_taken : (ws : List Word) (names : List (List ℕ)) (given : List Naming) (w : Word)
     → AreTaken ws names given → named given w.text < 2 ^ 64 - 2
-    → is_taken ws names (given ++ (naming w (fresh ws names given w.text) ∷ [])) (numbered w.text (1 + named given w.text)) ≡ true
+    → is_taken ws names (given ++ (naming w (fresh ws names given w.text) ∷ []))
+    (numbered w.text (1 + named given w.text)) ≡ true
 next_taken ws names given w h l =
     let c = named given w.text in
     let taken = is_taken ws names given in

@@ -1,10 +1,9 @@
 -- Which contexts the tokens of a step have, and with which names its locals are told apart from others.
-use Rattle.std.specs.Prelude.{ℕ, zero, suc, ◌+◌, ◌-◌, Bool, true, false, not, ◌==◌, ◌&&◌, ◌||◌, nat_lt, min, if◌then◌else◌, codes, List, [], ◌∷◌, ◌++◌, length, Option, Some, None, unwrap_or}
+use Rattle.std.specs.Prelude.{ℕ, zero, suc, ◌+◌, ◌-◌, Bool, false, ◌==◌, ◌||◌, nat_lt, min, if◌then◌else◌, codes, List, [], ◌∷◌, ◌++◌, length, unwrap_or}
 use Rattle.std.specs.List.{slice_get}
 use Rattle.mbe_tt.specs.Trees.Leaf.{Leaf, literal, punct, ident, is_text}
 use Rattle.mbe_tt.specs.Trees.Tree.{Forest, none, leaf, group}
 use Rattle.mbe_tt.specs.declared.span.Span.{Span}
-use Rattle.mbe_tt.specs.declared.span.SyntaxContext.{SyntaxContext}
 use Rattle.mbe_renaming.specs.declared.naming.Nesting.{Nesting}
 use Rattle.mbe_renaming.specs.Renaming.{renamed_trees}
 use Rattle.mbe_renaming.specs.Sites.{start}
@@ -55,7 +54,7 @@ marked n cs span = record span { ctx = record { 0 = step_context n cs (span.ctx)
 
 -- ---- steps in steps
 
--- A list of contexts has, for each context of a step, beginning with 1, the one that the macro's token had: 0 in a file.
+-- A list of contexts has, for each context of a step, from 1 on, the one that the macro's token had: 0 in a file.
 abbrev pub context_before : List ℕ → ℕ → ℕ
 context_before contexts n = unwrap_or (slice_get contexts (n - 1)) 0
 

@@ -10,6 +10,7 @@ use Rattle.mbe_renaming.specs.declared.naming.Progress.TheVariants as progress
 use Rattle.mbe_renaming.specs.declared.sites.Role.{Role}
 use Rattle.mbe_renaming.specs.declared.sites.Role.TheVariants.{Other, Used, Bound, Late, Short, Unsure, Label, Jump, Text, Inner, InnerLabel, Begin, End}
 use Rattle.mbe_renaming.specs.Mentions.{is_mentioned}
+use Rattle.mbe_renaming.specs.Roles.{inner_role}
 use Rattle.mbe_renaming.specs.Steps.{Step, token, opening, closing}
 
 -- a word of the trees, or what else tells of locals: the text of a string, the end of a value
@@ -58,15 +59,12 @@ binds_role Short = true
 binds_role Label = true
 binds_role _ = false
 
--- ---- inner steps
+-- ---- rules of macros, and steps of these
 
--- what a word may be to the step that wrote its macro
-abbrev pub inner_role : Role → Role
-inner_role Used = Inner
-inner_role Unsure = Inner
-inner_role Jump = InnerLabel
-inner_role Text = Text
-inner_role _ = Other
+abbrev pub is_inner_role : Role → Bool
+is_inner_role Inner = true
+is_inner_role InnerLabel = true
+is_inner_role _ = false
 
 abbrev pub inner_word : Word → Nesting → List Word
 inner_word w n =
@@ -78,8 +76,12 @@ abbrev pub inner_words : List Nesting → Word → List Word
 inner_words [] w = []
 inner_words (n ∷ ns) w = inner_word w n ++ inner_words ns w
 
+-- a word of a macro's rules, as one that is no local
+abbrev pub words_of_rules : Word → List Word
+words_of_rules w = if is_inner_role w.role then word w.text w.span Other ∷ [] else []
+
 abbrev pub with_inner : List Nesting → Word → List Word
-with_inner ns w = w ∷ inner_words ns w
+with_inner ns w = w ∷ (words_of_rules w ++ inner_words ns w)
 
 -- ---- words
 
@@ -179,7 +181,7 @@ is_inner Inner r = is_local r
 is_inner InnerLabel r = is_label r
 is_inner _ r = false
 
--- a word of an inner step may be the local
+-- a word of a macro's rules, or of an inner step, may be the local
 abbrev pub may_be : Word → Word → Bool
 may_be w v = is_inner v.role w.role && (context w == context v && bytes_eq w.text v.text)
 

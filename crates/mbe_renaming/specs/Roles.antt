@@ -16,10 +16,10 @@ use Rattle.mbe_renaming.specs.declared.sites.Part.{Part}
 use Rattle.mbe_renaming.specs.declared.sites.Part.TheVariants as part
 use Rattle.mbe_renaming.specs.declared.sites.Site.{Site}
 use Rattle.mbe_renaming.specs.declared.sites.Role.{Role}
-use Rattle.mbe_renaming.specs.declared.sites.Role.TheVariants.{Other, Used, Bound, Late, Short, Unsure, Label, Jump, Begin, End}
+use Rattle.mbe_renaming.specs.declared.sites.Role.TheVariants.{Other, Used, Bound, Late, Short, Unsure, Label, Jump, Text, Inner, InnerLabel, Begin, End}
 use Rattle.mbe_renaming.specs.Kinds.{sort_of}
 use Rattle.mbe_renaming.specs.Ahead.{path_follows, bang_follows, colon_follows, equals_follows, comma_or_end_follows, binds_before, is_low, is_label, has_in}
-use Rattle.mbe_renaming.specs.Sites.{is_dots, begins_field, is_opaque, is_open, is_body}
+use Rattle.mbe_renaming.specs.Sites.{is_dots, begins_field, is_open, is_body}
 
 -- bound after a value, or at once
 abbrev pub binding_role : Bool → Role
@@ -58,6 +58,7 @@ region_role s region.Code i rest = code_role rest
 region_role s region.Guard i rest = code_role rest
 region_role s region.Body i rest = code_role rest
 region_role s region.Value i rest = code_role rest
+region_role s region.Rules i rest = Used
 region_role s region.Opaque i rest = Other
 
 abbrev pub part_role_by : Site → Part → Ident → Forest → Role
@@ -114,6 +115,21 @@ role_by s sort.Let i rest = begin_role (is_open s)
 role_by s sort.For i rest = begin_role (is_open s && has_in rest)
 role_by s _ i rest = Other
 
+-- what a word of a macro's rules may be, or a word of a step of that macro, to the step that wrote the macro
+abbrev pub inner_role : Role → Role
+inner_role Used = Inner
+inner_role Unsure = Inner
+inner_role Inner = Inner
+inner_role Jump = InnerLabel
+inner_role InnerLabel = InnerLabel
+inner_role Text = Text
+inner_role _ = Other
+
+abbrev pub role_in : Region → Role → Role
+role_in region.Opaque r = Other
+role_in region.Rules r = inner_role r
+role_in _ r = r
+
 -- what a word is, at that site and before these trees
 abbrev pub role_of : Site → Ident → Forest → Role
-role_of s i rest = if is_opaque s.region then Other else role_by s (sort_of i) i rest
+role_of s i rest = role_in s.region (role_by s (sort_of i) i rest)

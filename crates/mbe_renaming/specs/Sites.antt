@@ -41,10 +41,6 @@ begins_field before.Start = true
 begins_field before.Mark = true
 begins_field _ = false
 
-abbrev pub is_opaque : Region → Bool
-is_opaque region.Opaque = true
-is_opaque _ = false
-
 abbrev pub is_code : Region → Bool
 is_code region.Code = true
 is_code region.Arguments = true
@@ -254,6 +250,7 @@ whole_region region.FieldPattern b sg rest = value_region sg region.FieldPattern
 whole_region region.Code b sg rest = region.Code
 whole_region region.Arguments b sg rest = region.Arguments
 whole_region region.Opaque b sg rest = region.Opaque
+whole_region region.Rules b sg rest = region.Rules
 whole_region region.Pattern b sg rest = region.Pattern
 
 abbrev pub region_after : Site → Part → Sign → Forest → Region
@@ -309,6 +306,7 @@ whole_group s region.Pattern k inside = pattern_group k
 whole_group s region.FieldPatterns k inside = pattern_group k
 whole_group s region.FieldPattern k inside = pattern_group k
 whole_group s region.Opaque k inside = region.Opaque
+whole_group s region.Rules k inside = region.Rules
 whole_group s _ k inside = code_group s k inside
 
 abbrev pub part_group : Site → Part → DelimiterKind → Forest → Region
@@ -321,13 +319,15 @@ part_group s part.Whole k inside = whole_group s s.region k inside
 
 abbrev pub group_after : Site → Before → DelimiterKind → Forest → Region
 group_after s before.Hash k inside = region.Opaque
-group_after s before.Named k inside = region.Opaque
+group_after s before.Named k inside = region.Rules
 group_after s before.Bang k inside = region.Arguments
 group_after s _ k inside = part_group s s.part k inside
 
 -- what a group there holds
-abbrev pub region_inside : Site → Before → DelimiterKind → Forest → Region
-region_inside s b k inside = if is_opaque s.region then region.Opaque else group_after s b k inside
+abbrev pub region_inside : Site → Region → DelimiterKind → Forest → Region
+region_inside s region.Opaque k inside = region.Opaque
+region_inside s region.Rules k inside = region.Rules
+region_inside s _ k inside = group_after s s.before k inside
 
 -- what a pattern in a group there binds is bound only after a value
 abbrev pub late_inside : Site → Part → Bool
@@ -340,7 +340,7 @@ late_inside s _ = false
 abbrev pub inside_group : Site → DelimiterKind → Forest → Site
 inside_group s k inside = record {
   before = before.Start;
-  region = region_inside s s.before k inside;
+  region = region_inside s s.region k inside;
   part = part.Whole;
   is_head = false;
   in_let = false;

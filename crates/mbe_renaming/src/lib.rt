@@ -7,6 +7,8 @@ mod kinds;
 pub mod laws;
 mod mentions;
 mod naming;
+mod regions;
 pub mod renaming;
+mod roles;
 mod sites;
 mod walking;

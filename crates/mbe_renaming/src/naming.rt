@@ -7,6 +7,7 @@ ghost use Rattle.mbe_renaming.specs.Naming as spec;
 ghost use Rattle.mbe_renaming.specs.declared.naming.Progress.TheVariants.{Unbound};
 
 use crate::mentions::is_mentioned;
+use crate::roles::inner_role;
 use crate::sites::Role;
 use crate::walking::Step;
 use mbe_tt::span::{Span, SyntaxContext};
@@ -168,17 +169,30 @@ fn unbound(is_same: bool, role: Role) -> Progress
     }
 }
 
-// ---- inner steps
+// ---- rules of macros, and steps of these
 
-fn inner_role(role: Role) -> Role
-    ensures { result ≡ spec.inner_role role }
+fn is_inner_role(role: Role) -> bool
+    ensures { result ≡ spec.is_inner_role role }
 {
-    match role {
-        Role::Used | Role::Unsure => Role::Inner,
-        Role::Jump => Role::InnerLabel,
-        Role::Text => Role::Text,
-        _ => Role::Other,
+    matches!(role, Role::Inner | Role::InnerLabel)
+}
+
+// A word of a macro's rules, as one that is no local.
+fn push_of_rules<'t, A: Allocator>(
+    found: &mut Vec<Word<'t>, A>,
+    word: Word<'t>,
+) -> Result<(), AllocError>
+    ensures { OnOk result (map word_of found.new.items
+        ≡ map word_of found.old.items ++ spec.words_of_rules (word_of word.entry)) }
+{
+    if is_inner_role(word.role) {
+        found.push(Word {
+            text: word.text,
+            span: word.span,
+            role: Role::Other,
+        })?;
     }
+    Ok(())
 }
 
 fn push_inner<'t, A: Allocator>(
@@ -213,6 +227,7 @@ fn push_word<'t, A: Allocator>(
         ≡ map word_of found.old.items ++ spec.with_inner nestings.now (word_of word.entry)) }
 {
     found.push(word)?;
+    push_of_rules(found, word)?;
     for nesting in nestings {
         push_inner(found, word, *nesting)?;
     }
@@ -428,7 +443,7 @@ fn is_inner(role: Role, local: Role) -> bool
     }
 }
 
-// Whether a word of an inner step may be the local.
+// Whether a word of a macro's rules, or of an inner step, may be the local.
 fn may_be(local: Word<'_>, word: Word<'_>) -> bool
     ensures { result ≡ spec.may_be (word_of local.entry) (word_of word.entry) }
 {
@@ -628,7 +643,8 @@ fn push_name<'t, A: Allocator + Copy>(
     names: &[Symbol<A>],
     local: Word<'t>,
 ) -> Result<(), AllocError>
-    requires taken { spec.AreTaken (map word_of words.now) names.now (map naming_of given.now.items) }
+    requires taken { spec.AreTaken (map word_of words.now) names.now
+        (map naming_of given.now.items) }
     ensures given { OnOk result (map naming_of given.new.items ≡ spec.with_name
         (map word_of words.now) names.now (map naming_of given.old.items) (word_of local.entry)) }
     ensures taken { OnOk result (spec.AreTaken (map word_of words.now) names.now

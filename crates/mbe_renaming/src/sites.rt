@@ -1,22 +1,18 @@
-// What a name may be, by the tokens around it.
+// Where a token stands, by the tokens around it.
 //
 // Tokens are gone through from the front of a group. What is kept of those that were passed is a site: which token was the last,
 // what the group holds, and which part of a statement or of a closure goes on.
-ghost use Rattle.std.specs.Prelude.{◌≡◌, option_map};
+ghost use Rattle.std.specs.Prelude.{◌≡◌};
 ghost use Rattle.mbe_tt.specs.Trees.Leaf.{ident};
-ghost use Rattle.mbe_tt.specs.Views.Element.{element_tree};
 ghost use Rattle.mbe_tt.specs.Views.Shown.{ident_of, leaf_of};
 ghost use Rattle.mbe_tt.specs.Views.View.{trees};
-ghost use Rattle.mbe_renaming.specs.Ahead as ahead;
 ghost use Rattle.mbe_renaming.specs.Sites as spec;
-ghost use Rattle.mbe_renaming.specs.Roles as roles;
 
-use crate::ahead::{
-    bang_follows, begins_arm, begins_fields, binds_before, colon_follows, comma_or_end_follows,
-    equals_follows, front_sign, has_in, is_angle, is_colon, is_equals, is_label, is_low,
-    path_follows,
-};
+use crate::ahead::{front_sign, has_in, is_equals};
 use crate::kinds::{Sign, Sort, sign_of, sort_of};
+use crate::regions::{
+    ends_arrow, is_semicolon, part_after, region_after, region_after_group, region_inside,
+};
 use mbe_tt::tt::{DelimiterKind, Ident, Leaf, TokenTreesView};
 use std::alloc::Allocator;
 
@@ -71,8 +67,10 @@ pub(crate) enum Region {
     Code,
     // What a macro is called with.
     Arguments,
-    // An attribute, or the rules of a macro.
+    // An attribute.
     Opaque,
+    // The rules of a macro.
+    Rules,
     // The arms of a `match`: a pattern, what follows its `if`, what follows its `=>`.
     Arm,
     Guard,
@@ -135,7 +133,7 @@ pub enum Role {
     Jump,
     /// The text of a string, which may name locals in braces.
     Text,
-    /// A word of another context that may be a local of this one.
+    /// A word of the rules of a macro, or of a step of such a macro, that may be a local.
     Inner,
     /// The same of a label.
     InnerLabel,
@@ -145,198 +143,14 @@ pub enum Role {
     End,
 }
 
-// ---- what a name is
-
-fn is_dots(before: Before) -> bool
+pub(crate) fn is_dots(before: Before) -> bool
     ensures { result ≡ spec.is_dots before }
 {
     matches!(before, Before::Dots)
 }
 
-fn binding_role(is_late: bool) -> Role
-    ensures { result ≡ roles.binding_role is_late }
-{
-    if is_late { Role::Late } else { Role::Bound }
-}
-
-fn pattern_role<A: Allocator>(
-    before: Before,
-    is_late: bool,
-    ident: &Ident<A>,
-    rest: TokenTreesView<'_, A>,
-) -> Role
-    ensures { result ≡ roles.pattern_role before is_late (ident_of ident.now) (trees rest.entry) }
-{
-    if is_low(ident.sym.as_str()) && binds_before(rest) && !is_dots(before) {
-        binding_role(is_late)
-    } else {
-        Role::Used
-    }
-}
-
-fn begins_field(before: Before) -> bool
-    ensures { result ≡ spec.begins_field before }
-{
-    matches!(before, Before::Start | Before::Mark)
-}
-
-fn field_role<A: Allocator>(before: Before, rest: TokenTreesView<'_, A>) -> Role
-    ensures { result ≡ roles.field_role before (trees rest.entry) }
-{
-    if colon_follows(rest) {
-        Role::Other
-    } else if begins_field(before) && comma_or_end_follows(rest) {
-        Role::Unsure
-    } else {
-        Role::Used
-    }
-}
-
-fn field_pattern_role<A: Allocator>(rest: TokenTreesView<'_, A>) -> Role
-    ensures { result ≡ roles.field_pattern_role (trees rest.entry) }
-{
-    if colon_follows(rest) {
-        Role::Other
-    } else {
-        Role::Short
-    }
-}
-
-fn argument_role<A: Allocator>(rest: TokenTreesView<'_, A>) -> Role
-    ensures { result ≡ roles.argument_role (trees rest.entry) }
-{
-    if colon_follows(rest) || equals_follows(rest) {
-        Role::Unsure
-    } else {
-        Role::Used
-    }
-}
-
-fn code_role<A: Allocator>(rest: TokenTreesView<'_, A>) -> Role
-    ensures { result ≡ roles.code_role (trees rest.entry) }
-{
-    if colon_follows(rest) {
-        Role::Unsure
-    } else {
-        Role::Used
-    }
-}
-
-fn region_role<A: Allocator>(site: Site, ident: &Ident<A>, rest: TokenTreesView<'_, A>) -> Role
-    ensures { result ≡ roles.region_role site site.region (ident_of ident.now) (trees rest.entry) }
-{
-    match site.region {
-        Region::Arm | Region::Pattern | Region::FieldPattern => {
-            pattern_role(site.before, site.is_late, ident, rest)
-        }
-        Region::FieldPatterns => field_pattern_role(rest),
-        Region::Fields => field_role(site.before, rest),
-        Region::Arguments => argument_role(rest),
-        Region::Code | Region::Guard | Region::Body | Region::Value => code_role(rest),
-        Region::Opaque => Role::Other,
-    }
-}
-
-fn part_role<A: Allocator>(site: Site, ident: &Ident<A>, rest: TokenTreesView<'_, A>) -> Role
-    ensures { result ≡ roles.part_role site (ident_of ident.now) (trees rest.entry) }
-{
-    match site.part {
-        Part::LetPattern | Part::ForPattern => pattern_role(site.before, true, ident, rest),
-        Part::Parameters => pattern_role(site.before, false, ident, rest),
-        Part::LetType | Part::ParameterType => Role::Other,
-        Part::Whole => region_role(site, ident, rest),
-    }
-}
-
-fn alone_role<A: Allocator>(site: Site, ident: &Ident<A>, rest: TokenTreesView<'_, A>) -> Role
-    ensures { result ≡ roles.alone_role site (ident_of ident.now) (trees rest.entry) }
-{
-    if path_follows(rest) || bang_follows(rest) {
-        Role::Other
-    } else {
-        part_role(site, ident, rest)
-    }
-}
-
-fn label_role<A: Allocator>(rest: TokenTreesView<'_, A>) -> Role
-    ensures { result ≡ roles.label_role (trees rest.entry) }
-{
-    if is_label(rest) {
-        Role::Label
-    } else {
-        Role::Other
-    }
-}
-
-fn name_role<A: Allocator>(site: Site, ident: &Ident<A>, rest: TokenTreesView<'_, A>) -> Role
-    ensures { result ≡ roles.name_role site (ident_of ident.now) (trees rest.entry) }
-{
-    match site.before {
-        Before::Quote => label_role(rest),
-        Before::JumpQuote => Role::Jump,
-        Before::Dot | Before::Colons | Before::Dollar | Before::Item | Before::Bang => Role::Other,
-        _ => alone_role(site, ident, rest),
-    }
-}
-
-fn is_opaque(region: Region) -> bool
-    ensures { result ≡ spec.is_opaque region }
-{
-    matches!(region, Region::Opaque)
-}
-
-/// What a word is, at that site and before these trees.
-pub(crate) fn role_of<A: Allocator>(
-    site: Site,
-    ident: &Ident<A>,
-    rest: TokenTreesView<'_, A>,
-) -> Role
-    ensures { result ≡ roles.role_of site (ident_of ident.now) (trees rest.entry) }
-{
-    if is_opaque(site.region) {
-        return Role::Other;
-    }
-    match sort_of(ident) {
-        Sort::Name => name_role(site, ident, rest),
-        Sort::Let => begin_role(is_open(site)),
-        Sort::For => begin_role(is_open(site) && has_in(rest)),
-        _ => Role::Other,
-    }
-}
-
-fn begin_role(is_one: bool) -> Role
-    ensures { result ≡ roles.begin_role is_one }
-{
-    if is_one { Role::Begin } else { Role::Other }
-}
-
-fn end_role(is_one: bool) -> Role
-    ensures { result ≡ roles.end_role is_one }
-{
-    if is_one { Role::End } else { Role::Other }
-}
-
-/// What a punct is: a `;` may end the value of a `let`.
-pub(crate) fn punct_role(site: Site, sign: Sign) -> Role
-    ensures { result ≡ roles.punct_role site sign }
-{
-    match sign {
-        Sign::Semicolon => end_role(site.in_let),
-        _ => Role::Other,
-    }
-}
-
-/// What the opening of a group is: braces may end the value of an `if let`, a `while let` or a `for`.
-pub(crate) fn group_role(site: Site, kind: DelimiterKind) -> Role
-    ensures { result ≡ roles.group_role site kind }
-{
-    end_role(site.in_head_let && site.is_head && is_body(site, kind))
-}
-
-// ---- the site after a word
-
-// Whether statements and expressions are at the site.
-fn is_open(site: Site) -> bool
+/// Whether statements and expressions are at the site.
+pub(crate) fn is_open(site: Site) -> bool
     ensures { result ≡ spec.is_open site }
 {
     match site.part {
@@ -345,7 +159,7 @@ fn is_open(site: Site) -> bool
     }
 }
 
-fn is_code(region: Region) -> bool
+pub(crate) fn is_code(region: Region) -> bool
     ensures { result ≡ spec.is_code region }
 {
     matches!(
@@ -362,6 +176,21 @@ fn is_arm(site: Site) -> bool
         _ => false,
     }
 }
+
+/// Whether braces there are those of statements and expressions.
+pub(crate) fn is_body(site: Site, kind: DelimiterKind) -> bool
+    ensures { result ≡ spec.is_body site kind }
+{
+    is_brace(kind) && is_open(site)
+}
+
+pub(crate) fn is_brace(kind: DelimiterKind) -> bool
+    ensures { result ≡ spec.is_brace kind }
+{
+    matches!(kind, DelimiterKind::Brace)
+}
+
+// ---- the site after a word
 
 fn after_in(site: Site) -> Site
     ensures { result ≡ spec.after_in site site.part }
@@ -536,214 +365,6 @@ fn before_after(before: Before, sign: Sign, next: Option<Sign>) -> Before
     }
 }
 
-// Whether a `:` there is no part of a `::`.
-fn is_alone(before: Before, next: Option<Sign>) -> bool
-    ensures { result ≡ spec.is_alone before next }
-{
-    match before {
-        Before::Colon => false,
-        _ => !is_colon(next),
-    }
-}
-
-// Whether a `|` there begins the parameters of a closure.
-fn begins_closure(before: Before) -> bool
-    ensures { result ≡ spec.begins_closure before }
-{
-    matches!(
-        before,
-        Before::Start | Before::Word | Before::Equals | Before::Arrow | Before::Mark | Before::Sign
-    )
-}
-
-fn part_after_let(before: Before, sign: Sign, next: Option<Sign>) -> Part
-    ensures { result ≡ spec.part_after_let before sign next }
-{
-    match sign {
-        Sign::Equals => {
-            if is_dots(before) {
-                Part::LetPattern
-            } else {
-                Part::Whole
-            }
-        }
-        Sign::Semicolon => Part::Whole,
-        Sign::Colon => {
-            if is_alone(before, next) {
-                Part::LetType
-            } else {
-                Part::LetPattern
-            }
-        }
-        _ => Part::LetPattern,
-    }
-}
-
-fn part_after_let_type(sign: Sign) -> Part
-    ensures { result ≡ spec.part_after_let_type sign }
-{
-    match sign {
-        Sign::Equals | Sign::Semicolon => Part::Whole,
-        _ => Part::LetType,
-    }
-}
-
-fn part_after_parameters(before: Before, sign: Sign, next: Option<Sign>) -> Part
-    ensures { result ≡ spec.part_after_parameters before sign next }
-{
-    match sign {
-        Sign::Bar => Part::Whole,
-        Sign::Colon => {
-            if is_alone(before, next) {
-                Part::ParameterType
-            } else {
-                Part::Parameters
-            }
-        }
-        _ => Part::Parameters,
-    }
-}
-
-fn part_after_parameter_type(sign: Sign) -> Part
-    ensures { result ≡ spec.part_after_parameter_type sign }
-{
-    match sign {
-        Sign::Bar => Part::Whole,
-        Sign::Comma => Part::Parameters,
-        _ => Part::ParameterType,
-    }
-}
-
-fn part_after_whole(site: Site, sign: Sign) -> Part
-    ensures { result ≡ spec.part_after_whole site sign }
-{
-    match sign {
-        Sign::Bar => {
-            if is_code(site.region) && begins_closure(site.before) {
-                Part::Parameters
-            } else {
-                Part::Whole
-            }
-        }
-        _ => Part::Whole,
-    }
-}
-
-fn part_after(site: Site, sign: Sign, next: Option<Sign>) -> Part
-    ensures { result ≡ spec.part_after site site.part sign next }
-{
-    match site.part {
-        Part::Whole => part_after_whole(site, sign),
-        Part::LetPattern => part_after_let(site.before, sign, next),
-        Part::LetType => part_after_let_type(sign),
-        Part::ForPattern => Part::ForPattern,
-        Part::Parameters => part_after_parameters(site.before, sign, next),
-        Part::ParameterType => part_after_parameter_type(sign),
-    }
-}
-
-// Whether a punct there ends an `=>`.
-fn ends_arrow(before: Before, sign: Sign) -> bool
-    ensures { result ≡ spec.ends_arrow before sign }
-{
-    match sign {
-        Sign::Angle => matches!(before, Before::Equals),
-        _ => false,
-    }
-}
-
-fn is_semicolon(sign: Sign) -> bool
-    ensures { result ≡ spec.is_semicolon sign }
-{
-    matches!(sign, Sign::Semicolon)
-}
-
-fn is_comma(sign: Sign) -> bool
-    ensures { result ≡ spec.is_comma sign }
-{
-    matches!(sign, Sign::Comma)
-}
-
-// Whether a punct there is a `:` that is no part of a `::`.
-fn is_colon_alone(before: Before, sign: Sign, next: Option<Sign>) -> bool
-    ensures { result ≡ spec.is_colon_alone before sign next }
-{
-    match sign {
-        Sign::Colon => is_alone(before, next),
-        _ => false,
-    }
-}
-
-fn arm_region<A: Allocator>(site: Site, sign: Sign, rest: TokenTreesView<'_, A>) -> Region
-    ensures { result ≡ spec.arm_region site.region site.before sign (trees rest.entry) }
-{
-    match site.region {
-        Region::Body => {
-            if is_comma(sign) && begins_arm(rest) {
-                Region::Arm
-            } else {
-                Region::Body
-            }
-        }
-        region => {
-            if ends_arrow(site.before, sign) {
-                Region::Body
-            } else {
-                region
-            }
-        }
-    }
-}
-
-// Before a field's `:`, and after it.
-fn field_region(site: Site, sign: Sign, next: Option<Sign>, region: Region, value: Region) -> Region
-    ensures { result ≡ spec.field_region site.before sign next region value }
-{
-    if is_colon_alone(site.before, sign, next) {
-        value
-    } else {
-        region
-    }
-}
-
-fn value_region(sign: Sign, region: Region, value: Region) -> Region
-    ensures { result ≡ spec.value_region sign region value }
-{
-    if is_comma(sign) { region } else { value }
-}
-
-fn whole_region<A: Allocator>(site: Site, sign: Sign, rest: TokenTreesView<'_, A>) -> Region
-    ensures { result ≡ spec.whole_region site.region site.before sign (trees rest.entry) }
-{
-    let next = front_sign(rest);
-    match site.region {
-        Region::Arm | Region::Guard | Region::Body => arm_region(site, sign, rest),
-        Region::Fields => field_region(site, sign, next, Region::Fields, Region::Value),
-        Region::Value => value_region(sign, Region::Fields, Region::Value),
-        Region::FieldPatterns => field_region(
-            site,
-            sign,
-            next,
-            Region::FieldPatterns,
-            Region::FieldPattern,
-        ),
-        Region::FieldPattern => { value_region(sign, Region::FieldPatterns, Region::FieldPattern) }
-        Region::Code => Region::Code,
-        Region::Arguments => Region::Arguments,
-        Region::Opaque => Region::Opaque,
-        Region::Pattern => Region::Pattern,
-    }
-}
-
-fn region_after<A: Allocator>(site: Site, sign: Sign, rest: TokenTreesView<'_, A>) -> Region
-    ensures { result ≡ spec.region_after site site.part sign (trees rest.entry) }
-{
-    match site.part {
-        Part::Whole => whole_region(site, sign, rest),
-        _ => site.region,
-    }
-}
-
 fn head_after(site: Site, sign: Sign) -> bool
     ensures { result ≡ spec.head_after site sign }
 {
@@ -785,97 +406,6 @@ pub(crate) fn after_leaf<A: Allocator>(
 
 // ---- groups
 
-fn pattern_group(kind: DelimiterKind) -> Region
-    ensures { result ≡ spec.pattern_group kind }
-{
-    match kind {
-        DelimiterKind::Brace => Region::FieldPatterns,
-        _ => Region::Pattern,
-    }
-}
-
-// Whether braces there may hold the fields of a struct.
-fn may_have_fields(site: Site) -> bool
-    ensures { result ≡ spec.may_have_fields site.before site.is_head }
-{
-    match site.before {
-        Before::Name | Before::Angle => !site.is_head,
-        _ => false,
-    }
-}
-
-fn braces_region<A: Allocator>(site: Site, inside: TokenTreesView<'_, A>) -> Region
-    ensures { result ≡ spec.braces_region site (trees inside.entry) }
-{
-    if begins_arm(inside) {
-        Region::Arm
-    } else if may_have_fields(site) && begins_fields(inside) {
-        Region::Fields
-    } else {
-        Region::Code
-    }
-}
-
-fn code_group<A: Allocator>(
-    site: Site,
-    kind: DelimiterKind,
-    inside: TokenTreesView<'_, A>,
-) -> Region
-    ensures { result ≡ spec.code_group site kind (trees inside.entry) }
-{
-    match kind {
-        DelimiterKind::Brace => braces_region(site, inside),
-        _ => Region::Code,
-    }
-}
-
-fn whole_group<A: Allocator>(
-    site: Site,
-    kind: DelimiterKind,
-    inside: TokenTreesView<'_, A>,
-) -> Region
-    ensures { result ≡ spec.whole_group site site.region kind (trees inside.entry) }
-{
-    match site.region {
-        Region::Arm | Region::Pattern | Region::FieldPatterns | Region::FieldPattern => {
-            pattern_group(kind)
-        }
-        Region::Opaque => Region::Opaque,
-        _ => code_group(site, kind, inside),
-    }
-}
-
-fn part_group<A: Allocator>(
-    site: Site,
-    kind: DelimiterKind,
-    inside: TokenTreesView<'_, A>,
-) -> Region
-    ensures { result ≡ spec.part_group site site.part kind (trees inside.entry) }
-{
-    match site.part {
-        Part::LetPattern | Part::ForPattern | Part::Parameters => pattern_group(kind),
-        Part::LetType | Part::ParameterType => Region::Code,
-        Part::Whole => whole_group(site, kind, inside),
-    }
-}
-
-fn region_inside<A: Allocator>(
-    site: Site,
-    kind: DelimiterKind,
-    inside: TokenTreesView<'_, A>,
-) -> Region
-    ensures { result ≡ spec.region_inside site site.before kind (trees inside.entry) }
-{
-    if is_opaque(site.region) {
-        return Region::Opaque;
-    }
-    match site.before {
-        Before::Hash | Before::Named => Region::Opaque,
-        Before::Bang => Region::Arguments,
-        _ => part_group(site, kind, inside),
-    }
-}
-
 // Whether what a pattern in a group there binds is bound only after a value.
 fn late_inside(site: Site) -> bool
     ensures { result ≡ spec.late_inside site site.part }
@@ -912,43 +442,6 @@ fn after_brackets(before: Before) -> Before
     match before {
         Before::Hash => Before::Mark,
         _ => Before::Operand,
-    }
-}
-
-// Whether braces there are those of statements and expressions.
-fn is_body(site: Site, kind: DelimiterKind) -> bool
-    ensures { result ≡ spec.is_body site kind }
-{
-    is_brace(kind) && is_open(site)
-}
-
-fn is_brace(kind: DelimiterKind) -> bool
-    ensures { result ≡ spec.is_brace kind }
-{
-    matches!(kind, DelimiterKind::Brace)
-}
-
-// Whether braces there are the whole of what follows an arm's `=>`.
-fn may_end_arm(site: Site, kind: DelimiterKind) -> bool
-    ensures { result ≡ spec.may_end_arm site.region site.before kind }
-{
-    match site.region {
-        Region::Body => matches!(site.before, Before::Arrow) && is_brace(kind),
-        _ => false,
-    }
-}
-
-fn region_after_group<A: Allocator>(
-    site: Site,
-    kind: DelimiterKind,
-    rest: TokenTreesView<'_, A>,
-) -> Region
-    ensures { result ≡ spec.region_after_group site kind (trees rest.entry) }
-{
-    if may_end_arm(site, kind) && begins_arm(rest) {
-        Region::Arm
-    } else {
-        site.region
     }
 }
 

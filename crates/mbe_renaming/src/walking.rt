@@ -7,10 +7,8 @@ ghost use Rattle.mbe_renaming.specs.Shown.{step_of};
 ghost use Rattle.mbe_renaming.specs.Steps as spec;
 
 use crate::kinds::sign_of;
-use crate::sites::{
-    Before, Part, Region, Role, Site, after_group, after_leaf, group_role, inside_group,
-    punct_role, role_of,
-};
+use crate::roles::{group_role, punct_role, role_of};
+use crate::sites::{Before, Part, Region, Role, Site, after_group, after_leaf, inside_group};
 use mbe_tt::span::Span;
 use mbe_tt::tt::{DelimiterKind, Leaf, LitKind, TokenTreesView, TtElement};
 use std::alloc::{AllocError, Allocator};

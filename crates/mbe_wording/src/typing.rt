@@ -229,8 +229,8 @@ fn write_rule_group<A: Allocator>(
     inside: TokenTreesView<'_, A>,
 ) -> Result<(), AllocError>
     requires { 0 < length builder.old }
-    ensures { OnOk result (builder.new ≡ put
-        (spec.rule_group (option_map trees pattern.entry) delimiter (trees inside.entry)) builder.old) }
+    ensures { OnOk result (builder.new ≡ put (spec.rule_group (option_map trees pattern.entry)
+        delimiter (trees inside.entry)) builder.old) }
 {
     builder.open(delimiter.kind, delimiter.opening)?;
     match pattern {

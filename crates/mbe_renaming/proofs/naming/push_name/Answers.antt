@@ -11,7 +11,8 @@ returns-in_ok-push-clause-taken g c =
     let names = c.args.names.now in
     let given = map naming_of c.args.given.now.items in
     let local = word_of c.args.local in
-    let named = c.in_ok-name.ensures ∙ ap (λ n. fresh words names (map naming_of n) local.text) c.as_slice.ensures.value in
+    let named = c.in_ok-name.ensures
+    ∙ ap (λ n. fresh words names (map naming_of n) local.text) c.as_slice.ensures.value in
     let all = ap (map naming_of) c.in_ok-push.ensures.items
     ∙ map-append naming_of c.args.given.now.items (_ ∷ [])
     ∙ ap (λ n. given ++ (naming local n ∷ [])) named in
