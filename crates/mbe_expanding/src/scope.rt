@@ -416,8 +416,9 @@ impl<A: Allocator + Copy> Scope<A> {
         }
     }
 
-    // The number of the definition that a name names.
-    fn by_name(&self, name: &str) -> Option<usize>
+    /// The number of the definition that a name names: the last one before it in the groups around it, or else the last one in
+    /// all files that a name may find there, or else the one that another crate offers.
+    pub fn by_name(&self, name: &str) -> Option<usize>
         ensures { result ≡ spec.by_name (scope_of self.now) name.now }
     {
         if let Some(number) = self.near(name) {
@@ -429,10 +430,8 @@ impl<A: Allocator + Copy> Scope<A> {
         }
     }
 
-    /// The number of the definition that a call names: for a name, the last one before it in the groups around it, or else the
-    /// last one in all files that a name may find there, or else the one that another crate offers; for a path, the last one that
-    /// paths find, of the crate that the path begins with.
-    pub fn lookup(&self, call: Call<'_, A>) -> Option<usize>
+    // The number of the definition that a call names, for a path the last one that paths find, of the crate that it begins with.
+    fn lookup(&self, call: Call<'_, A>) -> Option<usize>
         ensures { result ≡ spec.lookup (scope_of self.now) (call_shown call.entry) }
     {
         let name = call.name.sym.as_str();
