@@ -1,12 +1,13 @@
 #!/usr/bin/env python3
 """Expands whole crates, and compiles them and runs their tests before and after. From anywhere:
 
-    python3 tools/expandm-crates.py [--test] [--work DIR] [--without A,B] [--alone] EXPANDM REGISTRY [NAME..]
+    python3 tools/expandm-crates.py [--test] [--externs] [--work DIR] [--without A,B] [--alone] EXPANDM REGISTRY [NAME..]
 
 REGISTRY is a folder of packages, as /usr/share/cargo/registry of Debian's librust-*-dev; NAMEs choose some of them by their folders' names.
 Of each package with a library that has `macro_rules!`, a copy is built by cargo (offline, with the packages of REGISTRY alone, under the features that
 `default` leads to), and so are the tests of the library and of its folder `tests`, as far as their dev-dependencies are there; each test is run by its
 name. Then once more, with each file of the library as `expandm --write` writes it under the same options, those that the build script sets among them.
+With `--externs` the libraries that a package depends on are given to `expandm` by `--extern`, and packages without a `macro_rules!` of their own count too.
 With `--test` they are written under `test`, too, so that calls in tests are expanded, and those in what only `not(test)` has aren't. A line of a table
 is printed for each: the calls that were expanded, the reports, whether it builds before and after, how many tests passed, and what differs.
 To take less time: the dev-dependencies A and B are left out, with the tests that need them; with `--alone` only packages without dependencies and
@@ -62,16 +63,35 @@ def admits(wanted, version):
 class Registry:
     def __init__(self, folder):
         self.folder = folder
-        self.versions = {}
+        self.versions, self.folders = {}, {}
         for path in glob.glob(f"{folder}/*/Cargo.toml"):
             with open(path, "rb") as it:
                 package = tomllib.load(it)["package"]
             self.versions.setdefault(package["name"], []).append(version_of(package["version"]))
+            self.folders[package["name"], version_of(package["version"])] = os.path.dirname(path)
 
     def has(self, name, needs):
         if isinstance(needs, str):
             needs = {"version": needs}
         return any(admits(needs.get("version", "*"), it) for it in self.versions.get(needs.get("package", name), []))
+
+
+def externs(manifest, registry, is_test):
+    """Words that give the libraries that a package depends on, each the latest version that is admitted."""
+    words = []
+    tables = [manifest["dependencies"], *(it.get("dependencies", {}) for it in manifest["target"].values())]
+    for name, needs in {name: it for table in tables + [manifest.get("dev-dependencies", {})] * is_test for name, it in table.items()}.items():
+        needs = {"version": needs} if isinstance(needs, str) else needs
+        package = needs.get("package", name)
+        versions = [it for it in registry.versions.get(package, []) if admits(needs.get("version", "*"), it)]
+        if versions:
+            folder = registry.folders[package, max(versions)]
+            with open(f"{folder}/Cargo.toml", "rb") as it:
+                library = tomllib.load(it).get("lib", {})
+            called = name if "package" in needs else library.get("name", name)
+            root = os.path.join(folder, library.get("path", "src/lib.rs"))
+            words += ["--extern", f"{called.replace('-', '_')}={root}"] if os.path.exists(root) and not library.get("proc-macro") else []
+    return words
 
 
 def default_features(table, optional):
@@ -254,7 +274,7 @@ def is_alone(folder, manifest):
     return not any(needs) and not os.path.exists(f"{folder}/build.rs")
 
 
-def compared(program, folder, work, registry, words, without, alone):
+def compared(program, folder, work, registry, words, without, alone, has_externs):
     """A row of the table, and what it counts in."""
     name = os.path.basename(folder)
     with open(f"{folder}/Cargo.toml", "rb") as it:
@@ -276,6 +296,7 @@ def compared(program, folder, work, registry, words, without, alone):
     after = f"{work}/{name}.after"
     shutil.rmtree(after, ignore_errors=True)
     shutil.copytree(to, after, symlinks=True)
+    words = words + externs(manifest, registry, "--test" in words) if has_externs else words
     calls, errors, said = expanded(program, to, after, manifest, before.options, words)
     if calls is None:
         return f"| {name} | | | yes, | {passed(tests)} | expandm: {said.strip()[:160]} |", counted
@@ -295,13 +316,15 @@ def different(tests, after):
 
 
 def main(words):
-    options, work, without, alone = [], None, [], False
+    options, work, without, alone, has_externs = [], None, [], False, False
     while words[0].startswith("--"):
         word = words.pop(0)
         if word == "--test":
             options.append(word)
         elif word == "--alone":
             alone = True
+        elif word == "--externs":
+            has_externs = True
         elif word == "--work":
             work = os.path.realpath(words.pop(0))
         elif word == "--without":
@@ -313,9 +336,9 @@ def main(words):
     print("| Package | Calls expanded | Errors reported | Builds before, after | Tests passed before, after | What differs |\n|---|---|---|---|---|---|")
     for name in names or sorted(os.listdir(registry.folder)):
         folder = f"{registry.folder}/{name}"
-        if not os.path.exists(f"{folder}/Cargo.toml") or not has_macros(f"{folder}/src"):
+        if not os.path.exists(f"{folder}/Cargo.toml") or not (has_externs or has_macros(f"{folder}/src")):
             continue
-        row, counted = compared(program, folder, work, registry, options, without, alone)
+        row, counted = compared(program, folder, work, registry, options, without, alone, has_externs)
         if row:
             print(row, flush=True)
         for it in counted:

@@ -8,12 +8,12 @@ _expandm() {
         mapfile -t COMPREPLY < <(compgen -W 'x86_64-unknown-linux-gnu x86_64-pc-windows-msvc x86_64-apple-darwin \
             aarch64-apple-darwin wasm32-unknown-unknown' -- "$word")
         return ;;
-    --depth | --fuel | --call | --cfg | --features) COMPREPLY=(); return ;;
+    --depth | --fuel | --call | --cfg | --features | --extern) COMPREPLY=(); return ;;
     esac
     case $word in
     -*)
         mapfile -t COMPREPLY < <(compgen -W \
-            '--once --depth --fuel --call --write --no-modules --edition --cfg --features --target --test --trace --origin --explain --lint --json --help --version' -- "$word")
+            '--once --depth --fuel --call --write --no-modules --extern --edition --cfg --features --target --test --trace --origin --explain --lint --json --help --version' -- "$word")
         ;;
     *) mapfile -t COMPREPLY < <(compgen -f -X '!*.rs' -- "$word"; compgen -d -- "$word") ;;
     esac

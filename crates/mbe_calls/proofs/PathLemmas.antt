@@ -2,7 +2,7 @@
 use Rattle.std.proofs.Common.{◌≡◌, ℕ, suc, ◌-◌, ◌<◌, true, Option, Some, None, refl, ap, sym, ◌∙◌, arith}
 use Rattle.std.specs.Prelude.{option_and_then}
 use Rattle.mbe_tt.specs.Trees.Tree.{Forest}
-use Rattle.mbe_calls.specs.Fronts.{Path, after_colons, path_to, goes_on, longer}
+use Rattle.mbe_calls.specs.Fronts.{Path, after_colons, path_on, goes_on, longer}
 
 longer_suc : (n : ℕ) (path : Path) → longer (suc n) path ≡ goes_on (longer n) path (after_colons path.rest)
 unfolding longer
@@ -23,13 +23,13 @@ stops n path h e = longer_by n path None h e
 
 -- no name follows
 pub breaks : (n : ℕ) (path : Path) (after : Forest) → 0 < n → Some after ≡ after_colons path.rest
-    → None ≡ path_to true after
+    → None ≡ path_on path.first after
     → None ≡ longer n path
 breaks n path after h e p = ap (option_and_then (longer (n - 1))) p ∙ longer_by n path (Some after) h e
 
 -- a name follows
 pub goes : (n : ℕ) (path : Path) (after : Forest) (next : Path) → 0 < n → Some after ≡ after_colons path.rest
-    → Some next ≡ path_to true after → longer (n - 1) next ≡ longer n path
+    → Some next ≡ path_on path.first after → longer (n - 1) next ≡ longer n path
 goes n path after next h e p = ap (option_and_then (longer (n - 1))) p ∙ longer_by n path (Some after) h e
 
 -- no trees are left

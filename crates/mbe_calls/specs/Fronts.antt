@@ -13,8 +13,9 @@ use Rattle.mbe_tt.specs.declared.tt.IdentIsRaw.TheVariants.{No, Yes}
 
 -- ---- paths
 
--- a path of names: the last one, whether the path has more, and the trees after it
+-- a path of names: the first one, the last one, whether the path has more, and the trees after it
 pub record Path : Type 0 where
+  pub first : Ident
   pub name : Ident
   pub is_path : Bool
   pub rest : Forest
@@ -29,12 +30,17 @@ after_colons f = option_and_then (after_char 58) (after_char 58 f)
 
 -- the path that ends with the name at the front
 abbrev pub path_to : Bool → Forest → Option Path
-path_to is_path f = option_map (λ i. record { name = i; is_path = is_path; rest = rest_of f }) (front_ident f)
+path_to is_path f = option_map (λ i. record { first = i; name = i; is_path = is_path; rest = rest_of f }) (front_ident f)
+
+-- a path that goes on with the name at the front
+abbrev pub path_on : Ident → Forest → Option Path
+path_on first f =
+    option_map (λ i. record { first = first; name = i; is_path = true; rest = rest_of f }) (front_ident f)
 
 -- a path, and what goes on with it after a `::`; where nothing does, that is all of it
 abbrev pub goes_on : (Path → Option Path) → Path → Option Forest → Option Path
 goes_on more path None = Some path
-goes_on more path (Some after) = option_and_then more (path_to true after)
+goes_on more path (Some after) = option_and_then more (path_on path.first after)
 
 -- a path with at most so many names more
 unfoldable pub longer : ℕ → Path → Option Path
@@ -55,9 +61,10 @@ path_of f = path_from f (after_colons f)
 
 -- ---- calls
 
--- a call: its path's last name, whether the path has more, the group with its content, what follows, and where it
--- begins
+-- a call: its path's first name and its last one, whether the path has more, the group with its content, what follows,
+-- and where it begins
 pub record Call : Type 0 where
+  pub first : Ident
   pub name : Ident
   pub is_path : Bool
   pub delimiter : Delimiter
@@ -90,6 +97,7 @@ is_visible Bracket = true
 abbrev pub call_with : Span → Path → Forest → Option Call
 call_with start path f =
     option_and_then (λ g. if is_visible g.0.kind then Some (record {
+      first = path.first;
       name = path.name;
       is_path = path.is_path;
       delimiter = g.0;

@@ -12,10 +12,16 @@ use Rattle.mbe_calls.specs.declared.calls.Front.{Front}
 use Rattle.mbe_calls.specs.declared.calls.Front.TheVariants as g
 
 abbrev pub path_shown : {A : Type 0} → Path A → spec.Path
-path_shown p = record { name = ident_of p.name.now; is_path = p.is_path; rest = trees p.rest }
+path_shown p = record {
+  first = ident_of p.first.now;
+  name = ident_of p.name.now;
+  is_path = p.is_path;
+  rest = trees p.rest;
+}
 
 abbrev pub call_shown : {A : Type 0} → Call A → spec.Call
 call_shown c = record {
+  first = ident_of c.first.now;
   name = ident_of c.name.now;
   is_path = c.is_path;
   delimiter = c.group.now.delimiter;

@@ -4,7 +4,7 @@ ghost use Rattle.std.specs.List.{list_any};
 ghost use Rattle.std.specs.Str.{bytes_eq};
 ghost use Rattle.mbe_tt.specs.Views.View.{trees};
 ghost use Rattle.mbe_tt.specs.Views.Shown.{ident_of};
-ghost use Rattle.mbe_calls.specs.Fronts.{is_nameable, is_visible, after_char, after_colons, path_to};
+ghost use Rattle.mbe_calls.specs.Fronts.{is_nameable, is_visible, after_char, after_colons, path_on, path_to};
 ghost use Rattle.mbe_calls.specs.Beside.{is_standard, attribute_of, name_in, is_operator, binds};
 ghost use Rattle.mbe_calls.specs.Fronts.{longest, path_of, call_with, call_by, call_of};
 ghost use Rattle.mbe_calls.specs.Fronts.{after_rules, rules_with, rules_of, template_with, body_with};
@@ -21,6 +21,8 @@ use std::alloc::{Allocator, Global};
 #[derive(Drop)]
 #[derive_where(Clone, Copy)]
 pub struct Call<'t, A: Allocator = Global> {
+    /// The path's first name.
+    pub first: &'t Ident<A>,
     /// The path's last name.
     pub name: &'t Ident<A>,
     /// Whether the path has more than a name.
@@ -161,6 +163,8 @@ fn after_colons<'t, A: Allocator>(tokens: TokenTreesView<'t, A>) -> Option<Token
 #[derive(Drop)]
 #[derive_where(Clone, Copy)]
 struct Path<'t, A: Allocator = Global> {
+    // The first one.
+    first: &'t Ident<A>,
     // The last one.
     name: &'t Ident<A>,
     // Whether the path has more.
@@ -176,8 +180,27 @@ fn path_to<'t, A: Allocator>(is_path: bool, tokens: TokenTreesView<'t, A>) -> Op
     let mut iter = tokens.iter();
     let name = iter.expect_ident().ok()?;
     Some(Path {
+        first: name,
         name,
         is_path,
+        rest: iter.remaining(),
+    })
+}
+
+// The path from that name on to the one at the front.
+fn path_on<'t, A: Allocator>(
+    first: &'t Ident<A>,
+    tokens: TokenTreesView<'t, A>,
+) -> Option<Path<'t, A>>
+    ensures { option_map path_shown result
+        ≡ path_on (ident_of first.now) (trees tokens.entry) }
+{
+    let mut iter = tokens.iter();
+    let name = iter.expect_ident().ok()?;
+    Some(Path {
+        first,
+        name,
+        is_path: true,
         rest: iter.remaining(),
     })
 }
@@ -192,7 +215,7 @@ fn longest<'t, A: Allocator>(path: Path<'t, A>) -> Option<Path<'t, A>>
         left -= 1;
         match after_colons(longer.rest) {
             None => return Some(longer),
-            Some(after) => longer = path_to(true, after)?,
+            Some(after) => longer = path_on(longer.first, after)?,
         }
     }
     Some(longer)
@@ -233,6 +256,7 @@ fn call_with<'t, A: Allocator>(
         return None;
     }
     Some(Call {
+        first: path.first,
         name: path.name,
         is_path: path.is_path,
         group,

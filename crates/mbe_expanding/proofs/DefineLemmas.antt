@@ -5,7 +5,7 @@ use Rattle.mbe_tt.specs.Trees.Tree.{Forest, Tree, none}
 use Rattle.mbe_tt.specs.declared.span.Edition.{Edition}
 use Rattle.mbe_calls.specs.Fronts.{Call, Defined, Definition, ACall, Other, front}
 use Rattle.mbe_expanding.specs.Scopes.{Scope, IsRead}
-use Rattle.mbe_expanding.specs.Defining.{unmarked, marked, reach_of, after_tree, DefinesTree, DefinesAll, ends, at_definition, at_call, at_tree, Defines}
+use Rattle.mbe_expanding.specs.Defining.{unmarked, after_definition, marked, reach_of, after_tree, DefinesTree, DefinesAll, ends, at_definition, at_call, at_tree, Defines}
 use Rattle.mbe_expanding.specs.declared.expander.defining.Marks.{Marks}
 use Rattle.mbe_expanding.specs.declared.scope.Reach.{Reach}
 
@@ -26,7 +26,7 @@ pub definition_defined : (e k : Edition) (levels : ℕ) (top : Bool) (r : Reach)
     (s t u : Scope) (m n : Marks)
     → k ≡ e → Defining e levels top f s m g t → front g ≡ Definition d → r ≡ reach_of top m d
     → IsRead k d r t u
-    → n ≡ record { is_exported = false; is_used = m.is_used } → Defining e levels top f s n d.rest u
+    → n ≡ after_definition m → Defining e levels top f s n d.rest u
 definition_defined e k levels top reach f g d s t u m n h a is w r c = record {
   on = λ v more.
       a.on v (at_definition m g d t u v is (subst (λ x. IsRead x d (reach_of top m d) t u) h

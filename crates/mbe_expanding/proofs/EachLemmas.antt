@@ -2,6 +2,7 @@
 -- where no call is known.
 use Rattle.std.proofs.Common.{◌≡◌, ◌-◌, ℕ, zero, suc, Bool, true, false, List, [], ◌∷◌, ◌++◌, length, Option, Some, None, refl, ap, sym, subst, ◌∙◌}
 use Rattle.std.specs.Prelude.{◌||◌, ◌&&◌, not, if◌then◌else◌, option_map, option_and_then}
+use Rattle.std.specs.Option.{option_or}
 use Rattle.std.specs.List.{All, slice_get}
 use Rattle.std.specs.Str.{bytes_eq}
 use Rattle.std.proofs.lemmas.List.Elements.{All-nil, All-cons, All-append}
@@ -14,9 +15,9 @@ use Rattle.mbe_calls.specs.Splicing.{Part, spliced}
 use Rattle.mbe_expanding.specs.Becoming.{after_group}
 use Rattle.mbe_expanding.specs.Calls.{Setting, State, Stays, too_many, not_found, limited, refused, named}
 use Rattle.mbe_expanding.specs.Fitting.{IsLeft, what_follows, after_semicolon}
-use Rattle.mbe_expanding.specs.Scopes.{Scope, Definition as AMacro, definition_at, is_found, last_below, reaches, wide, near, or_wide, lookup, placed}
+use Rattle.mbe_expanding.specs.Scopes.{Scope, Definition as AMacro, Among, Own, Others, Crate, Beside, definition_at, is_among, is_found, last_below, last_found, reaches, near, sole, unless_rival, by_name, by_path, placed}
 use Rattle.mbe_expanding.specs.declared.scope.Reach.{Reach}
-use Rattle.mbe_expanding.specs.declared.scope.Reach.TheVariants.{Text, Files, Paths}
+use Rattle.mbe_expanding.specs.declared.scope.Reach.TheVariants.{Text, Files, Paths, Crates}
 use Rattle.mbe_expanding.specs.Replacing.{Parts, ShowsItems, no_more, at_definition, at_call, at_tree, shown_at, shown, item_shown, LeavesGroup, is_left, is_used, PartsOfTree, PartsOfArgument, PartsOfCall, of_kept, of_replaced, FrontParts, of_definition, of_tree, of_call, AllParts, ends, goes_on, PartsIn, PartsWithin, PartsOfFile, IsIn, all_of_it, after_some, in_group, IsOfCall, NoneHas, NoneCalled}
 use Rattle.mbe_expanding.proofs.FrontLemmas.{Ahead, front_definition, front_call, front_tree, call_ahead}
 
@@ -151,8 +152,15 @@ unfolding last_below
 not_last p zero h = refl
 not_last p (suc n) h = ap (λ b. if b then Some n else last_below p n) (h n) ∙ not_last p n h
 
-wide_missing : (s : Scope) (w : Reach) (name : List ℕ) → NoneHas name s.definitions → wide s w name ≡ None
-wide_missing s w name h = not_last _ _ (λ n. missing_at name w s.definitions n h)
+last_missing : (among : Among) (s : Scope) (w : Reach) (name : List ℕ) → NoneHas name s.definitions
+    → last_found among s w name ≡ None
+last_missing among s w name h =
+    not_last _ _ (λ n. and_false (is_among s.crates among n) _ (missing_at name w s.definitions n h))
+
+sole_missing : (s : Scope) (name : List ℕ) → NoneHas name s.definitions → sole s name ≡ None
+sole_missing s name h =
+    ap (option_and_then (λ n. unless_rival n (last_found (Beside n) s Crates name)))
+    (last_missing Others s Crates name h)
 
 seen_missing : (s : Scope) (name : List ℕ) (o : Option ℕ) → NoneHas name s.definitions
     → is_found name Text (option_and_then (definition_at s) o) ≡ false
@@ -163,14 +171,24 @@ near_missing : (s : Scope) (name : List ℕ) → NoneHas name s.definitions → 
 near_missing s name h =
     ap (option_and_then (slice_get s.visible)) (not_last _ _ (λ n. seen_missing s name (slice_get s.visible n) h))
 
-lookup_missing : (s : Scope) (name : List ℕ) (is_path : Bool) → NoneHas name s.definitions
-    → lookup s name is_path ≡ None
-lookup_missing s name true h = wide_missing s Paths name h
-lookup_missing s name false h = ap (or_wide s name) (near_missing s name h) ∙ wide_missing s Files name h
+path_missing : (s : Scope) (crate name : List ℕ) → NoneHas name s.definitions → by_path s crate name ≡ None
+path_missing s crate name h =
+    ap (λ o. option_or o (last_found Own s Paths name)) (last_missing (Crate crate) s Crates name h)
+    ∙ last_missing Own s Paths name h
+
+name_missing : (s : Scope) (name : List ℕ) → NoneHas name s.definitions → by_name s name ≡ None
+name_missing s name h =
+    ap (λ o. option_or o (option_or (last_found Own s Files name) (sole s name))) (near_missing s name h)
+    ∙ (ap (λ o. option_or o (sole s name)) (last_missing Own s Files name h) ∙ sole_missing s name h)
+
+either_missing : (is_path : Bool) (a b : Option ℕ) → a ≡ None → b ≡ None → (if is_path then a else b) ≡ None
+either_missing true a b h k = h
+either_missing false a b h k = k
 
 unnamed : (s : State) (c : Call) → NoneHas c.name.sym s.scope.definitions → named s c ≡ None
 unnamed s c h = ap (λ o. option_map (λ (d : AMacro). d.rules) (option_and_then (definition_at s.scope) o))
-    (lookup_missing s.scope c.name.sym c.is_path h)
+    (either_missing c.is_path _ _ (path_missing s.scope c.first.sym c.name.sym h)
+    (name_missing s.scope c.name.sym h))
 
 -- ---- no call is known
 

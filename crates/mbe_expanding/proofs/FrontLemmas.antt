@@ -9,7 +9,7 @@ use Rattle.mbe_tt.specs.declared.tt.DelimiterKind.{DelimiterKind}
 use Rattle.mbe_tt.specs.declared.tt.DelimiterKind.TheVariants.{Parenthesis, Brace, Bracket, Invisible}
 use Rattle.mbe_tt.specs.declared.tt.IdentIsRaw.{IdentIsRaw}
 use Rattle.mbe_tt.specs.declared.tt.IdentIsRaw.TheVariants.{No, Yes}
-use Rattle.mbe_calls.specs.Fronts.{Path, Call, Defined, Front, Definition, ACall, Other, End, after_char, after_colons, path_to, goes_on, longer, longest, path_from, path_of, is_nameable, is_visible, call_with, call_by, call_of, after_rules, rules_with, rules_of, template_with, body_with, item_of, defined_after, definition_of, tree_front, call_front, front_with, front}
+use Rattle.mbe_calls.specs.Fronts.{Path, Call, Defined, Front, Definition, ACall, Other, End, after_char, after_colons, path_on, path_to, goes_on, longer, longest, path_from, path_of, is_nameable, is_visible, call_with, call_by, call_of, after_rules, rules_with, rules_of, template_with, body_with, item_of, defined_after, definition_of, tree_front, call_front, front_with, front}
 
 -- some trees precede those
 pub record Ahead (f rest : Forest) : Type 0 where
@@ -127,7 +127,13 @@ colons_leaves f rest e =
 
 path_to_leaves : (is_path : Bool) (f : Forest) (p : Path) → path_to is_path f ≡ Some p → AheadLeaves f p.rest
 path_to_leaves is_path f p e =
-    let a = map_some (λ i. record { name = i; is_path = is_path; rest = rest_of f }) (front_ident f) p e in
+    let a = map_some (λ i. record { first = i; name = i; is_path = is_path; rest = rest_of f }) (front_ident f) p e in
+    let same : rest_of f ≡ p.rest = ap (λ (q : Path). q.rest) a.2 in
+    both f (rest_of f) p.rest (ident_leaves f a.0 a.1) (record { kept = []; is = same })
+
+path_on_leaves : (first : Ident) (f : Forest) (p : Path) → path_on first f ≡ Some p → AheadLeaves f p.rest
+path_on_leaves first f p e =
+    let a = map_some (λ i. record { first = first; name = i; is_path = true; rest = rest_of f }) (front_ident f) p e in
     let same : rest_of f ≡ p.rest = ap (λ (q : Path). q.rest) a.2 in
     both f (rest_of f) p.rest (ident_leaves f a.0 a.1) (record { kept = []; is = same })
 
@@ -135,9 +141,9 @@ goes_on_leaves : (n : ℕ) (p q : Path) → ((r : Path) → longer n r ≡ Some 
     → (o : Option Forest) → after_colons p.rest ≡ o → goes_on (longer n) p o ≡ Some q → AheadLeaves p.rest q.rest
 goes_on_leaves n p q more None c e = let same : p ≡ q = cc in record { kept = []; is = ap (λ (r : Path). r.rest) same }
 goes_on_leaves n p q more (Some after) c e =
-    let a = then_some (longer n) (path_to true after) q e in
+    let a = then_some (longer n) (path_on p.first after) q e in
     both p.rest after q.rest (colons_leaves p.rest after c)
-    (both after a.0.rest q.rest (path_to_leaves true after a.0 a.1) (more a.0 a.2))
+    (both after a.0.rest q.rest (path_on_leaves p.first after a.0 a.1) (more a.0 a.2))
 
 longer_leaves : (n : ℕ) (q p : Path) → longer n p ≡ Some q → AheadLeaves p.rest q.rest
 unfolding longer
@@ -166,6 +172,7 @@ call_with_ahead : (start : Span) (p : Path) (f : Forest) (c : Call) → call_wit
 call_with_ahead start p f c e =
     let made : Delimiter × Forest → Call =
     λ g. record {
+      first = p.first;
       name = p.name;
       is_path = p.is_path;
       delimiter = g.0;

@@ -33,11 +33,11 @@ spent s = record s { fuel = s.fuel - 1 }
 
 -- the macro that a call names
 abbrev pub named : State → Call → Option Macro
-named s c = rules_found s.scope c.name.sym c.is_path
+named s c = rules_found s.scope c
 
 -- the contexts of that macro's tokens
 abbrev pub contexts_named : State → Call → List ℕ
-contexts_named s c = unwrap_or (contexts_found s.scope c.name.sym c.is_path) []
+contexts_named s c = unwrap_or (contexts_found s.scope c) []
 
 -- the context of a step that comes next
 abbrev pub next_context : State → ℕ

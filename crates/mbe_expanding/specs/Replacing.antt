@@ -15,7 +15,7 @@ use Rattle.mbe_expanding.specs.Becoming.{Becomes, StandsFor, after_group}
 use Rattle.mbe_expanding.specs.Calls.{Setting, State, Stays, IsReplaced, after_step}
 use Rattle.mbe_expanding.specs.Fitting.{IsLeft}
 use Rattle.mbe_renaming.specs.Contexts.{told_apart}
-use Rattle.mbe_expanding.specs.Scopes.{Scope, Definition as AMacro, placed, rules_found, with_shown, with_left}
+use Rattle.mbe_expanding.specs.Scopes.{Scope, Definition as AMacro, by_name, placed, with_shown, with_left}
 use Rattle.mbe_wording.specs.declared.wording.Builtins.{Builtins}
 use Rattle.mbe_wording.specs.Wording.{worded}
 
@@ -76,7 +76,7 @@ last_span c left =
 
 -- no macro of that name is found, so that it is the one that is built in
 abbrev pub is_builtin : State → List ℕ → Bool
-is_builtin s name = not (is_some (rules_found s.scope name false))
+is_builtin s name = not (is_some (by_name s.scope name))
 
 abbrev pub number_if : Bool → ℕ → Option ℕ
 number_if true n = Some n

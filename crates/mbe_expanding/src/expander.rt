@@ -58,7 +58,7 @@ impl<'g, A: Allocator + Copy> Expander<'g, A> {
           depth = settings.depth;
         } }
         ensures state { state_of result ≡ record {
-          scope = record { definitions = []; visible = [] };
+          scope = record { definitions = []; visible = []; crates = [] };
           fuel = settings.fuel;
           contexts = [];
         } }
@@ -108,7 +108,7 @@ impl<'g, A: Allocator + Copy> Expander<'g, A> {
         ensures { option_map (λ m. macro_of m.now) result
             ≡ named (state_of self.now) (call_shown call.entry) }
     {
-        self.scope.find(call.name.sym.as_str(), call.is_path)
+        self.scope.find(call)
     }
 
     // The contexts of the tokens of the macro that a call names.
@@ -253,10 +253,10 @@ impl<'g, A: Allocator + Copy> Expander<'g, A> {
 
 // The contexts of the tokens of the macro that a call names.
 fn contexts_of<'s, A: Allocator + Copy>(scope: &'s Scope<A>, call: Call<'_, A>) -> &'s [u32]
-    ensures { result.now ≡ unwrap_or (contexts_found (scope_of scope.now)
-        (call_shown call.entry).name.sym (call_shown call.entry).is_path) [] }
+    ensures { result.now ≡ unwrap_or
+        (contexts_found (scope_of scope.now) (call_shown call.entry)) [] }
 {
-    match scope.contexts(call.name.sym.as_str(), call.is_path) {
+    match scope.contexts(call) {
         Some(contexts) => contexts,
         None => &[],
     }
@@ -268,8 +268,7 @@ fn push_contexts<A: Allocator + Copy>(
     call: Call<'_, A>,
 ) -> Result<(), AllocError>
     ensures { OnOk result (contexts.new.items ≡ contexts.old.items
-        ++ unwrap_or (contexts_found (scope_of scope.now)
-        (call_shown call.entry).name.sym (call_shown call.entry).is_path) []) }
+        ++ unwrap_or (contexts_found (scope_of scope.now) (call_shown call.entry)) []) }
 {
     contexts.extend_from_slice(contexts_of(scope, call))
 }

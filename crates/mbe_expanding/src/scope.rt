@@ -1,18 +1,18 @@
 // Which definition a call names.
 ghost use Rattle.std.specs.Prelude.{◌≡◌, ◌∷◌, [], length, IfOk, OnOk, option_map, false};
-ghost use Rattle.std.specs.List.{slice_get};
+ghost use Rattle.std.specs.List.{list_any, slice_get};
 ghost use Rattle.mbe_tt.specs.Views.View.{trees};
 ghost use Rattle.mbe.specs.MacroViews.{macro_of};
-ghost use Rattle.mbe_calls.specs.Shown.{defined_shown, form_shown};
+ghost use Rattle.mbe_calls.specs.Shown.{call_shown, defined_shown, form_shown};
 ghost use Rattle.mbe_expanding.specs.Scopes as spec;
 ghost use Rattle.mbe_semantics.specs.Expansion.ReadAs.{IsReadAs, IsReadAsMacro};
 ghost use Rattle.mbe_expanding.specs.Scopes.{IsEdition, IsRead, IsReadIn, is_found, is_placed, reaches};
-ghost use Rattle.mbe_expanding.specs.Scopes.{with_shown, with_left};
-ghost use Rattle.mbe_expanding.specs.Shown.{definition_of, scope_of};
+ghost use Rattle.mbe_expanding.specs.Scopes.{with_crate, with_shown, with_left};
+ghost use Rattle.mbe_expanding.specs.Shown.{among_shown, definition_of, outside_of, scope_of};
 ghost use Rattle.mbe_expanding.specs.declared.scope.Reach.TheVariants.{Text};
 
 use mbe::DeclarativeMacro;
-use mbe_calls::calls::{Defined, Form};
+use mbe_calls::calls::{Call, Defined, Form};
 use mbe_renaming::contexts::contexts_in;
 use mbe_tt::span::{Edition, Span};
 use mbe_tt::tt::{Delimiter, TokenTreesView, TopSubtree, TopSubtreeBuilder};
@@ -28,6 +28,8 @@ pub enum Reach {
     Files,
     /// Also a path.
     Paths,
+    /// Also a path that begins with the crate, in another one.
+    Crates,
 }
 
 impl Reach {
@@ -37,8 +39,9 @@ impl Reach {
     {
         match asked {
             Reach::Text => true,
-            Reach::Files => matches!(self, Reach::Files | Reach::Paths),
-            Reach::Paths => matches!(self, Reach::Paths),
+            Reach::Files => matches!(self, Reach::Files | Reach::Paths | Reach::Crates),
+            Reach::Paths => matches!(self, Reach::Paths | Reach::Crates),
+            Reach::Crates => matches!(self, Reach::Crates),
         }
     }
 }
@@ -56,6 +59,73 @@ pub struct Definition<A: Allocator = Global> {
     place: Span,
 }
 
+/// Another crate.
+#[derive(Drop)]
+pub struct Outside<A: Allocator = Global> {
+    name: String<A>,
+    // The number of its first definition.
+    first: usize,
+    // The number after that of its last one.
+    end: usize,
+}
+
+impl<A: Allocator> Outside<A> {
+    // Whether the definition of that number is one of its own.
+    fn is_within(&self, number: usize) -> bool
+        ensures { result ≡ spec.is_within number (outside_of self.now) }
+    {
+        self.first <= number && number < self.end
+    }
+
+    // Whether it is one of its own, and it has that name.
+    fn is_named(&self, name: &str, number: usize) -> bool
+        ensures { result ≡ spec.is_named name.now number (outside_of self.now) }
+    {
+        self.name.as_str() == name && self.is_within(number)
+    }
+
+    // Whether two are its own.
+    fn is_around(&self, other: usize, number: usize) -> bool
+        ensures { result ≡ spec.is_around other number (outside_of self.now) }
+    {
+        self.is_within(other) && self.is_within(number)
+    }
+}
+
+// Whether the definition of that number is one of these crates'.
+fn is_in_some<A: Allocator>(crates: &[Outside<A>], number: usize) -> bool
+    ensures { result ≡ list_any (λ c. spec.is_within number (outside_of c)) crates.now }
+{
+    crates.iter().any(|one| one.is_within(number))
+}
+
+// Whether it is one of the crate of that name.
+fn is_in_named<A: Allocator>(crates: &[Outside<A>], name: &str, number: usize) -> bool
+    ensures { result ≡ list_any (λ c. spec.is_named name.now number (outside_of c)) crates.now }
+{
+    crates.iter().any(|one| one.is_named(name, number))
+}
+
+// Whether two are of one of these crates.
+fn are_in_one<A: Allocator>(crates: &[Outside<A>], other: usize, number: usize) -> bool
+    ensures { result ≡ list_any (λ c. spec.is_around other number (outside_of c)) crates.now }
+{
+    crates.iter().any(|one| one.is_around(other, number))
+}
+
+/// Of which definitions one is looked for.
+#[derive(Clone, Copy, Debug, Drop)]
+enum Among<'n> {
+    /// Of those that are no other crate's.
+    Own,
+    /// Of those of all other crates.
+    Others,
+    /// Of those of the crate of that name.
+    Crate(&'n str),
+    /// Of those of other crates, but for the one that this definition is of.
+    Beside(usize),
+}
+
 /// The macros that were read, and those of them that a name finds at present: what precedes it in the text, in
 /// the groups around it. Clauses see it by `scope_of`.
 #[derive(Drop)]
@@ -64,6 +134,8 @@ pub struct Scope<A: Allocator + Copy = Global> {
     pub edition: Edition,
     definitions: Vec<Definition<A>, A>,
     visible: Vec<usize, A>,
+    // The other crates.
+    crates: Vec<Outside<A>, A>,
 }
 
 // The number in that place, where there is one.
@@ -134,7 +206,7 @@ fn rules_of<A: Allocator + Copy>(
 impl<A: Allocator + Copy> Scope<A> {
     /// No macro yet. Definitions are read as those of that edition.
     pub fn new(alloc: A, edition: Edition) -> Scope<A>
-        ensures scope { scope_of result ≡ record { definitions = []; visible = [] } }
+        ensures scope { scope_of result ≡ record { definitions = []; visible = []; crates = [] } }
         ensures edition { result.edition ≡ edition }
     {
         Scope {
@@ -142,6 +214,7 @@ impl<A: Allocator + Copy> Scope<A> {
             edition,
             definitions: Vec::new(alloc),
             visible: Vec::new(alloc),
+            crates: Vec::new(alloc),
         }
     }
 
@@ -260,18 +333,63 @@ impl<A: Allocator + Copy> Scope<A> {
         }
     }
 
-    // The number of the last definition of that name that is found by what is asked for.
-    fn wide(&self, name: &str, asked: Reach) -> Option<usize>
-        ensures { result ≡ spec.wide (scope_of self.now) asked name.now }
+    // Whether the definition of that number is another crate's.
+    fn is_outside(&self, number: usize) -> bool
+        ensures { result ≡ spec.is_outside (scope_of self.now).crates number }
+    {
+        is_in_some(self.crates.as_slice(), number)
+    }
+
+    // Whether it is one of the crate of that name.
+    fn is_from(&self, name: &str, number: usize) -> bool
+        ensures { result ≡ spec.is_from name.now (scope_of self.now).crates number }
+    {
+        is_in_named(self.crates.as_slice(), name, number)
+    }
+
+    // Whether it is of the same crate as that other one.
+    fn is_beside(&self, other: usize, number: usize) -> bool
+        ensures { result ≡ spec.is_beside other (scope_of self.now).crates number }
+    {
+        are_in_one(self.crates.as_slice(), other, number)
+    }
+
+    // Whether one is looked for among definitions of which it is one.
+    fn is_among(&self, number: usize, among: Among<'_>) -> bool
+        ensures { result ≡ spec.is_among (scope_of self.now).crates (among_shown among.entry) number }
+    {
+        match among {
+            Among::Own => !self.is_outside(number),
+            Among::Others => self.is_outside(number),
+            Among::Crate(name) => self.is_from(name, number),
+            Among::Beside(other) => self.is_outside(number) && !self.is_beside(other, number),
+        }
+    }
+
+    // The number of the last definition of that name among those that is found by what is asked for.
+    fn last_found(&self, name: &str, asked: Reach, among: Among<'_>) -> Option<usize>
+        ensures { result ≡ spec.last_found (among_shown among.entry)
+            (scope_of self.now) asked name.now }
     {
         let mut left = self.definitions.len();
         'numbers: while left > 0 {
             left -= 1;
-            if self.is_found(left, name, asked) {
+            if self.is_among(left, among) && self.is_found(left, name, asked) {
                 return Some(left);
             }
         }
         None
+    }
+
+    // The number of the definition of that name that another crate offers, if only one does.
+    fn sole(&self, name: &str) -> Option<usize>
+        ensures { result ≡ spec.sole (scope_of self.now) name.now }
+    {
+        let number = self.last_found(name, Reach::Crates, Among::Others)?;
+        match self.last_found(name, Reach::Crates, Among::Beside(number)) {
+            Some(_) => None,
+            None => Some(number),
+        }
     }
 
     // The number of the last visible definition of that name.
@@ -288,35 +406,78 @@ impl<A: Allocator + Copy> Scope<A> {
         None
     }
 
-    /// The number of the definition that a call names: for a name, the last one before it in the groups around it, or else the
-    /// last one in all files that a name may find there; for a path, the last one that paths find.
-    pub fn lookup(&self, name: &str, is_path: bool) -> Option<usize>
-        ensures { result ≡ spec.lookup (scope_of self.now) name.now is_path }
+    // The number of the definition that a path names which begins with that crate, or with any other name.
+    fn by_path(&self, first: &str, name: &str) -> Option<usize>
+        ensures { result ≡ spec.by_path (scope_of self.now) first.now name.now }
     {
-        if is_path {
-            return self.wide(name, Reach::Paths);
-        }
-        match self.near(name) {
+        match self.last_found(name, Reach::Crates, Among::Crate(first)) {
             Some(number) => Some(number),
-            None => self.wide(name, Reach::Files),
+            None => self.last_found(name, Reach::Paths, Among::Own),
+        }
+    }
+
+    /// The number of the definition that a name names: the last one before it in the groups around it, or else the last one in
+    /// all files that a name may find there, or else the one that another crate offers.
+    pub fn by_name(&self, name: &str) -> Option<usize>
+        ensures { result ≡ spec.by_name (scope_of self.now) name.now }
+    {
+        if let Some(number) = self.near(name) {
+            return Some(number);
+        }
+        match self.last_found(name, Reach::Files, Among::Own) {
+            Some(number) => Some(number),
+            None => self.sole(name),
+        }
+    }
+
+    // The number of the definition that a call names, for a path the last one that paths find, of the crate that it begins with.
+    fn lookup(&self, call: Call<'_, A>) -> Option<usize>
+        ensures { result ≡ spec.lookup (scope_of self.now) (call_shown call.entry) }
+    {
+        let name = call.name.sym.as_str();
+        if call.is_path {
+            self.by_path(call.first.sym.as_str(), name)
+        } else {
+            self.by_name(name)
         }
     }
 
     /// The contexts of the tokens of the macro that a call names.
-    pub fn contexts<'s>(&'s self, name: &str, is_path: bool) -> Option<&'s [u32]>
+    pub fn contexts<'s>(&'s self, call: Call<'_, A>) -> Option<&'s [u32]>
         ensures { option_map (λ c. c.now) result
-            ≡ spec.contexts_found (scope_of self.now) name.now is_path }
+            ≡ spec.contexts_found (scope_of self.now) (call_shown call.entry) }
     {
-        let number = self.lookup(name, is_path)?;
+        let number = self.lookup(call)?;
         Some(self.definition(number)?.contexts.as_slice())
     }
 
     /// What the macro that a call names says.
-    pub fn find<'s>(&'s self, name: &str, is_path: bool) -> Option<&'s DeclarativeMacro<A>>
+    pub fn find<'s>(&'s self, call: Call<'_, A>) -> Option<&'s DeclarativeMacro<A>>
         ensures { option_map (λ m. macro_of m.now) result
-            ≡ spec.rules_found (scope_of self.now) name.now is_path }
+            ≡ spec.rules_found (scope_of self.now) (call_shown call.entry) }
     {
-        let number = self.lookup(name, is_path)?;
+        let number = self.lookup(call)?;
         Some(&self.definition(number)?.rules)
+    }
+
+    /// How many definitions were read.
+    pub fn count(&self) -> usize
+        ensures { result ≡ length (scope_of self.now).definitions }
+    {
+        self.definitions.len()
+    }
+
+    /// The definitions that were read since there were so many are those of the crate of that name.
+    pub fn close_crate(&mut self, name: &str, first: usize) -> Result<(), AllocError>
+        ensures closed { OnOk result (scope_of self.new
+            ≡ with_crate name.now first (scope_of self.old)) }
+        ensures edition { OnOk result (self.new.edition ≡ self.old.edition) }
+    {
+        self.crates.push(Outside {
+            name: String::from_str(self.alloc, name)?,
+            first,
+            end: self.definitions.len(),
+        })?;
+        Ok(())
     }
 }

@@ -9,7 +9,7 @@ use Rattle.mbe_calls.specs.Splicing.{Part}
 use Rattle.mbe_tt.specs.Trees.Top.{Top}
 use Rattle.mbe_expanding.specs.Calls.{Setting, State}
 use Rattle.mbe_expanding.specs.Replacing.{Adds, IsOfCall, NoneCalled, PartsOfFile}
-use Rattle.mbe_expanding.specs.Defining.{Defines}
+use Rattle.mbe_expanding.specs.Defining.{Defines, DefinesOutside}
 use Rattle.mbe_expanding.specs.Scopes.{Definition, Scope}
 use Rattle.mbe_tt.specs.declared.span.Edition.{Edition}
 use Rattle.mbe_following.specs.Following.{crate_tree}
@@ -17,7 +17,8 @@ use Rattle.mbe_modules.specs.Places.{in_file}
 use Rattle.mbe_expandm.specs.declared.places.Position.{Position}
 use Rattle.mbe_expandm.specs.Crates.{crate_at, crate_of, file_of, is_followed}
 use Rattle.mbe_expandm.specs.Expansions as spec
-use Rattle.mbe_expandm.specs.Expansions.{CrateParts, CratesParts, DefinesCrate, DefinesCrates, FileBecomes, FilesBecome, RootBecomes, TextBecomes, TreeBecomes, is_in, parts_in}
+use Rattle.mbe_expandm.specs.Expansions.{CrateParts, CratesParts, DefinesCrate, DefinesCrates, DefinesOther, DefinesOthers, FileBecomes, FilesBecome, RootBecomes, TextBecomes, TreeBecomes, is_in, parts_in}
+use Rattle.mbe_expandm.specs.Naming.{named_tree}
 use Rattle.mbe_expandm.specs.Sources.{Source}
 use Rattle.mbe_expandm.proofs.SessionLemmas.{map_taken}
 
@@ -92,6 +93,26 @@ pub one_more_defined : (e d : Edition) (levels : ℕ) (follows : Bool) (files : 
 one_more_defined e d levels follows files n s t u before same one =
     spec.one_crate_more n t u before
     (subst (λ x. DefinesCrate x levels (crate_at follows files n) t u) (sym same) one)
+
+-- ---- the definitions of other crates
+
+pub no_others : (c : Option Top) (e : Edition) (levels : ℕ) (name : List ℕ) (s : Scope) → None ≡ c
+    → DefinesOther e levels name c s s
+no_others c e levels name s is = subst (λ x. DefinesOther e levels name x s s) is refl
+
+pub some_others : {X E : Type 0} (r : Result X E) (c : Option Top) (tree : Top) (e : Edition) (levels : ℕ)
+    (name : List ℕ) (s t : Scope) → Some tree ≡ c
+    → OnOk r (DefinesOutside e levels name (named_tree name tree).1 s t) → OnOk r (DefinesOther e levels name c s t)
+some_others r c tree e levels name s t is h = subst (λ x. OnOk r (DefinesOther e levels name x s t)) is h
+
+pub first_other : {X E : Type 0} (r : Result X E) (e d : Edition) (levels : ℕ) (follows : Bool) (files : List Source)
+    (n : ℕ) (s t u : Scope) (name : List ℕ) (names : List (List ℕ)) → d ≡ e
+    → DefinesOther e levels name (crate_at follows files n) s t
+    → OnOk r (DefinesOthers d levels follows files (n + 1) t names u)
+    → OnOk r (DefinesOthers e levels follows files n s (name ∷ names) u)
+first_other (Ok x) e d levels follows files n s t u name names same one more =
+    spec.one_other n s t u name names one (subst (λ x. DefinesOthers x levels follows files (n + 1) t names u) same more)
+first_other (Err x) e d levels follows files n s t u name names same one more = tt
 
 -- ---- its parts
 

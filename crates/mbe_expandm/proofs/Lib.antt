@@ -1,6 +1,7 @@
 mod CrateLemmas
 mod FeedLemmas
 mod LintLemmas
+mod NamingLemmas
 mod PlaceEditions
 mod PlaceLemmas
 mod RefusedEditions

@@ -7,11 +7,12 @@ use Rattle.std.proofs.lemmas.Option.{slice_get-get_or}
 use Rattle.std.proofs.lemmas.List.{length-map, map-append, take_more}
 use Rattle.mbe_calls.specs.Splicing.{Part}
 use Rattle.mbe_expanding.specs.Calls.{Setting, State}
+use Rattle.mbe_expanding.specs.Scopes.{Scope}
 use Rattle.mbe_expandm.specs.declared.places.Position.{Position}
 use Rattle.mbe_expandm.specs.declared.reading.Reading.{Reading}
 use Rattle.mbe_expandm.specs.Conditions.{Conditions}
 use Rattle.mbe_expandm.specs.Expansions as spec
-use Rattle.mbe_expandm.specs.Expansions.{IsThere, RootBecomes, TextsThere, WritesOne}
+use Rattle.mbe_expandm.specs.Expansions.{DefinesCrates, DefinesOthers, IsThere, RootBecomes, TextsThere, WritesOne}
 use Rattle.mbe_expandm.specs.Runs.{IsBegun, IsPrinted}
 use Rattle.mbe_expandm.specs.Sources as sources
 use Rattle.mbe_expandm.specs.Sources.{AreSources, IsSource, Source, Text, source_text}
@@ -87,16 +88,18 @@ is_there (x ∷ xs) n h e = some_is_none (sym (slice_get-get_or (x ∷ xs) n x h
     some_is_none e = grind (arith, common_steps)
 
 printed_by : {T E : Type 0} (edition : Edition) (c : Conditions) (depth : Option ℕ) (fuel : ℕ)
-    (call : Option Position) (follows : Bool) (given : ℕ) (texts : List Text) (files : List Source)
+    (call : Option Position) (follows : Bool) (given : ℕ) (others : List (List ℕ)) (texts : List Text)
+    (files : List Source)
     (e : Setting) (s t : State) (before after : Option (List ℕ)) (r : Result T E) (found : Option Source)
-    → IsBegun edition c depth fuel follows given texts files e s → given - 1 < length files
+    → IsBegun edition c depth fuel follows given others texts files e s → given - 1 < length files
     → slice_get files (given - 1) ≡ found
     → IfSome found (λ root. WritesOne before after r
     (λ out. RootBecomes e 1000 call follows files (given - 1) root s out t))
-    → WritesOne before after r (IsPrinted edition c depth fuel call follows given texts)
-printed_by edition c depth fuel call follows given texts files e s t before after r None begun within is last =
+    → WritesOne before after r (IsPrinted edition c depth fuel call follows given others texts)
+printed_by edition c depth fuel call follows given others texts files e s t before after r None begun within is last =
     absurd (is_there files (given - 1) within is)
-printed_by edition c depth fuel call follows given texts files e s t before after r (Some root) begun within is last =
+printed_by edition c depth fuel call follows given others texts files e s t before after r (Some root) begun within is
+    last =
     elim last [
       | inl none ↦ inl none
       | inr one ↦ inr (
@@ -117,24 +120,44 @@ printed_by edition c depth fuel call follows given texts files e s t before afte
 
 -- Of values that are the same, as a call of `write_last` has them.
 pub printed : {T E : Type 0} (edition : Edition) (c : Conditions) (depth : Option ℕ) (fuel : ℕ)
-    (call asked : Option Position) (follows followed : Bool) (given n : ℕ) (texts : List Text)
+    (call asked : Option Position) (follows followed : Bool) (given n : ℕ) (others : List (List ℕ))
+    (texts : List Text)
     (files seen : List Source)
     (e : Setting) (s t : State) (before after : Option (List ℕ)) (r : Result T E)
-    → IsBegun edition c depth fuel follows given texts files e s → 0 < given → given ≤ length texts
+    → IsBegun edition c depth fuel follows given others texts files e s → 0 < given → given ≤ length texts
     → asked ≡ call → followed ≡ follows → n ≡ given → seen ≡ files
     → IfSome (slice_get seen (n - 1)) (λ root. WritesOne before after r
     (λ out. RootBecomes e 1000 asked followed seen (n - 1) root s out t))
-    → WritesOne before after r (IsPrinted edition c depth fuel call follows given texts)
-printed edition c depth fuel call asked follows followed given n texts files seen e s t before after r begun some few
-    same_call same_follows same_number same_files last =
+    → WritesOne before after r (IsPrinted edition c depth fuel call follows given others texts)
+printed edition c depth fuel call asked follows followed given n others texts files seen e s t before after r begun
+    some few same_call same_follows same_number same_files last =
     let within : given - 1 < length files =
     omega (arith, some, few, ap length begun.texts_are, length-map files source_text) in
     let Last : Option Position → Bool → List Source → ℕ → Type 0 = λ k f fs m.
     IfSome (slice_get fs (m - 1)) (λ root. WritesOne before after r
     (λ out. RootBecomes e 1000 k f fs (m - 1) root s out t)) in
-    printed_by edition c depth fuel call follows given texts files e s t before after r (slice_get files (given - 1))
-    begun within refl
+    printed_by edition c depth fuel call follows given others texts files e s t before after r
+    (slice_get files (given - 1)) begun within refl
     (subst (λ m. Last call follows files m) same_number
     (subst (λ fs. Last call follows fs n) same_files
     (subst (λ f. Last call f seen n) same_follows
     (subst (λ k. Last k followed seen n) same_call last))))
+
+-- ---- definitions, of values that are the same
+
+pub others_are : (e d : Edition) (follows : Bool) (fs gs : List Source) (n m : ℕ) (s t u : Scope)
+    (xs ys : List (List ℕ)) → e ≡ d → fs ≡ gs → n ≡ m → s ≡ t → xs ≡ ys → DefinesOthers e 1001 follows fs n s xs u
+    → DefinesOthers d 1001 follows gs m t ys u
+others_are e d follows fs gs n m s t u xs ys edition files number scope names h =
+    subst (λ x. DefinesOthers x 1001 follows gs m t ys u) edition
+    (subst (λ x. DefinesOthers e 1001 follows x m t ys u) files
+    (subst (λ x. DefinesOthers e 1001 follows fs x t ys u) number
+    (subst (λ x. DefinesOthers e 1001 follows fs n x ys u) scope
+    (subst (λ x. DefinesOthers e 1001 follows fs n s x u) names h))))
+
+pub crates_are : (e d : Edition) (follows : Bool) (fs gs : List Source) (n m : ℕ) (s t : Scope) → e ≡ d → fs ≡ gs
+    → n ≡ m → DefinesCrates e 1001 follows fs s n t → DefinesCrates d 1001 follows gs s m t
+crates_are e d follows fs gs n m s t edition files number h =
+    subst (λ x. DefinesCrates x 1001 follows gs s m t) edition
+    (subst (λ x. DefinesCrates e 1001 follows x s m t) files
+    (subst (λ x. DefinesCrates e 1001 follows fs s x t) number h))

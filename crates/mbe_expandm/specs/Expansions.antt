@@ -6,11 +6,12 @@ use Rattle.mbe_tt.specs.Trees.Top.{Top}
 use Rattle.mbe_calls.specs.Splicing.{Part, spliced}
 use Rattle.mbe_text.specs.Writing.{Writes}
 use Rattle.mbe_expanding.specs.Calls.{Setting, State}
-use Rattle.mbe_expanding.specs.Defining.{Defines}
+use Rattle.mbe_expanding.specs.Defining.{Defines, DefinesOutside}
 use Rattle.mbe_expanding.specs.Replacing.{IsOfCall, PartsOfFile}
 use Rattle.mbe_expanding.specs.Scopes.{Scope}
 use Rattle.mbe_expandm.specs.declared.places.Position.{Position}
 use Rattle.mbe_expandm.specs.Crates.{crate_at, crate_of}
+use Rattle.mbe_expandm.specs.Naming.{named_tree}
 use Rattle.mbe_expandm.specs.Places.{IsPlace}
 use Rattle.mbe_expandm.specs.Returns.{placed_part, plain, returns}
 use Rattle.mbe_expandm.specs.Sources.{Source}
@@ -29,6 +30,21 @@ pub data DefinesCrates (edition : Edition) (levels : ℕ) (follows : Bool) (file
   one_crate_more : (n : ℕ) (t u : Scope) → DefinesCrates edition levels follows files s n t
       → DefinesCrate edition levels (crate_at follows files n) t u
       → DefinesCrates edition levels follows files s (n + 1) u
+
+-- the definitions of another crate's trees are read as those of that crate, whose name is in place of `$crate`
+abbrev pub DefinesOther : Edition → ℕ → List ℕ → Option Top → Scope → Scope → Type 0
+DefinesOther edition levels name None s u = u ≡ s
+DefinesOther edition levels name (Some tree) s u =
+    DefinesOutside edition levels name (named_tree name tree).1 s u
+
+-- those of the crates of these names, whose roots are the files from that number on
+pub data DefinesOthers (edition : Edition) (levels : ℕ) (follows : Bool) (files : List Source)
+    : ℕ → Scope → List (List ℕ) → Scope → Type 0 where
+  no_other : (n : ℕ) (s : Scope) → DefinesOthers edition levels follows files n s [] s
+  one_other : (n : ℕ) (s t u : Scope) (name : List ℕ) (names : List (List ℕ))
+      → DefinesOther edition levels name (crate_at follows files n) s t
+      → DefinesOthers edition levels follows files (n + 1) t names u
+      → DefinesOthers edition levels follows files n s (name ∷ names) u
 
 -- ---- parts
 

@@ -3,6 +3,7 @@ pub mod Returns
 pub mod Sources
 pub mod Crates
 pub mod Modules
+pub mod Naming
 pub mod Conditions
 pub mod ShownOptions
 pub mod Expansions

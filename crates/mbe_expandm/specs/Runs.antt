@@ -9,10 +9,11 @@ use Rattle.mbe_rust.specs.Keywords.{rows, rust_keywords}
 use Rattle.mbe_rust.specs.Starts.{rust_starts}
 use Rattle.mbe_calls.specs.Splicing.{Part}
 use Rattle.mbe_expanding.specs.Calls.{Setting, State}
+use Rattle.mbe_expanding.specs.Scopes.{Scope}
 use Rattle.mbe_cfg.specs.declared.settings.Settings.{Settings}
 use Rattle.mbe_expandm.specs.declared.places.Position.{Position}
 use Rattle.mbe_expandm.specs.Conditions.{Conditions, IsUnder}
-use Rattle.mbe_expandm.specs.Expansions.{CratesParts, DefinesCrates, FilesBecome, RootBecomes}
+use Rattle.mbe_expandm.specs.Expansions.{CratesParts, DefinesCrates, DefinesOthers, FilesBecome, RootBecomes}
 use Rattle.mbe_expandm.specs.Sources.{Source, Text, AreSources, source_text}
 
 -- how many groups and calls may be in one another
@@ -25,10 +26,10 @@ pub record IsRustTable (edition : Edition) (table : RuleTable) : Type 0 where
   pub starts : table.starts ≡ rust_starts
   pub edition_is : table.edition ≡ edition
 
--- Where a run begins: the files are read, the definitions of the crates whose roots are the first so many are known, in
--- the order of the crates' trees, and no call is expanded yet. The limit of depth is that of the words, or that of the
+-- Where a run begins: the files are read, the definitions of other crates of these names are known, whose roots are the
+-- files after the first so many, and those of the crates whose roots are these, in the order of the crates' trees, and no call is expanded yet. The limit of depth is that of the words, or that of the
 -- files, or 128.
-pub record IsBegun (edition : Edition) (c : Conditions) (depth : Option ℕ) (fuel : ℕ) (follows : Bool) (given : ℕ)
+pub record IsBegun (edition : Edition) (c : Conditions) (depth : Option ℕ) (fuel : ℕ) (follows : Bool) (given : ℕ) (others : List (List ℕ))
     (texts : List Text) (files : List Source) (e : Setting) (s : State) : Type 0 where
   pub texts_are : map source_text files ≡ texts
   pub table : RuleTable
@@ -40,31 +41,34 @@ pub record IsBegun (edition : Edition) (c : Conditions) (depth : Option ℕ) (fu
   pub edition_is : e.edition ≡ edition
   pub limit : Option ℕ
   pub depth_is : e.depth ≡ unwrap_or (option_or depth limit) 128
-  pub defines : DefinesCrates edition 1001 follows files (record { definitions = []; visible = [] }) given s.scope
+  pub known : Scope
+  pub outside : DefinesOthers edition 1001 follows files given
+      (record { definitions = []; visible = []; crates = [] }) others known
+  pub defines : DefinesCrates edition 1001 follows files known given s.scope
   pub fuel_is : s.fuel ≡ fuel
   pub contexts_are : s.contexts ≡ []
 
 -- What is printed of files, of which so many are given, and the others are those of their modules: what the last one
 -- that is given becomes.
 pub record IsPrinted (edition : Edition) (c : Conditions) (depth : Option ℕ) (fuel : ℕ) (call : Option Position)
-    (follows : Bool) (given : ℕ) (texts : List Text) (out : List ℕ) : Type 0 where
+    (follows : Bool) (given : ℕ) (others : List (List ℕ)) (texts : List Text) (out : List ℕ) : Type 0 where
   pub files : List Source
   pub setting : Setting
   pub start : State
   pub end : State
-  pub begins : IsBegun edition c depth fuel follows given texts files setting start
+  pub begins : IsBegun edition c depth fuel follows given others texts files setting start
   pub root : Source
   pub is_last : slice_get files (given - 1) ≡ Some root
   pub becomes : RootBecomes setting 1000 call follows files (given - 1) root start out end
 
 -- what is written of them: what each becomes, by the parts of the crates whose roots are given
 pub record AreWritten (edition : Edition) (c : Conditions) (depth : Option ℕ) (fuel : ℕ) (call : Option Position)
-    (follows : Bool) (given : ℕ) (texts : List Text) (outs : List (List ℕ)) : Type 0 where
+    (follows : Bool) (given : ℕ) (others : List (List ℕ)) (texts : List Text) (outs : List (List ℕ)) : Type 0 where
   pub files : List Source
   pub setting : Setting
   pub start : State
   pub end : State
-  pub begins : IsBegun edition c depth fuel follows given texts files setting start
+  pub begins : IsBegun edition c depth fuel follows given others texts files setting start
   pub parts : List Part
   pub of_crates : CratesParts setting 1000 follows files start given parts end
   pub become : FilesBecome call parts files outs

@@ -1,5 +1,5 @@
 -- What options show, whatever memory holds them.
-use Rattle.std.specs.Prelude.{map}
+use Rattle.std.specs.Prelude.{ℕ, List, map}
 use Rattle.mbe_expandm.specs.Conditions.{Conditions}
 use Rattle.mbe_expandm.specs.declared.arguments.Options.{Options}
 
@@ -10,3 +10,7 @@ conditions_of o = record {
   features = map (λ f. f.now) o.features.items;
   is_test = o.is_test;
 }
+
+-- the names of the other crates
+abbrev pub names_of : {A : Type 0} → Options A → List (List ℕ)
+names_of o = map (λ x. x.name.now) o.externs.items

@@ -29,6 +29,9 @@ options:
   --fuel N          expand N calls at most (100000)
   --call LINE[:COL] print only what the call there becomes
   --no-modules      read no file of a `mod name;`
+  --extern NAME=PATH
+                    expand calls of the macros of the crate NAME too, whose root is
+                    PATH or PATH/src/lib.rs
   --write DIR       write each file into DIR
   --edition YEAR    2015, 2018, 2021 (unless another is given) or 2024
   --cfg NAME, --cfg NAME=\"VALUE\"
@@ -46,6 +49,14 @@ options:
   --json            report in JSON, an object a line, as rustc does
   --help            print this text
   --version         print the version";
+
+/// Another crate.
+#[derive(Clone, Copy, Debug, Drop)]
+pub struct Extern<'w> {
+    pub name: &'w str,
+    /// Its root, or the folder that it is in as `src/lib.rs`.
+    pub path: &'w str,
+}
 
 /// What a run is to do.
 #[derive(Drop)]
@@ -76,6 +87,8 @@ pub struct Options<'w, A: Allocator = Global> {
     pub names: Vec<&'w str, A>,
     /// Whether the files of modules are read, too.
     pub follows: bool,
+    /// The crates whose macros are expanded, too.
+    pub externs: Vec<Extern<'w>, A>,
     pub call: Option<Position>,
     pub write: Option<&'w str>,
 }
@@ -105,6 +118,7 @@ enum Valued {
     Cfg,
     Features,
     Target,
+    Extern,
 }
 
 fn valued_option(word: &str) -> Option<Valued> {
@@ -117,6 +131,7 @@ fn valued_option(word: &str) -> Option<Valued> {
         "--cfg" => Some(Valued::Cfg),
         "--features" => Some(Valued::Features),
         "--target" => Some(Valued::Target),
+        "--extern" => Some(Valued::Extern),
         _ => None,
     }
 }
@@ -163,6 +178,15 @@ fn text_in(word: &str) -> Option<&str> {
     word.strip_prefix('"')?.strip_suffix('"')
 }
 
+// The crate that a word says: `name=path`.
+fn extern_of(word: &str) -> Option<Extern<'_>> {
+    let (name, path) = word.split_once('=')?;
+    if name.is_empty() || path.is_empty() {
+        return None;
+    }
+    Some(Extern { name, path })
+}
+
 // The position that a word says right after `--explain`.
 fn explained_at(last: &str, word: &str) -> Option<Position> {
     match last {
@@ -188,6 +212,7 @@ impl<'w, A: Allocator + Copy> Options<'w, A> {
             is_json: false,
             names: Vec::new(alloc),
             follows: true,
+            externs: Vec::new(alloc),
             call: None,
             write: None,
         }
@@ -232,6 +257,18 @@ impl<'w, A: Allocator + Copy> Options<'w, A> {
         Ok(())
     }
 
+    // Adds the crate that a word says; `None` if it says none, or one of a name that is there.
+    fn add_extern(&mut self, word: &'w str) -> Result<Option<()>, AllocError> {
+        let Some(one) = extern_of(word) else {
+            return Ok(None);
+        };
+        if self.externs.iter().any(|other| other.name == one.name) {
+            return Ok(None);
+        }
+        self.externs.push(one)?;
+        Ok(Some(()))
+    }
+
     // Takes the value of an option; `None` if it isn't right.
     fn take(&mut self, option: Valued, word: &'w str) -> Result<Option<()>, AllocError> {
         match option {
@@ -240,6 +277,7 @@ impl<'w, A: Allocator + Copy> Options<'w, A> {
                 None => return Ok(None),
             },
             Valued::Features => self.add_features(word)?,
+            Valued::Extern => return self.add_extern(word),
             Valued::Depth
             | Valued::Fuel
             | Valued::Call
@@ -259,7 +297,7 @@ impl<'w, A: Allocator + Copy> Options<'w, A> {
             Valued::Write => self.write = Some(word),
             Valued::Edition => self.edition = edition(word)?,
             Valued::Target => self.target = target(word)?,
-            Valued::Cfg | Valued::Features => return None,
+            Valued::Cfg | Valued::Features | Valued::Extern => return None,
         }
         Some(())
     }

@@ -110,8 +110,32 @@ fn reached<R: Files + Input + Eprint + AllocGlobal>(
             }
         }
     }
+    if !add_externs(rt, options, form, &mut reached)? {
+        return Ok(None);
+    }
     reached.follow(rt, options)?;
     Ok(Some(reached))
+}
+
+// Adds the roots of the other crates; definitions alone don't need these. It returns whether all can be read.
+fn add_externs<R: Files + Eprint + AllocGlobal>(
+    rt: &R,
+    options: &Options<'_>,
+    form: Option<Form>,
+    reached: &mut Reached,
+) -> io::Result<bool> {
+    if options.is_lint {
+        return Ok(true);
+    }
+    for one in &options.externs {
+        if let Err(error) = reached.add_outside(rt, options, one.path) {
+            let (name, path) = (one.name, one.path);
+            let message = format!(in rt.alloc(); "couldn't read `{path}` for `{name}`: {error}")?;
+            say_error(rt, form, message.as_str())?;
+            return Ok(false);
+        }
+    }
+    Ok(true)
 }
 
 fn run_files<R: Files + Input + Print + Eprint + AllocGlobal>(
@@ -188,24 +212,37 @@ fn target(
     }
 }
 
-// Where the files are written, from that folder on; an error's text if one has no place, or two have the same.
+fn is_among(targets: &[Option<String>], target: &str) -> bool {
+    targets.iter().any(|other| match other {
+        Some(other) => other.as_str() == target,
+        None => false,
+    })
+}
+
+// Where the files are written, from that folder on, those of other crates nowhere; an error's text if one has no place, or two
+// have the same.
 fn targets(
     alloc: Global,
     reached: &Reached,
     folder: &str,
-) -> Result<Result<Vec<String>, String>, AllocError> {
-    let mut found: Vec<String> = Vec::new(alloc);
+    given: usize,
+) -> Result<Result<Vec<Option<String>>, String>, AllocError> {
+    let mut found: Vec<Option<String>> = Vec::new(alloc);
     for number in 0..reached.texts.len() {
+        if !reached.is_own(number, given) {
+            found.push(None)?;
+            continue;
+        }
         let (path, root) = reached.path(number).unwrap_or(("", None));
         match target(alloc, path, root)? {
             Err(message) => return Ok(Err(message)),
             Ok(target) => {
-                if found.iter().any(|other| other.as_str() == target.as_str()) {
+                if is_among(found.as_slice(), target.as_str()) {
                     return Ok(Err(format!(in alloc;
                         "two files would be written as `{folder}/{target}`"
                     )?));
                 }
-                found.push(target)?;
+                found.push(Some(target))?;
             }
         }
     }
@@ -234,7 +271,7 @@ fn write_files<R: Files + Eprint + AllocGlobal>(
     reached: &Reached,
     folder: &str,
 ) -> io::Result<u8> {
-    let targets = match targets(rt.alloc(), reached, folder)? {
+    let targets = match targets(rt.alloc(), reached, folder, options.names.len())? {
         Ok(targets) => targets,
         Err(message) => {
             say_error(rt, form, message.as_str())?;
@@ -243,6 +280,9 @@ fn write_files<R: Files + Eprint + AllocGlobal>(
     };
     let (session, written) = write(rt.alloc(), options, reached.texts.as_slice())?;
     for (target, text) in targets.iter().zip(written.iter()) {
+        let Some(target) = target else {
+            continue;
+        };
         if let Err(error) = write_text(rt, folder, target.as_str(), text.as_str()) {
             let message = format!(in rt.alloc(); "couldn't write `{folder}/{target}`: {error}")?;
             say_error(rt, form, message.as_str())?;

@@ -1,22 +1,28 @@
 // The definitions of crates, and the parts of their files that are replaced.
-ghost use Rattle.std.specs.Prelude.{◌≡◌, [], None, IfOk, IfSome, OnOk, map, suc, true};
+ghost use Rattle.std.specs.Prelude.{◌≡◌, ◌+◌, ◌<◌, ◌^◌, [], None, IfOk, IfSome, OnOk, length};
+ghost use Rattle.std.specs.Prelude.{map, suc, true};
 ghost use Rattle.std.specs.List.{All};
 ghost use Rattle.mbe_calls.specs.Replacements.{part_of};
-ghost use Rattle.mbe_expanding.specs.Defining.{Defines};
+ghost use Rattle.mbe_expanding.specs.Defining.{Defines, DefinesOutside};
 ghost use Rattle.mbe_expanding.specs.Replacing.{Adds, IsOfCall, NoneCalled, PartsOfFile};
 ghost use Rattle.mbe_expanding.specs.Shown.{setting_of, state_of};
 ghost use Rattle.mbe_expandm.specs.Crates.{crate_at, crate_of, file_of, is_followed};
 ghost use Rattle.mbe_expandm.specs.Expansions.{CrateParts, CratesParts, DefinesCrate, DefinesCrates};
+ghost use Rattle.mbe_expandm.specs.Expansions.{DefinesOther, DefinesOthers};
+ghost use Rattle.mbe_expandm.specs.Naming.{named_tree};
 ghost use Rattle.mbe_expandm.specs.ShownFiles.{source_of};
 ghost use Rattle.mbe_following.specs.Following.{crate_tree};
 ghost use Rattle.mbe_following.specs.Shown.{file_shown};
 ghost use Rattle.mbe_modules.specs.Places as places;
 
+use crate::arguments::Extern;
 use crate::files::SourceFile;
 use crate::modules::note_unfound;
+use crate::naming::named_tree;
 use mbe_calls::splicing::Replacement;
 use mbe_expanding::expander::{Expander, LEVELS};
 use mbe_expanding::notes::Note;
+use mbe_expanding::scope::buffer_of;
 use mbe_following::following::follow;
 use mbe_following::taking::File;
 use mbe_modules::places::Place;
@@ -161,6 +167,118 @@ pub fn define_crates(
         define_crate(alloc, follows, expander, files, number)?;
     }
     Ok(())
+}
+
+// The tree of the crate whose root is the file of that number, if there is one and it is Rust. Of its modules nothing is said.
+fn outside_tree(
+    alloc: Global,
+    follows: bool,
+    files: &[SourceFile<'_>],
+    number: usize,
+) -> Result<Option<TopSubtree>, AllocError>
+    ensures { IfOk result (λ t. t ≡ crate_at follows (map source_of files.now) number) }
+{
+    match files.get(number) {
+        Some(root) => root_tree(alloc, follows, files, number, root),
+        None => Ok(None),
+    }
+}
+
+// The same of that root.
+fn root_tree(
+    alloc: Global,
+    follows: bool,
+    files: &[SourceFile<'_>],
+    number: usize,
+    root: &SourceFile<'_>,
+) -> Result<Option<TopSubtree>, AllocError>
+    ensures { IfOk result (λ t.
+        t ≡ crate_of follows (map source_of files.now) number (source_of root.now)) }
+{
+    let Some(tree) = &root.tree else {
+        return Ok(None);
+    };
+    if !is_followed(follows, root.name) {
+        return Ok(Some(copied(alloc, tree)?));
+    }
+    let mut unsaid = Vec::new(alloc);
+    let tree = crate_tree(alloc, &mut unsaid, files, number, root.name, tree)?;
+    Ok(Some(tree))
+}
+
+fn copied(alloc: Global, tree: &TopSubtree) -> Result<TopSubtree, AllocError>
+    ensures { IfOk result (λ t. t ≡ tree.now) }
+{
+    buffer_of(alloc, tree.top_subtree().delimiter, tree.iter().remaining())
+}
+
+// Has the expander know the definitions of these trees as those of the crate of that name.
+fn define_named(
+    alloc: Global,
+    expander: &mut Expander<'_>,
+    name: &str,
+    tree: &TopSubtree,
+) -> Result<(), AllocError>
+    ensures defines { OnOk result (DefinesOutside (setting_of expander.old).edition (suc LEVELS)
+        name.now (named_tree name.now tree.now).1
+        (state_of expander.old).scope (state_of expander.new).scope) }
+    ensures fuel { OnOk result ((state_of expander.new).fuel ≡ (state_of expander.old).fuel) }
+    ensures contexts { OnOk result ((state_of expander.new).contexts
+        ≡ (state_of expander.old).contexts) }
+    ensures setting { OnOk result (setting_of expander.new ≡ setting_of expander.old) }
+{
+    let named = named_tree(alloc, name, tree)?;
+    expander.define_outside(name, named.iter().remaining())
+}
+
+// Has the expander know the definitions of the crate of that name, whose root is the file of that number.
+fn define_other(
+    alloc: Global,
+    follows: bool,
+    expander: &mut Expander<'_>,
+    files: &[SourceFile<'_>],
+    number: usize,
+    name: &str,
+) -> Result<(), AllocError>
+    ensures defines { OnOk result (DefinesOther (setting_of expander.old).edition (suc LEVELS)
+        name.now (crate_at follows (map source_of files.now) number)
+        (state_of expander.old).scope (state_of expander.new).scope) }
+    ensures fuel { OnOk result ((state_of expander.new).fuel ≡ (state_of expander.old).fuel) }
+    ensures contexts { OnOk result ((state_of expander.new).contexts
+        ≡ (state_of expander.old).contexts) }
+    ensures setting { OnOk result (setting_of expander.new ≡ setting_of expander.old) }
+{
+    match outside_tree(alloc, follows, files, number)? {
+        Some(tree) => define_named(alloc, expander, name, &tree),
+        None => Ok(()),
+    }
+}
+
+/// Has the expander know the definitions of other crates, whose roots are the files after the first so many, one crate after another.
+pub fn define_others(
+    alloc: Global,
+    follows: bool,
+    expander: &mut Expander<'_>,
+    files: &[SourceFile<'_>],
+    given: usize,
+    externs: &[Extern<'_>],
+) -> Result<(), AllocError>
+    requires numbers { given + length externs.now < 2 ^ 64 }
+    ensures defines { OnOk result (DefinesOthers (setting_of expander.old).edition (suc LEVELS)
+        follows (map source_of files.now) given (state_of expander.old).scope
+        (map (λ x. x.name.now) externs.now) (state_of expander.new).scope) }
+    ensures fuel { OnOk result ((state_of expander.new).fuel ≡ (state_of expander.old).fuel) }
+    ensures contexts { OnOk result ((state_of expander.new).contexts
+        ≡ (state_of expander.old).contexts) }
+    ensures setting { OnOk result (setting_of expander.new ≡ setting_of expander.old) }
+{
+    match externs {
+        [] => Ok(()),
+        [one, rest @ ..] => {
+            define_other(alloc, follows, expander, files, given, one.name)?;
+            define_others(alloc, follows, expander, files, given + 1, rest)
+        }
+    }
 }
 
 // The texts that spans of the files are in.

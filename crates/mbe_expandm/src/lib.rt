@@ -11,6 +11,7 @@ pub mod lines;
 pub mod linting;
 pub mod messages;
 pub mod modules;
+pub mod naming;
 pub mod places;
 pub mod reached;
 pub mod reading;

@@ -102,6 +102,33 @@ impl Reached {
         }
     }
 
+    /// Adds the root of another crate: the file of that path, or `src/lib.rs` in that folder.
+    pub fn add_outside<R: Files + AllocGlobal>(
+        &mut self,
+        rt: &R,
+        options: &Options<'_>,
+        path: &str,
+    ) -> io::Result<()> {
+        match file_text(rt, path) {
+            Ok(text) => self.add_root(rt.alloc(), options, path, text),
+            Err(error) => {
+                let root = format!(in rt.alloc(); "{path}/src/lib.rs")?;
+                match file_text(rt, root.as_str()) {
+                    Ok(text) => self.add_root(rt.alloc(), options, root.as_str(), text),
+                    Err(_) => Err(error),
+                }
+            }
+        }
+    }
+
+    /// Whether the file of that number is of a crate of which the words name a file, and these name so many.
+    pub fn is_own(&self, number: usize, given: usize) -> bool {
+        match self.roots.get(number) {
+            Some(root) => *root < given,
+            None => false,
+        }
+    }
+
     // The modules of the file of that number whose content is in other files.
     fn modules(
         &self,

@@ -6,12 +6,12 @@ ghost use Rattle.mbe_expanding.specs.Shown.{setting_of, state_of};
 ghost use Rattle.mbe_expandm.specs.Expansions.{WritesOne};
 ghost use Rattle.mbe_expandm.specs.Runs.{AreWritten, IsBegun, IsPrinted};
 ghost use Rattle.mbe_expandm.specs.ShownFiles.{source_of, sources_of, text_of};
-ghost use Rattle.mbe_expandm.specs.ShownOptions.{conditions_of};
+ghost use Rattle.mbe_expandm.specs.ShownOptions.{conditions_of, names_of};
 ghost use Rattle.mbe_expandm.specs.Sources.{AreSources, source_text};
 ghost use Rattle.mbe_expandm.specs.Statuses.{is_error, status_of};
 
 use crate::arguments::Options;
-use crate::crates::{crates_parts, define_crates};
+use crate::crates::{crates_parts, define_crates, define_others};
 use crate::expansions::{Wanted, file_texts, write_last};
 use crate::files::{SourceFile, source_file};
 use crate::limits::recursion_limit;
@@ -74,9 +74,9 @@ pub fn sources<'f>(
     Ok(files)
 }
 
-// The limit of depth that the first file sets that sets one.
-fn limit_of(files: &[SourceFile<'_>]) -> Option<u32> {
-    for file in files {
+// The limit of depth that the first of the first so many files sets that sets one.
+fn limit_of(files: &[SourceFile<'_>], given: usize) -> Option<u32> {
+    for file in files.iter().take(given) {
         if let Some(tree) = &file.tree
             && let Some(limit) = recursion_limit(tree.iter().remaining())
         {
@@ -102,7 +102,7 @@ impl<'f> Session<'f> {
     ) -> Result<Session<'f>, AllocError>
         ensures { IfOk result (λ s. IsBegun options.now.edition
             (conditions_of options.now) options.now.depth options.now.fuel options.now.follows
-            (length options.now.names.items) (map text_of texts.now) (sources_of s)
+            (length options.now.names.items) (names_of options.now) (map text_of texts.now) (sources_of s)
             (setting_of s.expander) (state_of s.expander)) }
     {
         let mut notes = Vec::new(alloc);
@@ -115,8 +115,17 @@ impl<'f> Session<'f> {
         let files = sources(alloc, &reading, texts, &mut notes)?;
         let given = options.names.len();
         let explain = explained(options.explain, files.as_slice(), given);
-        let settings = options.settings(limit_of(&files), explain);
+        let settings = options.settings(limit_of(&files, given), explain);
         let mut expander = Expander::new(alloc, grammar, settings);
+        let externs = options.externs.as_slice();
+        define_others(
+            alloc,
+            options.follows,
+            &mut expander,
+            &files,
+            given,
+            externs,
+        )?;
         define_crates(alloc, options.follows, &mut expander, &files, given)?;
         Ok(Session {
             files,
@@ -162,7 +171,7 @@ pub fn print<'f, W: Write>(
         → WritesOne (W.contents out.old) (W.contents out.new) r.1
         (IsPrinted options.now.edition (conditions_of options.now) options.now.depth
         options.now.fuel options.now.call options.now.follows
-        (length options.now.names.items) (map text_of texts.now))) }
+        (length options.now.names.items) (names_of options.now) (map text_of texts.now))) }
 {
     let mut session = Session::begin(alloc, options, texts)?;
     let asked = wanted(options);
@@ -180,7 +189,7 @@ pub fn write<'f>(
 ) -> Result<(Session<'f>, Vec<String>), AllocError>
     ensures { IfOk result (λ r. AreWritten options.now.edition (conditions_of options.now)
         options.now.depth options.now.fuel options.now.call options.now.follows
-        (length options.now.names.items) (map text_of texts.now)
+        (length options.now.names.items) (names_of options.now) (map text_of texts.now)
         (map string_bytes r.1.items)) }
 {
     let mut session = Session::begin(alloc, options, texts)?;

@@ -16,6 +16,8 @@ mod linted;
 #[cfg(test)]
 mod modules;
 #[cfg(test)]
+mod outside;
+#[cfg(test)]
 mod places;
 #[cfg(test)]
 mod programs;

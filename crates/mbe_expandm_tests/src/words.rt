@@ -54,6 +54,14 @@ missing: --features
 run: --target wasm32-unknown-unknown a.rs
 wrong: --target wasm32 a.rs
 run: --test a.rs
+run: --extern b=b.rs a.rs
+run: --extern b=b.rs --extern c=b.rs a.rs
+no file: --extern b=b.rs
+wrong: --extern b a.rs
+wrong: --extern b= a.rs
+wrong: --extern =b.rs a.rs
+wrong: --extern b=b.rs --extern b=c.rs a.rs
+missing: --extern
 run: --lint a.rs
 no file: --lint --json
 run: --explain a.rs

@@ -1,10 +1,11 @@
 // The definitions of files.
-ghost use Rattle.std.specs.Prelude.{◌≡◌, ◌&&◌, suc, false, true, OnOk};
+ghost use Rattle.std.specs.Prelude.{◌≡◌, ◌&&◌, suc, true, OnOk};
 ghost use Rattle.mbe_tt.specs.Views.Element.{element_tree};
 ghost use Rattle.mbe_tt.specs.Views.View.{trees};
 ghost use Rattle.mbe_calls.specs.Shown.{defined_shown};
-ghost use Rattle.mbe_expanding.specs.Defining.{Defines, DefinesTree};
-ghost use Rattle.mbe_expanding.specs.Defining.{after_group, after_tree, marked, reach_of};
+ghost use Rattle.mbe_expanding.specs.Defining.{Defines, DefinesOutside, DefinesTree};
+ghost use Rattle.mbe_expanding.specs.Defining.{after_definition, after_group, after_tree};
+ghost use Rattle.mbe_expanding.specs.Defining.{is_offered, marked, reach_of, unmarked};
 ghost use Rattle.mbe_expanding.specs.Defining.{with_attribute};
 ghost use Rattle.mbe_expanding.specs.Shown.{scope_of, setting_of, state_of};
 
@@ -20,15 +21,18 @@ use std::alloc::{AllocError, Allocator};
 pub(crate) struct Marks {
     is_exported: bool,
     is_used: bool,
+    // Whether the compiler has what the macro is.
+    is_builtin: bool,
 }
 
 impl Marks {
     fn none() -> Marks
-        ensures { result ≡ record { is_exported = false; is_used = false } }
+        ensures { result ≡ unmarked }
     {
         Marks {
             is_exported: false,
             is_used: false,
+            is_builtin: false,
         }
     }
 
@@ -39,11 +43,15 @@ impl Marks {
         match name {
             "macro_export" => Marks {
                 is_exported: true,
-                is_used: self.is_used,
+                ..self
             },
             "macro_use" => Marks {
-                is_exported: self.is_exported,
                 is_used: true,
+                ..self
+            },
+            "rustc_builtin_macro" => Marks {
+                is_builtin: true,
+                ..self
             },
             _ => self,
         }
@@ -81,12 +89,20 @@ impl Marks {
 
     // After a definition, which the export was of.
     fn after_definition(self) -> Marks
-        ensures { result ≡ record { is_exported = false; is_used = self.is_used } }
+        ensures { result ≡ after_definition self }
     {
         Marks {
             is_exported: false,
             is_used: self.is_used,
+            is_builtin: false,
         }
+    }
+
+    // Whether other crates find a definition that these precede.
+    fn is_offered<A: Allocator>(self, defined: Defined<'_, A>) -> bool
+        ensures { result ≡ is_offered self (defined_shown defined.entry) }
+    {
+        (self.is_exported || defined.is_item()) && !self.is_builtin
     }
 
     // What finds a definition that these precede.
@@ -94,7 +110,9 @@ impl Marks {
         ensures { result ≡ reach_of is_top self (defined_shown defined.entry) }
     {
         let name = defined.name.sym.as_str();
-        if self.is_exported || defined.is_item() || is_used_in(name, defined.rest) {
+        if self.is_offered(defined) {
+            Reach::Crates
+        } else if is_used_in(name, defined.rest) {
             Reach::Paths
         } else if is_top {
             Reach::Files
@@ -123,6 +141,25 @@ impl<A: Allocator + Copy> Expander<'_, A> {
         ensures setting { OnOk result (setting_of self.new ≡ setting_of self.old) }
     {
         self.define_in(tokens, true, LEVELS)
+    }
+
+    /// Reads the definitions of another crate's trees, as those of that crate. From then on, those that it offers are found by paths
+    /// that begin with its name, and by names that find no other, if no other crate offers one.
+    pub fn define_outside(
+        &mut self,
+        name: &str,
+        tokens: TokenTreesView<'_, A>,
+    ) -> Result<(), AllocError>
+        ensures defines { OnOk result (DefinesOutside (setting_of self.old).edition (suc LEVELS)
+            name.now (trees tokens.entry) (state_of self.old).scope (state_of self.new).scope) }
+        ensures fuel { OnOk result ((state_of self.new).fuel ≡ (state_of self.old).fuel) }
+        ensures contexts { OnOk result ((state_of self.new).contexts
+            ≡ (state_of self.old).contexts) }
+        ensures setting { OnOk result (setting_of self.new ≡ setting_of self.old) }
+    {
+        let first = self.scope.count();
+        self.define(tokens)?;
+        self.scope.close_crate(name, first)
     }
 
     // Reads the definitions among trees, where `is_top` says whether they are in no group.

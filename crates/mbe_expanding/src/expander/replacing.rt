@@ -327,7 +327,7 @@ impl<A: Allocator + Copy> Expander<'_, A> {
     fn is_builtin(&self, name: &str) -> bool
         ensures { result ≡ spec.is_builtin (state_of self.now) name.now }
     {
-        match self.scope.find(name, false) {
+        match self.scope.by_name(name) {
             Some(_) => false,
             None => true,
         }

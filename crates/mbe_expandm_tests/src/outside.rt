@@ -1,0 +1,195 @@
+// What calls of macros of other crates become.
+use crate::runs::{none, notes_len, texts_of, words_of, written};
+use mbe_expandm::sessions::Named;
+use std::alloc::{AllocError, Global};
+
+// Words; files, each `PATH: TEXT` with a `|` between them, the one that the words name first, and then the roots of other crates; what
+// the first file becomes; and how many notes there are.
+type Row = (&'static str, &'static str, &'static str, usize);
+
+static ROWS: [Row; 24] = [
+    (
+        "--extern b=b.rs a.rs",
+        "a.rs: x = b::m!() + ::b::m!();|b.rs: #[macro_export] macro_rules! m { () => { 1 } }",
+        "x = 1 + 1;",
+        0,
+    ),
+    (
+        "--extern b=b.rs a.rs",
+        "a.rs: use b::m; x = m!();|b.rs: #[macro_export] macro_rules! m { () => { 1 } }",
+        "use b::m; x = 1;",
+        0,
+    ),
+    (
+        "--extern b=b.rs a.rs",
+        "a.rs: #[macro_use] extern crate b; mod a { fn f() { m!() } }|b.rs: mod n { #[macro_export] macro_rules! m { () => { 1 } } }",
+        "#[macro_use] extern crate b; mod a { fn f() { 1 } }",
+        0,
+    ),
+    (
+        "--extern b=b.rs a.rs",
+        "a.rs: x = b::m!() + m!();|b.rs: macro_rules! m { () => { 1 } } pub(crate) use m;",
+        "x = b::m!() + m!();",
+        0,
+    ),
+    (
+        "--extern b=b.rs a.rs",
+        "a.rs: x = b::m!();|b.rs: #[cfg(no)] #[macro_export] macro_rules! m { () => { 1 } }",
+        "x = b::m!();",
+        0,
+    ),
+    (
+        "--extern b=b.rs a.rs",
+        "a.rs: x = b::m!();|b.rs: #[rustc_builtin_macro] #[macro_export] macro_rules! m { () => { 1 } }",
+        "x = b::m!();",
+        0,
+    ),
+    (
+        "--extern b=b.rs a.rs",
+        "a.rs: x = b::m!() + b::n!();|b.rs: #[rustc_builtin_macro] #[macro_export] macro_rules! m { () => { 1 } } #[macro_export] macro_rules! n { () => { 2 } }",
+        "x = b::m!() + 2;",
+        0,
+    ),
+    (
+        "--extern b=b.rs a.rs",
+        "a.rs: x = b::n::m!();|b.rs: pub mod n { pub macro m() { 1 } }",
+        "x = 1;",
+        0,
+    ),
+    (
+        "--extern b=b.rs a.rs",
+        "a.rs: macro_rules! m { () => { 2 } } x = m!() + b::m!();|b.rs: #[macro_export] macro_rules! m { () => { 1 } }",
+        "macro_rules! m { () => { 2 } } x = 2 + 1;",
+        0,
+    ),
+    (
+        "--extern b=b.rs a.rs",
+        "a.rs: #[macro_export] macro_rules! m { () => { b::m!() } } x = [m!(), crate::m!()];|b.rs: #[macro_export] macro_rules! m { () => { 1 } }",
+        "#[macro_export] macro_rules! m { () => { b::m!() } } x = [1, 1];",
+        0,
+    ),
+    (
+        "--extern b=b.rs a.rs",
+        "a.rs: mod n { x = m!(); } mod o { macro_rules! m { () => { 2 } } }|b.rs: #[macro_export] macro_rules! m { () => { 1 } }",
+        "mod n { x = 1; } mod o { macro_rules! m { () => { 2 } } }",
+        0,
+    ),
+    (
+        "--extern b=b.rs a.rs",
+        "a.rs: x = d::m!();|b.rs: #[macro_export] macro_rules! m { () => { 1 } }",
+        "x = d::m!();",
+        0,
+    ),
+    (
+        "--extern b=b.rs a.rs",
+        "a.rs: x = b::m!();|b.rs: #[macro_export] macro_rules! m { () => { $crate::f() } }",
+        "x = ::b::f();",
+        0,
+    ),
+    (
+        "--extern b=b.rs a.rs",
+        "a.rs: b::m!();|b.rs: #[macro_export] macro_rules! m { () => { fn f(x:$crate::T) {} } }",
+        "fn f(x: ::b::T) {}",
+        0,
+    ),
+    (
+        "--extern b=b.rs a.rs",
+        "a.rs: x = b::m!();|b.rs: #[macro_export] macro_rules! m { () => { $crate::n!() } } #[macro_export] macro_rules! n { () => { 3 } }",
+        "x = 3;",
+        0,
+    ),
+    (
+        "--extern b=b.rs a.rs",
+        "a.rs: x = b::m!();|b.rs: #[macro_export] macro_rules! m { () => { n!() } } #[macro_export] macro_rules! n { () => { 3 } }",
+        "x = 3;",
+        0,
+    ),
+    (
+        "--extern b=b.rs a.rs",
+        "a.rs: x = b::m!();|b.rs: #[macro_export] macro_rules! m { () => { f(n!(), $crate::n!()) } } macro_rules! n { () => { 3 } }",
+        "x = f(n!(), ::b::n!());",
+        0,
+    ),
+    (
+        "--extern b=b.rs a.rs",
+        "a.rs: x = b::m!();|b.rs: #[macro_export] macro_rules! m { () => { crate::f() } } x = m!();",
+        "x = crate::f();",
+        0,
+    ),
+    (
+        "--extern b=b.rs a.rs",
+        "a.rs: fn f(a: i32) -> i32 { b::m!(a) }|b.rs: #[macro_export] macro_rules! m { ($x:expr) => {{ let a = 1; $x + a }} }",
+        "fn f(a: i32) -> i32 { {\n    let a_1 = 1;\n    a + a_1\n} }",
+        0,
+    ),
+    (
+        "--extern b=b.rs --extern c=c.rs a.rs",
+        "a.rs: x = b::m!() + c::m!() + m!();|b.rs: #[macro_export] macro_rules! m { () => { 1 } }|c.rs: #[macro_export] macro_rules! m { () => { 2 } }",
+        "x = 1 + 2 + m!();",
+        0,
+    ),
+    (
+        "--extern b=b.rs --extern c=c.rs a.rs",
+        "a.rs: x = [m!(), n!()];|b.rs: #[macro_export] macro_rules! m { () => { $crate::n!() } } #[macro_export] macro_rules! n { () => { 1 } }|c.rs: #[macro_export] macro_rules! n { () => { 2 } }",
+        "x = [1, n!()];",
+        0,
+    ),
+    (
+        "--extern b=b.rs a.rs",
+        "a.rs: x = b::m!();|b.rs: mod c;|c.rs: #[macro_export] macro_rules! m { () => { 1 } }",
+        "x = 1;",
+        0,
+    ),
+    (
+        "--extern b=b.rs a.rs",
+        "a.rs: x = b::m!();|b.rs: \"",
+        "x = b::m!();",
+        1,
+    ),
+    (
+        "--extern b=b.rs a.rs",
+        "a.rs: x = b::m!(2);|b.rs: #[macro_export] macro_rules! m { () => { 1 } }",
+        "x = b::m!(2);",
+        1,
+    ),
+];
+
+fn rows() -> &'static [Row] {
+    &ROWS
+}
+
+// Whether the first of these texts is that one, and the others are as they were.
+fn are_texts(texts: &[String], files: &[Named], want: &str) -> bool {
+    match (texts, files) {
+        ([first, others @ ..], [_, rest @ ..]) => {
+            first.as_str() == want
+                && others
+                    .iter()
+                    .zip(rest.iter())
+                    .all(|(text, file)| text.as_str() == file.text.as_str())
+        }
+        _ => false,
+    }
+}
+
+fn is_expanded(alloc: Global, &(words, row, want, notes): &Row) -> Result<bool, AllocError> {
+    let words = words_of(alloc, words)?;
+    let files = texts_of(alloc, row)?;
+    let (session, texts) = written(alloc, &words, &files)?;
+    let is_counted = notes_len(&session) == notes;
+    Ok(are_texts(texts.as_slice(), files.as_slice(), want) && is_counted)
+}
+
+fn first_other(alloc: Global, rows: &[Row]) -> Result<Option<&'static str>, AllocError> {
+    for row in rows {
+        if !is_expanded(alloc, row)? {
+            return Ok(Some(row.1));
+        }
+    }
+    Ok(None)
+}
+
+#[test]
+fn macros_of_other_crates_are_expanded(rt: HostRuntime) {
+    none(&rt, first_other(rt.alloc(), rows()));
+}
