@@ -1,5 +1,5 @@
 -- Definitions of trees, by those of their parts.
-use Rattle.std.proofs.Common.{◌≡◌, ◌-◌, ℕ, suc, Bool, false, refl, ap, sym, subst, ◌∙◌}
+use Rattle.std.proofs.Common.{◌≡◌, ℕ, suc, Bool, refl, ap, sym, subst, ◌∙◌}
 use Rattle.std.specs.Prelude.{◌&&◌}
 use Rattle.mbe_tt.specs.Trees.Tree.{Forest, Tree, none}
 use Rattle.mbe_tt.specs.declared.span.Edition.{Edition}

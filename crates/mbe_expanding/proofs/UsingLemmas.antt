@@ -1,8 +1,8 @@
 -- Names and `use`s that are looked for, one tree after another.
-use Rattle.std.proofs.Common.{◌≡◌, ℕ, Bool, true, false, List, Option, Some, None, refl, ap, sym, ◌∙◌}
+use Rattle.std.proofs.Common.{◌≡◌, ℕ, true, false, List, None, refl, ap, sym, ◌∙◌}
 use Rattle.std.specs.Prelude.{◌||◌}
 use Rattle.mbe_tt.specs.Trees.Tree.{Forest, none, leaf, group, first, rest_of}
-use Rattle.mbe_expanding.specs.Using.{is_name, is_name_leaf, has_name, is_use, is_use_leaf, is_used_in}
+use Rattle.mbe_expanding.specs.Using.{is_name, has_name, is_use, is_used_in}
 
 pub name_here : (name : List ℕ) (f : Forest) → is_name name f ≡ true → has_name name f ≡ true
 unfolding has_name

@@ -4,7 +4,6 @@ use Rattle.mbe_tt.specs.Views.View.{trees}
 use Rattle.mbe_calls.specs.declared.calls.Front.TheVariants as v
 use Rattle.mbe_calls.specs.Shown.{call_shown, defined_shown, front_shown}
 use Rattle.mbe_expanding.specs.Calls.{Setting}
-use Rattle.mbe_expanding.specs.Defining.{Defines}
 use Rattle.mbe_expanding.specs.Shown.{scope_of, setting_of}
 use Rattle.mbe_expanding.proofs.DefineLemmas.{none_defined, definition_defined, call_defined, tree_defined, all_defined, none_inside}
 use Rattle.mbe_expanding.proofs.FrontLemmas.{ahead_less, call_ahead, front_definition, front_end, front_is}
