@@ -1,11 +1,11 @@
 -- Definitions of trees, by those of their parts.
-use Rattle.std.proofs.Common.{◌≡◌, ◌-◌, ℕ, suc, Bool, false, refl, ap, sym, subst, ◌∙◌}
-use Rattle.std.specs.Prelude.{◌&&◌}
+use Rattle.std.proofs.Common.{◌≡◌, ◌-◌, ℕ, suc, Bool, true, false, List, length, Result, Ok, Err, refl, ap, sym, subst, ◌∙◌}
+use Rattle.std.specs.Prelude.{◌&&◌, OnOk}
 use Rattle.mbe_tt.specs.Trees.Tree.{Forest, Tree, none}
 use Rattle.mbe_tt.specs.declared.span.Edition.{Edition}
 use Rattle.mbe_calls.specs.Fronts.{Call, Defined, Definition, ACall, Other, front}
-use Rattle.mbe_expanding.specs.Scopes.{Scope, IsRead}
-use Rattle.mbe_expanding.specs.Defining.{unmarked, after_definition, marked, reach_of, after_tree, DefinesTree, DefinesAll, ends, at_definition, at_call, at_tree, Defines}
+use Rattle.mbe_expanding.specs.Scopes.{Scope, IsRead, with_crate}
+use Rattle.mbe_expanding.specs.Defining.{unmarked, after_definition, marked, reach_of, after_tree, DefinesTree, DefinesAll, ends, at_definition, at_call, at_tree, Defines, DefinesOutside}
 use Rattle.mbe_expanding.specs.declared.expander.defining.Marks.{Marks}
 use Rattle.mbe_expanding.specs.declared.scope.Reach.{Reach}
 
@@ -67,3 +67,11 @@ pub none_inside : (e : Edition) (levels : ℕ) (top : Bool) (f : Forest) (s : Sc
     → Defines e levels top f s s
 unfolding Defines
 none_inside e levels top f s h = subst (λ n. Defines e n top f s s) (sym h) refl
+
+-- the definitions that were read are those of another crate
+pub outside_defined : {X E : Type 0} (r : Result X E) (e : Edition) (levels : ℕ) (name : List ℕ) (f : Forest)
+    (s read t : Scope) (n : ℕ) → n ≡ length s.definitions → Defines e levels true f s read
+    → OnOk r (t ≡ with_crate name n read) → OnOk r (DefinesOutside e levels name f s t)
+outside_defined (Ok x) e levels name f s read t n same all closed =
+    (read, all, subst (λ k. t ≡ with_crate name k read) same closed)
+outside_defined (Err x) e levels name f s read t n same all closed = closed
