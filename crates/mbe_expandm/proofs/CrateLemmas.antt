@@ -1,9 +1,9 @@
 -- The trees of crates, and their parts.
-use Rattle.std.proofs.Common.{◌≡◌, ◌<◌, ◌≤◌, ◌+◌, ℕ, Bool, true, false, List, [], ◌∷◌, ◌++◌, length, map, take, get_or, Option, Some, None, Result, Ok, Err, refl, ap, sym, ◌∙◌, subst, append-nil, arith}
+use Rattle.std.proofs.Common.{◌≡◌, ◌<◌, ◌≤◌, ◌+◌, ◌-◌, ℕ, Bool, true, false, List, [], ◌∷◌, ◌++◌, length, map, take, drop, get_or, Option, Some, None, Result, Ok, Err, refl, ap, sym, ◌∙◌, subst, append-nil, arith}
 use Rattle.std.specs.Prelude.{IfNone, IfOk, IfSome, OnOk, is_ok, is_some, not, option_and_then, option_map, if◌then◌else◌}
 use Rattle.std.specs.List.{All, slice_get}
 use Rattle.std.proofs.lemmas.Option.{IfSome_then, slice_get-map, slice_get_past, slice_get_read}
-use Rattle.std.proofs.lemmas.List.{length-map, length-take, map-append}
+use Rattle.std.proofs.lemmas.List.{length-map, length-take, map-append, take_rest}
 use Rattle.std.proofs.lemmas.List.Elements.{filter-append}
 use Rattle.mbe_calls.specs.Splicing.{Part}
 use Rattle.mbe_tt.specs.Trees.Top.{Top}
@@ -105,14 +105,32 @@ pub some_others : {X E : Type 0} (r : Result X E) (c : Option Top) (tree : Top) 
     → OnOk r (DefinesOutside e levels name (named_tree name tree).1 s t) → OnOk r (DefinesOther e levels name c s t)
 some_others r c tree e levels name s t is h = subst (λ x. OnOk r (DefinesOther e levels name x s t)) is h
 
-pub first_other : {X E : Type 0} (r : Result X E) (e d : Edition) (levels : ℕ) (follows : Bool) (files : List Source)
-    (n : ℕ) (s t u : Scope) (name : List ℕ) (names : List (List ℕ)) → d ≡ e
-    → DefinesOther e levels name (crate_at follows files n) s t
-    → OnOk r (DefinesOthers d levels follows files (n + 1) t names u)
-    → OnOk r (DefinesOthers e levels follows files n s (name ∷ names) u)
-first_other (Ok x) e d levels follows files n s t u name names same one more =
-    spec.one_other n s t u name names one (subst (λ x. DefinesOthers x levels follows files (n + 1) t names u) same more)
-first_other (Err x) e d levels follows files n s t u name names same one more = tt
+pub none_other : {X : Type 0} (e : Edition) (levels : ℕ) (follows : Bool) (files : List Source) (n : ℕ) (s : Scope)
+    (name : X → List ℕ) (all : List X) → length all < 1 → DefinesOthers e levels follows files n s (map name all) s
+none_other e levels follows files n s name [] few = spec.no_other n s
+none_other e levels follows files n s name (x ∷ xs) few = absurd (omega (arith, few))
+
+other_added : {X R S : Type 0} (e d : Edition) (levels : ℕ) (follows : Bool) (files : List Source) (n : ℕ)
+    (s t u : Scope) (name : X → List ℕ) (r : Result R S) (all : List X) (first : X) → d ≡ e → 1 ≤ length all
+    → first ≡ get_or all 0 first → DefinesOther e levels (name first) (crate_at follows files n) s t
+    → OnOk r (DefinesOthers d levels follows files (n + 1) t (map name (drop 1 all)) u)
+    → OnOk r (DefinesOthers e levels follows files n s (map name all) u)
+other_added e d levels follows files n s t u name r [] first same some is one more = absurd (omega (arith, some))
+other_added e d levels follows files n s t u name (Ok v) (x ∷ xs) first same some is one more =
+    spec.one_other n s t u (name x) (map name xs)
+    (subst (λ y. DefinesOther e levels (name y) (crate_at follows files n) s t) is one)
+    (subst (λ k. DefinesOthers k levels follows files (n + 1) t (map name xs) u) same more)
+other_added e d levels follows files n s t u name (Err v) (x ∷ xs) first same some is one more = more
+
+-- of a slice's first element and the others
+pub first_other : {X R S : Type 0} (e d : Edition) (levels : ℕ) (follows : Bool) (files : List Source) (n : ℕ)
+    (s t u : Scope) (name : X → List ℕ) (r : Result R S) (all : List X) (first : X) → d ≡ e → 1 ≤ length all
+    → first ≡ get_or all 0 first → DefinesOther e levels (name first) (crate_at follows files n) s t
+    → OnOk r (DefinesOthers d levels follows files (n + 1) t (map name (take (length all - 1) (drop 1 all))) u)
+    → OnOk r (DefinesOthers e levels follows files n s (map name all) u)
+first_other e d levels follows files n s t u name r all first same some is one more =
+    other_added e d levels follows files n s t u name r all first same some is one
+    (subst (λ ys. OnOk r (DefinesOthers d levels follows files (n + 1) t (map name ys) u)) (take_rest all 1) more)
 
 -- ---- its parts
 

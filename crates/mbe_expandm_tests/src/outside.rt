@@ -7,7 +7,17 @@ use std::alloc::{AllocError, Global};
 // the first file becomes; and how many notes there are.
 type Row = (&'static str, &'static str, &'static str, usize);
 
-static ROWS: [Row; 24] = [
+static ROWS: [Row; 25] = [
+    (
+        "--extern maths=maths.rs a.rs",
+        "a.rs: use maths::squares;
+const A: [u32; 2] = squares![3, 4];|maths.rs: pub const fn square(x: u32) -> u32 { x * x }
+#[macro_export]
+macro_rules! squares { ($($x:expr),*) => { [$($crate::square($x)),*] }; }",
+        "use maths::squares;
+const A: [u32; 2] = [::maths::square(3), ::maths::square(4)];",
+        0,
+    ),
     (
         "--extern b=b.rs a.rs",
         "a.rs: x = b::m!() + ::b::m!();|b.rs: #[macro_export] macro_rules! m { () => { 1 } }",

@@ -1,9 +1,21 @@
-use Rattle.std.proofs.Common.{◌∙◌, ap, arith, length, map, subst, sym}
+use Rattle.std.proofs.Common.{ap, map}
 use Rattle.mbe_expanding.specs.Calls.{Setting}
 use Rattle.mbe_expanding.specs.Shown.{setting_of, state_of}
 use Rattle.mbe_expandm.specs.ShownFiles.{source_of}
-use Rattle.mbe_expandm.proofs.CrateLemmas.{first_other}
+use Rattle.mbe_expandm.proofs.CrateLemmas.{first_other, none_other}
 use Rattle.mbe_expandm.proofs.crates.+define_others.Goals as goal
 
-pub returns-clause-defines : goal.returns-clause-defines
-returns-clause-defines c = ?
+pub returns-in-empty-clause-defines : goal.returns-in-empty-clause-defines
+returns-in-empty-clause-defines c =
+    none_other (setting_of c.args.expander.now).edition 1001 c.args.follows (map source_of c.args.files.now)
+    c.args.given (state_of c.args.expander.now).scope (λ x. x.name.now) c.args.externs.now c.in-empty.len_below
+
+pub returns-in_ok-define_other-in-len1-up-clause-defines : goal.returns-in_ok-define_other-in-len1-up-clause-defines
+returns-in_ok-define_other-in-len1-up-clause-defines c =
+    first_other (setting_of c.args.expander.now).edition (setting_of c.define_other.new.expander).edition 1001
+    c.args.follows (map source_of c.args.files.now) c.args.given (state_of c.args.expander.now).scope
+    (state_of c.define_other.new.expander).scope (state_of c.define_others.new.expander).scope (λ x. x.name.now)
+    c.define_others.result c.args.externs.now c.one-item.result
+    (ap (λ (e : Setting). e.edition) c.in_ok-define_other-in-len1-up.ensures.setting)
+    c.in-len1-up.len_at_least c.one-item.is c.in_ok-define_other-in-len1-up.ensures.defines
+    c.define_others.ensures.defines
