@@ -1,5 +1,6 @@
 -- What is left to be written, as the trees of another crate are written one after another.
-use Rattle.std.proofs.Common.{ℕ, zero, suc, ◌-◌, ◌≡◌, ◌<◌, Bool, false, List, [], ◌∷◌, length, Some, None, refl, ap, sym, ◌∙◌, arith}
+use Rattle.std.proofs.Common.{ℕ, zero, suc, ◌-◌, ◌≡◌, ◌<◌, Bool, false, List, [], ◌∷◌, length, Some, None, Result, Ok, Err, refl, ap, sym, ◌∙◌, arith}
+use Rattle.std.specs.Prelude.{OnOk}
 use Rattle.mbe_tt.specs.Buffers.Building.{Levels, put, closed}
 use Rattle.mbe_tt.specs.Trees.Leaf.{Leaf}
 use Rattle.mbe_tt.specs.Trees.Tree.{Forest, Tree, Leaf_tree, Group_tree, none, leaf, group, tree, append, first, rest_of, one_leaf, flat_len}
@@ -46,9 +47,17 @@ put_both f g (o ∷ outer) =
     ap (λ (k : Forest). let x : Delimiter × Forest = (o.0, k) in x ∷ outer) (append_append o.1 f g)
 
 -- a `::` is two leaves
-pub both_colons : (at : Span) (b : Levels)
+both_colons : (at : Span) (b : Levels)
     → put (one_leaf (colon at Alone)) (put (one_leaf (colon at Joint)) b) ≡ put (colons at) b
 both_colons at b = put_both (one_leaf (colon at Joint)) (one_leaf (colon at Alone)) b
+
+pub colons_pushed : {X E : Type 0} (r : Result X E) (at : Span) (a b : Leaf) (old mid new : Levels)
+    → a ≡ colon at Joint → b ≡ colon at Alone → mid ≡ put (one_leaf a) old → OnOk r (new ≡ put (one_leaf b) mid)
+    → OnOk r (new ≡ put (colons at) old)
+colons_pushed (Ok x) at a b old mid new joint alone one two =
+    two ∙ (ap (put (one_leaf b)) one ∙ (ap (λ l. put (one_leaf b) (put (one_leaf l) old)) joint
+    ∙ (ap (λ l. put (one_leaf l) (put (one_leaf (colon at Joint)) old)) alone ∙ both_colons at old)))
+colons_pushed (Err x) at a b old mid new joint alone one two = two
 
 pub as_they_are : (levels : ℕ) (name : List ℕ) (f : Forest) → levels ≡ 0 → named_in levels name f ≡ f
 unfolding named_in

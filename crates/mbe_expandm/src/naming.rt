@@ -100,6 +100,14 @@ fn name_at(alloc: Global, name: &str, at: Span) -> Result<Leaf, AllocError>
     }))
 }
 
+// Writes a `::` there.
+fn push_colons(builder: &mut TopSubtreeBuilder, at: Span) -> Result<(), AllocError>
+    ensures { OnOk result (builder.new ≡ put (spec.colons at) builder.old) }
+{
+    builder.push(colon(at, Spacing::Joint))?;
+    builder.push(colon(at, Spacing::Alone))
+}
+
 // Writes a leaf before what follows it, where `after` says whether a `$` precedes it.
 fn write_leaf(
     alloc: Global,
@@ -117,8 +125,7 @@ fn write_leaf(
     if after && is_crate(leaf) {
         builder.push(name_at(alloc, name, at)?)
     } else if is_dollar(leaf) && begins_crate(rest) {
-        builder.push(colon(at, Spacing::Joint))?;
-        builder.push(colon(at, Spacing::Alone))
+        push_colons(builder, at)
     } else if begins_own(rest) {
         builder.push(alone(leaf)?)
     } else {

@@ -6,12 +6,12 @@ use Rattle.mbe_expandm.proofs.CrateLemmas.{first_other, none_other}
 use Rattle.mbe_expandm.proofs.crates.+define_others.Goals as goal
 
 pub returns-in-empty-clause-defines : goal.returns-in-empty-clause-defines
-returns-in-empty-clause-defines c =
+returns-in-empty-clause-defines t c =
     none_other (setting_of c.args.expander.now).edition 1001 c.args.follows (map source_of c.args.files.now)
     c.args.given (state_of c.args.expander.now).scope (λ x. x.name.now) c.args.externs.now c.in-empty.len_below
 
 pub returns-in_ok-define_other-in-len1-up-clause-defines : goal.returns-in_ok-define_other-in-len1-up-clause-defines
-returns-in_ok-define_other-in-len1-up-clause-defines c =
+returns-in_ok-define_other-in-len1-up-clause-defines t c =
     first_other (setting_of c.args.expander.now).edition (setting_of c.define_other.new.expander).edition 1001
     c.args.follows (map source_of c.args.files.now) c.args.given (state_of c.args.expander.now).scope
     (state_of c.define_other.new.expander).scope (state_of c.define_others.new.expander).scope (λ x. x.name.now)

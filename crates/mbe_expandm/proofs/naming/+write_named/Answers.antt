@@ -10,13 +10,13 @@ use Rattle.mbe_expandm.proofs.NamingLemmas.{Left, all_written, as_they_are, begi
 use Rattle.mbe_expandm.proofs.naming.+write_named.Goals as goal
 
 pub returns-then-levels-eq0 : goal.returns-then-levels-eq0
-returns-then-levels-eq0 c =
+returns-then-levels-eq0 t c =
     subst (λ f. OnOk c.extend_with_tt.result (c.extend_with_tt.new.self ≡ put f c.args.builder.now))
     (sym (as_they_are c.args.levels c.args.name.now (trees c.args.tokens) c.if-levels-eq0.true))
     c.extend_with_tt.ensures.ok
 
 pub trees-init : goal.trees-init
-trees-init c =
+trees-init t c =
     let some = c.if-levels-eq0.false in
     let left : 0 < c.args.levels = omega (arith, some) in
     subst (λ f. Left c.args.levels c.args.name.now (trees c.args.tokens) c.args.builder.now false f
@@ -25,15 +25,15 @@ trees-init c =
     (begins c.args.levels c.args.name.now (trees c.args.tokens) c.args.builder.now left)
 
 pub write_leaf-requires : goal.write_leaf-requires
-write_leaf-requires c = omega (arith, c.requires.some, c.trees.invariant.groups)
+write_leaf-requires t c = omega (arith, c.requires, c.trees.invariant.groups)
 
 pub trees-smaller-in-Leaf : goal.trees-smaller-in-Leaf
-trees-smaller-in-Leaf c =
+trees-smaller-in-Leaf t c =
     subst (λ f. flat_len f < flat_len c.trees.rest) (sym c.in-Some.ensures.rest)
     (rest_less c.trees.rest _ (sym c.in-Some.ensures.value))
 
 pub trees-preserved-in-Leaf : goal.trees-preserved-in-Leaf
-trees-preserved-in-Leaf c =
+trees-preserved-in-Leaf t c =
     let l = leaf_of c.in-Leaf.leaf.now in
     let is : first c.trees.rest ≡ Some (Leaf_tree l) =
     sym c.in-Some.ensures.value ∙ ap (λ e. Some (element_tree e)) c.in-Leaf.is in
@@ -47,21 +47,21 @@ trees-preserved-in-Leaf c =
     c.is_dollar-after.ensures)
 
 pub write_named-requires : goal.write_named-requires
-write_named-requires c = omega (arith, ap length c.in_ok-open-in-Subtree.ensures.ok)
+write_named-requires t c = omega (arith, ap length c.in_ok-open-in-Subtree.ensures.ok)
 
 pub close-requires : goal.close-requires
-close-requires c =
-    is_inside _ c.args.builder.now c.trees.builder c.open.new.self c.write_named.new.builder _ c.requires.some
+close-requires t c =
+    is_inside _ c.args.builder.now c.trees.builder c.open.new.self c.write_named.new.builder _ c.requires
     c.trees.invariant.groups
     c.in_ok-open-in-Subtree.ensures.ok c.in_ok-write_named-in-Subtree.ensures
 
 pub trees-smaller : goal.trees-smaller
-trees-smaller c =
+trees-smaller t c =
     subst (λ f. flat_len f < flat_len c.trees.rest) (sym c.in-Some.ensures.rest)
     (rest_less c.trees.rest _ (sym c.in-Some.ensures.value))
 
 pub trees-preserved : goal.trees-preserved
-trees-preserved c =
+trees-preserved t c =
     let d = c.in-Subtree.group.now.delimiter in
     let inside = c.in-Subtree.inside in
     let is : first c.trees.rest ≡ Some (Group_tree d inside) =
@@ -76,6 +76,6 @@ trees-preserved c =
     c.close.ensures)
 
 pub returns : goal.returns
-returns c =
+returns t c =
     all_written c.args.levels c.args.name.now (trees c.args.tokens) c.trees.rest c.args.builder.now c.trees.builder
     c.trees.after c.trees.invariant (sym c.in_default.ensures.value)

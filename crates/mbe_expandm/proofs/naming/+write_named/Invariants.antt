@@ -8,7 +8,7 @@ decreases-write_named l = l.levels
 
 abbrev pub invariant-trees : goal.invariant-trees
 invariant-trees l =
-    Left l.fn.levels l.name.now (trees l.fn.tokens) l.initial.builder l.after l.rest l.builder
+    Left l.fn.levels l.name (trees l.fn.tokens) l.initial.builder l.after l.rest l.builder
 
 abbrev pub decreases-trees : goal.decreases-trees
 decreases-trees l = flat_len l.rest
