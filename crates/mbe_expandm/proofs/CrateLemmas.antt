@@ -111,25 +111,24 @@ none_other e levels follows files n s name [] few = spec.no_other n s
 none_other e levels follows files n s name (x ∷ xs) few = absurd (omega (arith, few))
 
 other_added : {X R S : Type 0} (e d : Edition) (levels : ℕ) (follows : Bool) (files : List Source) (n : ℕ)
-    (s t u : Scope) (name : X → List ℕ) (r : Result R S) (all : List X) (first : X) → d ≡ e → 1 ≤ length all
-    → first ≡ get_or all 0 first → DefinesOther e levels (name first) (crate_at follows files n) s t
+    (s t u : Scope) (name : X → List ℕ) (r : Result R S) (all : List X) (none : X) → d ≡ e → 1 ≤ length all
+    → DefinesOther e levels (name (get_or all 0 none)) (crate_at follows files n) s t
     → OnOk r (DefinesOthers d levels follows files (n + 1) t (map name (drop 1 all)) u)
     → OnOk r (DefinesOthers e levels follows files n s (map name all) u)
-other_added e d levels follows files n s t u name r [] first same some is one more = absurd (omega (arith, some))
-other_added e d levels follows files n s t u name (Ok v) (x ∷ xs) first same some is one more =
-    spec.one_other n s t u (name x) (map name xs)
-    (subst (λ y. DefinesOther e levels (name y) (crate_at follows files n) s t) is one)
+other_added e d levels follows files n s t u name r [] none same some one more = absurd (omega (arith, some))
+other_added e d levels follows files n s t u name (Ok v) (x ∷ xs) none same some one more =
+    spec.one_other n s t u (name x) (map name xs) one
     (subst (λ k. DefinesOthers k levels follows files (n + 1) t (map name xs) u) same more)
-other_added e d levels follows files n s t u name (Err v) (x ∷ xs) first same some is one more = more
+other_added e d levels follows files n s t u name (Err v) (x ∷ xs) none same some one more = more
 
 -- of a slice's first element and the others
 pub first_other : {X R S : Type 0} (e d : Edition) (levels : ℕ) (follows : Bool) (files : List Source) (n : ℕ)
-    (s t u : Scope) (name : X → List ℕ) (r : Result R S) (all : List X) (first : X) → d ≡ e → 1 ≤ length all
-    → first ≡ get_or all 0 first → DefinesOther e levels (name first) (crate_at follows files n) s t
+    (s t u : Scope) (name : X → List ℕ) (r : Result R S) (all : List X) (none : X) → d ≡ e → 1 ≤ length all
+    → DefinesOther e levels (name (get_or all 0 none)) (crate_at follows files n) s t
     → OnOk r (DefinesOthers d levels follows files (n + 1) t (map name (take (length all - 1) (drop 1 all))) u)
     → OnOk r (DefinesOthers e levels follows files n s (map name all) u)
-first_other e d levels follows files n s t u name r all first same some is one more =
-    other_added e d levels follows files n s t u name r all first same some is one
+first_other e d levels follows files n s t u name r all none same some one more =
+    other_added e d levels follows files n s t u name r all none same some one
     (subst (λ ys. OnOk r (DefinesOthers d levels follows files (n + 1) t (map name ys) u)) (take_rest all 1) more)
 
 -- ---- its parts

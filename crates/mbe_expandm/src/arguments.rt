@@ -329,6 +329,8 @@ pub fn read_words<'w, A: Allocator + Copy>(
     let mut last = "";
     for word in words {
         let word = word.as_str();
+        let before = last;
+        last = word;
         if let Some((option, _)) = wanted.take() {
             if options.take(option, word)?.is_none() {
                 return Ok(Asked::Wrong(word));
@@ -339,14 +341,13 @@ pub fn read_words<'w, A: Allocator + Copy>(
             return Ok(Asked::Version);
         } else if let Some(option) = valued_option(word) {
             wanted = Some((option, word));
-        } else if let Some(position) = explained_at(last, word) {
+        } else if let Some(position) = explained_at(before, word) {
             options.explain = Some(Some(position));
         } else if !word.starts_with("--") {
             options.names.push(word)?;
         } else if options.switch(word).is_none() {
             return Ok(Asked::Wrong(word));
         }
-        last = word;
     }
     Ok(match wanted {
         Some((_, word)) => Asked::Missing(word),

@@ -15,7 +15,7 @@ returns-in_ok-define_other-in-len1-up-clause-defines t c =
     first_other (setting_of c.args.expander.now).edition (setting_of c.define_other.new.expander).edition 1001
     c.args.follows (map source_of c.args.files.now) c.args.given (state_of c.args.expander.now).scope
     (state_of c.define_other.new.expander).scope (state_of c.define_others.new.expander).scope (λ x. x.name.now)
-    c.define_others.result c.args.externs.now c.one-item.result
+    c.define_others.result c.args.externs.now _
     (ap (λ (e : Setting). e.edition) c.in_ok-define_other-in-len1-up.ensures.setting)
-    c.in-len1-up.len_at_least c.one-item.is c.in_ok-define_other-in-len1-up.ensures.defines
+    c.in-len1-up.len_at_least c.in_ok-define_other-in-len1-up.ensures.defines
     c.define_others.ensures.defines

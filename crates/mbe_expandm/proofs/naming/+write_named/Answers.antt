@@ -51,7 +51,8 @@ write_named-requires t c = omega (arith, ap length c.in_ok-open-in-Subtree.ensur
 
 pub close-requires : goal.close-requires
 close-requires t c =
-    is_inside _ c.args.builder.now c.trees.builder c.open.new.self c.write_named.new.builder _ c.requires
+    let some : 0 < length c.args.builder.now = omega (arith, c.requires) in
+    is_inside _ c.args.builder.now c.trees.builder c.open.new.self c.write_named.new.builder _ some
     c.trees.invariant.groups
     c.in_ok-open-in-Subtree.ensures.ok c.in_ok-write_named-in-Subtree.ensures
 
