@@ -1,3 +1,5 @@
 pub mod Fronts
 pub mod Places
 pub mod RuleTrees
+pub mod Empty
+pub mod Refusals

@@ -1,6 +1,7 @@
 // Where a definition is refused.
 #![tactic(auto)]
 
+pub mod empty;
 pub mod front;
 pub mod rules;
 pub mod suffix;

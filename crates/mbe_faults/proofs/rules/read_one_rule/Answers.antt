@@ -11,25 +11,25 @@ use Rattle.mbe_faults.proofs.rules.read_one_rule.Goals as goal
 
 pub returns-in-Err-clause-rule : goal.returns-in-Err-clause-rule
 returns-in-Err-clause-rule g c =
-    let w = rw c.in-Err.is at c.in_ok-ops.ensures.fault in
+    let w = rw c.in-Err.is at c.in_ok-read.ensures.fault in
     rw c.within.ensures.fault
     (ap rules_seen c.new-rules.ensures.items, in_pattern (template_fault _ pattern (fault_of c.in-Err.found.fault) w))
 
 pub returns-in_ok-push-in-Ok-2-clause-rule : goal.returns-in_ok-push-in-Ok-2-clause-rule
 returns-in_ok-push-in-Ok-2-clause-rule g c =
     let none_before : c.new-rules.result.items ≡ [] = c.new-rules.ensures.items in
-    let reads = rw c.in-Ok.is at c.in_ok-ops.ensures.ops in
+    let reads = rw c.in-Ok.is at c.in_ok-read.ensures.ops in
     let writes = rw c.in-Ok-2.is at c.in_ok-rhs.ensures.ops in (
-      record { style = FnLike; reads = template_of c.in-Ok.ops; writes = template_of c.in-Ok-2.rhs },
+      record { style = FnLike; reads = template_of c.in-Ok.read.0; writes = template_of c.in-Ok-2.rhs },
       one_pushed _ _ _ none_before c.in_ok-push-in-Ok-2.ensures.items,
       record { style = refl; reads = reads; writes = writes },
     )
 
 pub returns-in-Err-2-clause-rule : goal.returns-in-Err-2-clause-rule
 returns-in-Err-2-clause-rule g c =
-    let reads = rw c.in-Ok.is at c.in_ok-ops.ensures.ops in
+    let reads = rw c.in-Ok.is at c.in_ok-read.ensures.ops in
     let w = rw c.in-Err-2.is at c.in_ok-rhs.ensures.fault in
     rw c.within-in-Err-2.ensures.fault (
       ap rules_seen c.new-rules.ensures.items,
-      in_template (template_of c.in-Ok.ops) reads (template_fault _ template (fault_of c.in-Err-2.found.fault) w),
+      in_template (template_of c.in-Ok.read.0) reads (template_fault _ template (fault_of c.in-Err-2.found.fault) w),
     )

@@ -24,7 +24,7 @@ pub returns-in-Err-2-clause-fault : goal.returns-in-Err-2-clause-fault
 returns-in-Err-2-clause-fault g c =
     let f = c.args.src.now in
     let o = rule_of_parts c.in-Ok.parts c.rule_trees.new.src in
-    let w = rw c.in-Err-2.is at c.in_ok-ops.ensures.fault in
+    let w = rw c.in-Err-2.is at c.in_ok-read.ensures.fault in
     let e : pattern_place f o + c.in-Err-2.found.place ≡ c.moved.result.place =
     omega (
       arith,
@@ -45,7 +45,7 @@ pub returns-in-Err-3-clause-fault : goal.returns-in-Err-3-clause-fault
 returns-in-Err-3-clause-fault g c =
     let f = c.args.src.now in
     let o = rule_of_parts c.in-Ok.parts c.rule_trees.new.src in
-    let reads = rw c.in-Ok-2.is at c.in_ok-ops.ensures.ops in
+    let reads = rw c.in-Ok-2.is at c.in_ok-read.ensures.ops in
     let w = rw c.in-Err-3.is at c.in_ok-rhs.ensures.fault in
     let e : template_place f o + c.in-Err-3.found.place ≡ c.moved-in-Err-3.result.place =
     omega (
@@ -59,7 +59,7 @@ returns-in-Err-3-clause-fault g c =
       ap flat_len c.remaining-3.ensures,
     ) in
     rw c.moved-in-Err-3.ensures.fault (rule_placed _ (fault_of c.in-Err-3.found.fault) f _ _ e
-    (in_template o (template_of c.in-Ok-2.ops) c.in-Err-3.found.place c.in-Ok.ensures.trees reads w))
+    (in_template o (template_of c.in-Ok-2.read.0) c.in-Err-3.found.place c.in-Ok.ensures.trees reads w))
 
 pub returns-in-Err-3-clause-within : goal.returns-in-Err-3-clause-within
 returns-in-Err-3-clause-within g c =
