@@ -203,7 +203,7 @@ module _ (A : Type 0) (HasEdition : SyntaxContext → Edition → Type 0) where
         record {
           reads = λ more h. let k : Simple more f = is_simple o more f p (read h) in
               subst (λ (g : Forest). Template HasEdition pattern g more)
-                  (whole_left k.0 left front (k.3 front left shows)) k.1;
+              (whole_left k.0 left front (k.3 front left shows)) k.1;
           at = λ e n w. subst (λ (g : Forest). EmptyAt HasEdition f (passed f g + n)) same
               (r.2 n (subst (λ (g : Forest). EmptyAt HasEdition g n) (sym same) w));
         }

@@ -33,7 +33,7 @@ refuses-push : (rs : List Rule) (r : Rule) → refuses (rs ++ r ∷ []) ≡ (ref
 refuses-push [] r = or_false (is_refused r.reads)
 refuses-push (q ∷ rs) r =
     ap (λ b. is_refused q.reads || b) (refuses-push rs r)
-        ∙ or_assoc (is_refused q.reads) (refuses rs) (is_refused r.reads)
+    ∙ or_assoc (is_refused q.reads) (refuses rs) (is_refused r.reads)
 
 same_trees : (o p : RuleTrees) → ◌≡◌ {A = Result RuleTrees Fault} (Ok o) (Ok p) → o ≡ p
 same_trees o p e = cc
