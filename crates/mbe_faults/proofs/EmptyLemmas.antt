@@ -1,7 +1,10 @@
 -- How an op of a pattern is read, and where the first repetition that can read nothing is.
 use Rattle.std.specs.Prelude.{◌≡◌, ◌≤◌, ◌<◌, ◌+◌, ◌==◌, ◌&&◌, ◌||◌, ℕ, suc, Bool, true, false, if◌then◌else◌, not, refl}
 use Rattle.std.specs.Prelude.{List, [], ◌∷◌, ◌++◌, length, map, drop, Option, Some, None, is_some, Result, Ok, Err, codes}
+use Rattle.std.specs.Prelude.{IfSome, option_map}
 use Rattle.std.proofs.Common.{ap, sym, ◌∙◌, subst, arith}
+use Rattle.std.proofs.Math.Bool.{false≢true}
+use Rattle.mbe_ops.specs.Views.{ops_of}
 use Rattle.mbe_tt.specs.declared.span.SyntaxContext.{SyntaxContext}
 use Rattle.mbe_tt.specs.declared.span.Edition.{Edition}
 use Rattle.mbe_tt.specs.declared.span.Span.{Span}
@@ -21,15 +24,12 @@ use Rattle.mbe_semantics.specs.Syntax.Template.{head, Suffix, Template, after_do
 use Rattle.mbe_semantics.specs.Syntax.Template.{group_after_dollar, suffix_of, separator_of, specifier_at}
 use Rattle.mbe_faults.specs.declared.front.Front as code
 use Rattle.mbe_faults.specs.Fronts.{Shows, Fits}
+use Rattle.mbe_faults.specs.Inners.{IsPlain, Holds, inside_of}
+use Rattle.mbe_faults.specs.declared.inner.Inner.{Inner}
 use Rattle.mbe_faults.specs.Empty.{EmptyAt, here, in_group, in_repetition, after_token, after_variable}
 use Rattle.mbe_faults.specs.Empty.{following_group, after_repetition, PassesOp}
 
 -- ---- what is whole in front is no group and no repetition
-
-abbrev pub IsPlain : Op → Type 0
-IsPlain (ops.group d b) = ⊥
-IsPlain (ops.repetition b s k) = ⊥
-IsPlain _ = Unit {0}
 
 abbrev Plain : Result Head Fault → Type 0
 Plain (Ok (one o rest)) = IsPlain o
@@ -134,6 +134,9 @@ repetition_left sep k inside rest left code.TheVariants.Whole s = s
 repetition_left sep k inside rest left (code.TheVariants.Group body) s = s
 repetition_left sep k inside rest left (code.TheVariants.Repetition body) s = s
 repetition_left sep k inside rest left (code.TheVariants.Refused fault) s = s
+
+same_some : (f g : Forest) → ◌≡◌ {A = Option Forest} (Some f) (Some g) → f ≡ g
+same_some f g e = cc
 
 same_ok : {h k : Head} → ◌≡◌ {A = Result Head Fault} (Ok h) (Ok k) → h ≡ k
 same_ok e = cc
@@ -281,3 +284,158 @@ module _ (A : Type 0) (HasEdition : SyntaxContext → Edition → Type 0) where
         subst (λ (g : Forest). Template HasEdition pattern g more) same r.4;
     at = λ refused n w. after_repetition f body left sep k b n e t refused w;
   }
+
+  -- ---- what is inside the op in front
+
+  -- the trees inside, the ops that they are read as, and the number of flat tokens before them
+  pub record Opens (o : Op) (f left inside : Forest) (b : Ops) (empty : Bool) (before : ℕ) : Type 0 where
+    pub body : Template HasEdition pattern inside b
+    pub past : PassesOp HasEdition o f left
+    pub here : empty ≡ true → EmptyAt HasEdition f 1
+    pub at : empty ≡ false → (n : ℕ) → EmptyAt HasEdition inside n → EmptyAt HasEdition f (before + n)
+    pub refused : (empty || is_refused b) ≡ is_refused_op o
+    pub some : 1 ≤ before
+    pub room : before + flat_len inside ≤ flat_len f
+    pub shorter : flat_len left ≤ flat_len f
+
+  opens_same : (o : Op) (f left inside body : Forest) (b c : Ops) (empty none : Bool) (before n : ℕ)
+      → inside ≡ body → b ≡ c → empty ≡ none → before ≡ n → Opens o f left body c none n
+      → Opens o f left inside b empty before
+  opens_same o f left inside body b c empty none before n p q r s h =
+      subst (λ (g : Forest). Opens o f left g b empty before) (sym p)
+      (subst (λ (os : Ops). Opens o f left body os empty before) (sym q)
+      (subst (λ (v : Bool). Opens o f left body c v before) (sym r)
+      (subst (λ (k : ℕ). Opens o f left body c none k) (sym s) h)))
+
+  opens_group : (f left body : Forest) (d : Delimiter) (b : Ops) → head pattern f ≡ Ok (opens_group d body left)
+      → Template HasEdition pattern body b → 2 + flat_len body + flat_len left ≤ flat_len f
+      → Opens (ops.group d b) f left body b false 1
+  opens_group f left body d b e t fits = record {
+    body = t;
+    past = group_past f body left d b e t;
+    here = λ e. absurd (false≢true e);
+    at = λ v n w. in_group f body left d n e w;
+    refused = refl;
+    some = omega arith;
+    room = omega arith;
+    shorter = omega arith;
+  }
+
+  opens_repetition : (f left body : Forest) (b : Ops) (sep : Option Separator) (k : RepeatKind)
+      → head pattern f ≡ Ok (opens_repetition sep k body left) → Template HasEdition pattern body b
+      → 1 + 2 + flat_len body + flat_len left ≤ flat_len f
+      → Opens (ops.repetition b sep k) f left body b (is_unseparated sep && is_nullable b) 2
+  opens_repetition f left body b sep k e t fits = record {
+    body = t;
+    past = repetition_past f body left b sep k e t;
+    here = λ v. here f body left sep k b e t v;
+    at = λ v n w. in_repetition f body left sep k b n e t v w;
+    refused = refl;
+    some = omega arith;
+    room = omega arith;
+    shorter = omega arith;
+  }
+
+  in_group_front : (f left : Forest) (front : code.Front A) (shows : Shows (head pattern f) front left) (os : Ops)
+      (d : Delimiter) (b : Ops) (x : Inner A) (inside : Forest) (y : code.Front A)
+      → GroupAt f left front shows os d b y → Holds x (ops.group d b) → Fits 1 y f left → inside_of y ≡ Some inside
+      → Opens (ops.group d b) f left inside (ops_of x.ops.now) x.is_empty x.before
+  in_group_front f left front shows os d b x inside (code.TheVariants.Group body) g h fits e =
+      opens_same (ops.group d b) f left inside body (ops_of x.ops.now) b x.is_empty false x.before 1
+      (same_some inside body (sym e)) h.0 h.1 h.2 (opens_group f left body d b g.0 g.1 fits)
+  in_group_front f left front shows os d b x inside code.TheVariants.Ended g h fits e = absurd g
+  in_group_front f left front shows os d b x inside code.TheVariants.Whole g h fits e = absurd g
+  in_group_front f left front shows os d b x inside (code.TheVariants.Repetition body) g h fits e = absurd g
+  in_group_front f left front shows os d b x inside (code.TheVariants.Refused fault) g h fits e = absurd g
+
+  in_repetition_front : (f left : Forest) (front : code.Front A) (shows : Shows (head pattern f) front left) (os : Ops)
+      (b : Ops) (sep : Option Separator) (k : RepeatKind) (x : Inner A) (inside : Forest) (y : code.Front A)
+      → RepetitionAt f left front shows os b sep k y → Holds x (ops.repetition b sep k) → Fits 1 y f left
+      → inside_of y ≡ Some inside
+      → Opens (ops.repetition b sep k) f left inside (ops_of x.ops.now) x.is_empty x.before
+  in_repetition_front f left front shows os b sep k x inside (code.TheVariants.Repetition body) g h fits e =
+      opens_same (ops.repetition b sep k) f left inside body (ops_of x.ops.now) b x.is_empty
+      (is_unseparated sep && is_nullable b) x.before 2 (same_some inside body (sym e)) h.0 h.1 h.2
+      (opens_repetition f left body b sep k g.0 g.1 fits)
+  in_repetition_front f left front shows os b sep k x inside code.TheVariants.Ended g h fits e = absurd g
+  in_repetition_front f left front shows os b sep k x inside code.TheVariants.Whole g h fits e = absurd g
+  in_repetition_front f left front shows os b sep k x inside (code.TheVariants.Group body) g h fits e = absurd g
+  in_repetition_front f left front shows os b sep k x inside (code.TheVariants.Refused fault) g h fits e = absurd g
+
+  pub opens : (f left : Forest) (front : code.Front A) (shows : Shows (head pattern f) front left) (os : Ops) (o : Op)
+      (x : Inner A) (inside : Forest) → Template HasEdition pattern f (op o os) → Holds x o → Fits 1 front f left
+      → inside_of front ≡ Some inside → Opens o f left inside (ops_of x.ops.now) x.is_empty x.before
+  opens f left front shows os (ops.group d b) x inside t h fits e =
+      in_group_front f left front shows os d b x inside front (group_at f left front shows os d b t) h fits e
+  opens f left front shows os (ops.repetition b sep k) x inside t h fits e =
+      in_repetition_front f left front shows os b sep k x inside front (repetition_at f left front shows os b sep k t)
+      h fits e
+  opens f left front shows os (ops.token w) x inside t h fits e = absurd h
+  opens f left front shows os (ops.variable name kind span) x inside t h fits e = absurd h
+  opens f left front shows os (ops.expression w) x inside t h fits e = absurd h
+
+  -- and the front has trees inside
+  group_closed : (f left : Forest) (front : code.Front A) (shows : Shows (head pattern f) front left) (os : Ops)
+      (d : Delimiter) (b : Ops) (y : code.Front A) → GroupAt f left front shows os d b y → inside_of y ≡ None → ⊥
+  group_closed f left front shows os d b (code.TheVariants.Group body) g e = cc
+  group_closed f left front shows os d b code.TheVariants.Ended g e = g
+  group_closed f left front shows os d b code.TheVariants.Whole g e = g
+  group_closed f left front shows os d b (code.TheVariants.Repetition body) g e = g
+  group_closed f left front shows os d b (code.TheVariants.Refused fault) g e = g
+
+  repetition_closed : (f left : Forest) (front : code.Front A) (shows : Shows (head pattern f) front left) (os : Ops)
+      (b : Ops) (sep : Option Separator) (k : RepeatKind) (y : code.Front A)
+      → RepetitionAt f left front shows os b sep k y → inside_of y ≡ None → ⊥
+  repetition_closed f left front shows os b sep k (code.TheVariants.Repetition body) g e = cc
+  repetition_closed f left front shows os b sep k code.TheVariants.Ended g e = g
+  repetition_closed f left front shows os b sep k code.TheVariants.Whole g e = g
+  repetition_closed f left front shows os b sep k (code.TheVariants.Group body) g e = g
+  repetition_closed f left front shows os b sep k (code.TheVariants.Refused fault) g e = g
+
+  pub not_closed : (f left : Forest) (front : code.Front A) (shows : Shows (head pattern f) front left) (os : Ops)
+      (o : Op) (x : Inner A) → Template HasEdition pattern f (op o os) → Holds x o → inside_of front ≡ None → ⊥
+  not_closed f left front shows os (ops.group d b) x t h e =
+      group_closed f left front shows os d b front (group_at f left front shows os d b t) e
+  not_closed f left front shows os (ops.repetition b sep k) x t h e =
+      repetition_closed f left front shows os b sep k front (repetition_at f left front shows os b sep k t) e
+  not_closed f left front shows os (ops.token w) x t h e = h
+  not_closed f left front shows os (ops.variable name kind span) x t h e = h
+  not_closed f left front shows os (ops.expression w) x t h e = h
+
+  -- ---- another op in front
+
+  whole_shorter : (f rest left : Forest) (front : code.Front A) → IsWhole front rest left → Fits 1 front f left
+      → flat_len left ≤ flat_len f
+  whole_shorter f rest left code.TheVariants.Whole s fits = omega arith
+  whole_shorter f rest left code.TheVariants.Ended s fits = absurd s
+  whole_shorter f rest left (code.TheVariants.Group body) s fits = absurd s
+  whole_shorter f rest left (code.TheVariants.Repetition body) s fits = absurd s
+  whole_shorter f rest left (code.TheVariants.Refused fault) s fits = absurd s
+
+  pub plain_shorter : (f left : Forest) (front : code.Front A) (os : Ops) (o : Op) → Shows (head pattern f) front left
+      → IsPlain o → Template HasEdition pattern f (op o os) → Fits 1 front f left → flat_len left ≤ flat_len f
+  plain_shorter f left front os o shows p t fits =
+      let r : Simple os f = is_simple o os f p (read t) in
+      whole_shorter f r.0 left front (r.3 front left shows) fits
+
+pub plain_refused : (o : Op) → IsPlain o → false ≡ is_refused_op o
+plain_refused (ops.token t) p = refl
+plain_refused (ops.variable name kind span) p = refl
+plain_refused (ops.expression e) p = refl
+plain_refused (ops.group d b) p = absurd p
+plain_refused (ops.repetition b s k) p = absurd p
+
+-- ---- a place that may be there
+
+pub each_place : (P Q : ℕ → Type 0) (r : Option ℕ) → ((n : ℕ) → P n → Q n) → IfSome r P → IfSome r Q
+each_place P Q None step h = tt
+each_place P Q (Some n) step h = step n h
+
+pub further_place : (P Q : ℕ → Type 0) (before : ℕ) (r : Option ℕ) → ((n : ℕ) → P n → Q (before + n)) → IfSome r P
+    → IfSome (option_map (λ n. before + n) r) Q
+further_place P Q before None step h = tt
+further_place P Q before (Some n) step h = step n h
+
+pub further_some : (before : ℕ) (r : Option ℕ) → is_some (option_map (λ n. before + n) r) ≡ is_some r
+further_some before None = refl
+further_some before (Some n) = refl

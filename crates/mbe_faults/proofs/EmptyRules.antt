@@ -6,6 +6,7 @@ use Rattle.std.proofs.Common.{ap, sym, ◌∙◌, subst, arith, length-append}
 use Rattle.mbe_tt.specs.declared.span.SyntaxContext.{SyntaxContext}
 use Rattle.mbe_tt.specs.declared.span.Edition.{Edition}
 use Rattle.mbe_tt.specs.Trees.Tree.{Forest, flat_len, rest_of, passed}
+use Rattle.mbe_semantics.specs.Syntax.Op.{Ops}
 use Rattle.mbe_semantics.specs.Syntax.Nullable.{is_refused}
 use Rattle.mbe_semantics.specs.Syntax.Template.{Fault, empty_repetition}
 use Rattle.mbe_semantics.specs.Syntax.Definition.{Rule, RuleTrees, Rules, AreParts, after_separator, with_refusal, rule_trees_at}
@@ -13,8 +14,9 @@ use Rattle.mbe_parser.specs.Reader.{ReadsRule}
 use Rattle.mbe_parser.proofs.RuleReading.{IsSeparated, following-some}
 use Rattle.mbe_faults.specs.declared.rules.Refusal.TheVariants as why
 use Rattle.mbe_faults.specs.declared.rules.RulesFault.{RulesFault}
-use Rattle.mbe_faults.specs.Places.{RulesFaultAt}
-use Rattle.mbe_faults.specs.Empty.{RulesEmptyAt, in_rule, separated, IsRuleEmpty, RefusedAt, by_fault, by_empty}
+use Rattle.mbe_faults.specs.Places.{RulesFaultAt, pattern_place}
+use Rattle.mbe_faults.specs.Empty.{EmptyAt, RulesEmptyAt, in_rule, separated, IsEmptyPlace, IsRuleEmpty}
+use Rattle.mbe_faults.specs.Empty.{RefusedAt, by_fault, by_empty}
 use Rattle.mbe_faults.specs.Refusals.{refusal_of, AreRefused, first_of, refused}
 
 -- a pattern of these is refused
@@ -37,6 +39,23 @@ refuses-push (q ∷ rs) r =
 
 same_trees : (o p : RuleTrees) → ◌≡◌ {A = Result RuleTrees Fault} (Ok o) (Ok p) → o ≡ p
 same_trees o p e = cc
+
+-- ---- the pattern of one rule
+
+module _ (HasEdition : SyntaxContext → Edition → Type 0) where
+  pub empty_place : (f : Forest) (os : Ops) (place : Option ℕ) → IfSome place (EmptyAt HasEdition f)
+      → is_some place ≡ is_refused os → IsEmptyPlace HasEdition f os place
+  empty_place f os None w e = sym e
+  empty_place f os (Some n) w e = (sym e, w)
+
+  -- in the rule of these trees
+  pub rule_empty : (f : Forest) (o : RuleTrees) (r : Rule) (place : Option ℕ) (before : ℕ) → rule_trees_at f ≡ Ok o
+      → before ≡ pattern_place f o → IsEmptyPlace HasEdition o.reads r.reads place
+      → IsRuleEmpty HasEdition f r (option_map (λ n. before + n) place)
+  rule_empty f o r None before e p w = w
+  rule_empty f o r (Some n) before e p w = (w.0, o, n, e, w.1, ap (λ (k : ℕ). k + n) p)
+
+-- ---- rule after rule
 
 module _ (HasEdition : SyntaxContext → Edition → Type 0) (separators : List ℕ) where
   -- an empty repetition at the same place

@@ -1,4 +1,5 @@
 pub mod Fronts
+pub mod Inners
 pub mod Places
 pub mod RuleTrees
 pub mod Empty

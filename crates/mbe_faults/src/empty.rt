@@ -1,5 +1,5 @@
 // The first repetition of a pattern that can read nothing.
-ghost use Rattle.std.specs.Prelude.{◌≡◌, ◌≤◌, ◌+◌, ◌<◌, ◌^◌, is_some, option_map, IfOk, IfSome, IfNone};
+ghost use Rattle.std.specs.Prelude.{◌≡◌, ◌≤◌, ◌+◌, ◌<◌, ◌^◌, is_some, option_map, IfOk, IfSome, OnOk};
 ghost use Rattle.mbe_tt.specs.Trees.Tree.{flat_len};
 ghost use Rattle.mbe_semantics.specs.Syntax.Op.{Ops, op as op_before};
 ghost use Rattle.mbe_semantics.specs.Syntax.Nullable.{is_vis, may_skip, is_nullable_op, is_nullable, is_refused_op, is_refused};
@@ -8,7 +8,8 @@ ghost use Rattle.mbe_semantics.specs.Laws.Marking.{MayAsk};
 ghost use Rattle.mbe_ops.specs.Views.{op_of, ops_of};
 ghost use Rattle.mbe_faults.specs.Empty.{EmptyAt, PassesOp};
 
-use crate::front::{Front, eat_front};
+use crate::front::eat_front;
+use crate::inner::inner_of;
 use mbe_ops::ops::Op;
 use mbe_parser::parser::Mode;
 use mbe_semantics::kinds::{MetaVarKind, RepeatKind};
@@ -52,7 +53,7 @@ fn op_reads_nothing<A: Allocator>(op: &Op<A>) -> bool
 
 // Whether all of them can.
 #[cycle(nothing)]
-fn reads_nothing<A: Allocator>(ops: &[Op<A>]) -> bool
+pub(crate) fn reads_nothing<A: Allocator>(ops: &[Op<A>]) -> bool
     ensures { result ≡ is_nullable (ops_of ops.now) }
 {
     let Some((op, rest)) = ops.split_first() else {
@@ -87,19 +88,19 @@ pub fn first_empty<A: Allocator + Copy, E: Copy + Fn(SyntaxContext) -> Edition>(
 {
     let whole = src.remaining().flat_len();
     let mut src = src;
-    for op in ops {
+    let mut rest = ops;
+    'ops: while let Some((op, others)) = rest.split_first() {
         let place = whole - src.remaining().flat_len();
-        let inside = empty_at_front(alloc, edition, op, &mut src)?;
-        if inside.is_some() {
-            return Ok(further(inside, place));
+        if let Some(inside) = empty_at_front(alloc, edition, op, &mut src)? {
+            return Ok(Some(place + inside));
         }
+        rest = others;
     }
     Ok(None)
 }
 
 // The same of the op in front, which is consumed.
 #[cycle(empty)]
-#[tactic(auto, using(mbe_ops::proofs::OpViews::views))]
 fn empty_at_front<A: Allocator + Copy, E: Copy + Fn(SyntaxContext) -> Edition>(
     alloc: A,
     edition: E,
@@ -109,37 +110,22 @@ fn empty_at_front<A: Allocator + Copy, E: Copy + Fn(SyntaxContext) -> Edition>(
     requires answers { MayAsk (E.pre edition) }
     requires read { (os : Ops) × Template (E.post edition) pattern src.old
         (op_before (op_of op.now) os) }
+    requires small { flat_len src.old < 2 ^ 64 }
     ensures place { IfOk result (λ r. IfSome r (EmptyAt (E.post edition) src.old)) }
     ensures refused { IfOk result (λ r. is_some r ≡ is_refused_op (op_of op.now)) }
     ensures past { IfOk result (λ r. PassesOp (E.post edition) (op_of op.now) src.old src.new) }
     ensures within { IfOk result (λ r. IfSome r (λ n. n ≤ flat_len src.old)) }
+    ensures shorter { OnOk result (flat_len src.new ≤ flat_len src.old) }
 {
     let front = eat_front(alloc, edition, src, Mode::Pattern)?;
-    match op {
-        Op::Subtree { tokens, .. } => {
-            let Front::Group(inside) = front else {
-                unreachable!()
-            };
-            Ok(further(first_empty(alloc, edition, &tokens.0, inside)?, 1))
-        }
-        Op::Repeat {
-            tokens,
-            separator,
-            ..
-        } => {
-            let Front::Repetition(body) = front else {
-                unreachable!()
-            };
-            if !separator.is_some() && reads_nothing(&tokens.0) {
-                return Ok(Some(1));
-            }
-            Ok(further(first_empty(alloc, edition, &tokens.0, body)?, 2))
-        }
-        Op::Var { .. } | Op::Literal(_) | Op::Ident(_) | Op::Punct(_) => Ok(None),
-        Op::Ignore { .. }
-        | Op::Index { .. }
-        | Op::Len { .. }
-        | Op::Count { .. }
-        | Op::Concat { .. } => Ok(None),
+    let Some(inner) = inner_of(op) else {
+        return Ok(None);
+    };
+    let Some(inside) = front.inside() else {
+        unreachable!()
+    };
+    if inner.is_empty {
+        return Ok(Some(1));
     }
+    Ok(further(first_empty(alloc, edition, inner.ops, inside)?, inner.before))
 }

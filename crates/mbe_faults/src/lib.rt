@@ -3,6 +3,7 @@
 
 pub mod empty;
 pub mod front;
+mod inner;
 pub mod rules;
 pub mod suffix;
 pub mod templates;
