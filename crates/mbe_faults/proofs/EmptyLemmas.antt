@@ -4,7 +4,6 @@ use Rattle.std.specs.Prelude.{List, [], ◌∷◌, ◌++◌, length, map, drop, 
 use Rattle.std.specs.Prelude.{IfSome, option_map}
 use Rattle.std.proofs.Common.{ap, sym, ◌∙◌, subst, arith}
 use Rattle.std.proofs.Math.Bool.{false≢true}
-use Rattle.mbe_ops.specs.Views.{ops_of}
 use Rattle.mbe_tt.specs.declared.span.SyntaxContext.{SyntaxContext}
 use Rattle.mbe_tt.specs.declared.span.Edition.{Edition}
 use Rattle.mbe_tt.specs.declared.span.Span.{Span}
@@ -12,8 +11,8 @@ use Rattle.mbe_tt.specs.declared.tt.Punct.{Punct}
 use Rattle.mbe_tt.specs.declared.tt.Delimiter.{Delimiter}
 use Rattle.mbe_tt.specs.declared.tt.DelimiterKind.{DelimiterKind}
 use Rattle.mbe_tt.specs.declared.tt.DelimiterKind.TheVariants as delimiters
-use Rattle.mbe_tt.specs.Trees.Leaf.{Ident, literal, ident, punct}
-use Rattle.mbe_tt.specs.Trees.Tree.{Forest, none, leaf, group, flat_len, passed}
+use Rattle.mbe_tt.specs.Trees.Leaf.{Ident, literal, ident, punct, is_text, is_underscore}
+use Rattle.mbe_tt.specs.Trees.Tree.{Forest, none, leaf, group, flat_len, passed, is_truth}
 use Rattle.mbe_semantics.specs.declared.kinds.RepeatKind.{RepeatKind}
 use Rattle.mbe_semantics.specs.Syntax.Op as ops
 use Rattle.mbe_semantics.specs.Syntax.Op.{Name, Op, Ops, no_ops, op, Separator}
@@ -22,6 +21,8 @@ use Rattle.mbe_semantics.specs.Syntax.Template as grammar
 use Rattle.mbe_semantics.specs.Syntax.Template.{pattern, Fault, Head, ended, one, typed, opens_group, opens_repetition}
 use Rattle.mbe_semantics.specs.Syntax.Template.{head, Suffix, Template, after_dollar, repetition_at, repetition_with}
 use Rattle.mbe_semantics.specs.Syntax.Template.{group_after_dollar, suffix_of, separator_of, specifier_at}
+use Rattle.mbe_ops.specs.declared.ops.Op as written
+use Rattle.mbe_ops.specs.Views.{op_of, ops_of}
 use Rattle.mbe_faults.specs.declared.front.Front as code
 use Rattle.mbe_faults.specs.Fronts.{Shows, Fits}
 use Rattle.mbe_faults.specs.Inners.{IsPlain, Holds, inside_of}
@@ -63,21 +64,30 @@ plain_specifier name span (leaf (punct p) none) = tt
 plain_specifier name span (leaf (punct p) (group d inside rest)) = tt
 plain_specifier name span (leaf (punct p) (leaf (literal l) rest)) = tt
 plain_specifier name span (leaf (punct p) (leaf (punct q) rest)) = tt
-plain_specifier name span (leaf (punct p) (leaf (ident i) rest)) = plain_if _ _ _ tt tt
+plain_specifier name span (leaf (punct p) (leaf (ident i) rest)) =
+    plain_if (p.char == 58 && not (is_underscore i.sym)) (Ok (typed name span i rest)) grammar.missing_specifier tt tt
 
 plain_dollar : (p : Punct) (f : Forest) → Plain (after_dollar pattern p f)
 plain_dollar p none = tt
 plain_dollar p (group d inside rest) = plain_group d.kind inside rest
-plain_dollar p (leaf (ident i) rest) = plain_if _ _ _ tt (plain_specifier i.sym i.span rest)
-plain_dollar p (leaf (literal l) rest) = plain_if _ _ _ (plain_specifier l.text_and_suffix l.span rest) tt
-plain_dollar p (leaf (punct q) rest) = plain_if _ _ _ tt tt
+plain_dollar p (leaf (ident i) rest) =
+    plain_if (is_text i.sym (codes "crate")) (Ok (one (grammar.dollar_crate i) rest))
+    (grammar.variable_at pattern i.sym i.span rest) tt (plain_specifier i.sym i.span rest)
+plain_dollar p (leaf (literal l) rest) =
+    plain_if (is_truth l.text_and_suffix) (grammar.variable_at pattern l.text_and_suffix l.span rest)
+    (Err (grammar.expected (codes "expected ident"))) (plain_specifier l.text_and_suffix l.span rest) tt
+plain_dollar p (leaf (punct q) rest) =
+    plain_if (q.char == 36) (grammar.second_dollar pattern q rest) (Err (grammar.expected (codes "expected ident")))
+    tt tt
 
 plain_head : (f : Forest) → Plain (head pattern f)
 plain_head none = tt
 plain_head (group d inside rest) = tt
 plain_head (leaf (literal l) rest) = tt
 plain_head (leaf (ident i) rest) = tt
-plain_head (leaf (punct p) rest) = plain_if _ _ _ (plain_dollar p rest) tt
+plain_head (leaf (punct p) rest) =
+    plain_if (p.char == 36) (after_dollar pattern p rest) (Ok (grammar.puncts_at (leaf (punct p) rest)))
+    (plain_dollar p rest) tt
 
 -- ---- what a front shows
 
@@ -217,9 +227,9 @@ module _ (A : Type 0) (HasEdition : SyntaxContext → Edition → Type 0) where
         × Template HasEdition pattern body b × Template HasEdition pattern left os
     GroupAt d b _ = ⊥
 
-    pub group_at : (d : Delimiter) (b : Ops) → Template HasEdition pattern f (op (ops.group d b) os)
+    pub front_group : (d : Delimiter) (b : Ops) → Template HasEdition pattern f (op (ops.group d b) os)
         → GroupAt d b front
-    group_at d b t =
+    front_group d b t =
         let r : Read (ops.group d b) os f = read t in
         go r front (group_left d r.0 r.1 left front
         (subst (λ (h : Result Head Fault). Shows {A = A} h front left) r.2 shows))
@@ -242,9 +252,9 @@ module _ (A : Type 0) (HasEdition : SyntaxContext → Edition → Type 0) where
         × Template HasEdition pattern body b × Template HasEdition pattern left os
     RepetitionAt b sep k _ = ⊥
 
-    pub repetition_at : (b : Ops) (sep : Option Separator) (k : RepeatKind)
+    pub front_repetition : (b : Ops) (sep : Option Separator) (k : RepeatKind)
         → Template HasEdition pattern f (op (ops.repetition b sep k) os) → RepetitionAt b sep k front
-    repetition_at b sep k t =
+    front_repetition b sep k t =
         let r : Read (ops.repetition b sep k) os f = read t in
         go r front (repetition_left sep k r.0 r.1 left front
         (subst (λ (h : Result Head Fault). Shows {A = A} h front left) r.2 shows))
@@ -298,19 +308,19 @@ module _ (A : Type 0) (HasEdition : SyntaxContext → Edition → Type 0) where
     pub room : before + flat_len inside ≤ flat_len f
     pub shorter : flat_len left ≤ flat_len f
 
-  opens_same : (o : Op) (f left inside body : Forest) (b c : Ops) (empty none : Bool) (before n : ℕ)
-      → inside ≡ body → b ≡ c → empty ≡ none → before ≡ n → Opens o f left body c none n
+  opens_same : (o : Op) (f left inside body : Forest) (b c : Ops) (empty seen : Bool) (before n : ℕ)
+      → inside ≡ body → b ≡ c → empty ≡ seen → before ≡ n → Opens o f left body c seen n
       → Opens o f left inside b empty before
-  opens_same o f left inside body b c empty none before n p q r s h =
+  opens_same o f left inside body b c empty seen before n p q r s h =
       subst (λ (g : Forest). Opens o f left g b empty before) (sym p)
       (subst (λ (os : Ops). Opens o f left body os empty before) (sym q)
       (subst (λ (v : Bool). Opens o f left body c v before) (sym r)
-      (subst (λ (k : ℕ). Opens o f left body c none k) (sym s) h)))
+      (subst (λ (k : ℕ). Opens o f left body c seen k) (sym s) h)))
 
-  opens_group : (f left body : Forest) (d : Delimiter) (b : Ops) → head pattern f ≡ Ok (opens_group d body left)
+  group_opens : (f left body : Forest) (d : Delimiter) (b : Ops) → head pattern f ≡ Ok (opens_group d body left)
       → Template HasEdition pattern body b → 2 + flat_len body + flat_len left ≤ flat_len f
       → Opens (ops.group d b) f left body b false 1
-  opens_group f left body d b e t fits = record {
+  group_opens f left body d b e t fits = record {
     body = t;
     past = group_past f body left d b e t;
     here = λ e. absurd (false≢true e);
@@ -321,11 +331,11 @@ module _ (A : Type 0) (HasEdition : SyntaxContext → Edition → Type 0) where
     shorter = omega arith;
   }
 
-  opens_repetition : (f left body : Forest) (b : Ops) (sep : Option Separator) (k : RepeatKind)
+  repetition_opens : (f left body : Forest) (b : Ops) (sep : Option Separator) (k : RepeatKind)
       → head pattern f ≡ Ok (opens_repetition sep k body left) → Template HasEdition pattern body b
       → 1 + 2 + flat_len body + flat_len left ≤ flat_len f
       → Opens (ops.repetition b sep k) f left body b (is_unseparated sep && is_nullable b) 2
-  opens_repetition f left body b sep k e t fits = record {
+  repetition_opens f left body b sep k e t fits = record {
     body = t;
     past = repetition_past f body left b sep k e t;
     here = λ v. here f body left sep k b e t v;
@@ -342,7 +352,7 @@ module _ (A : Type 0) (HasEdition : SyntaxContext → Edition → Type 0) where
       → Opens (ops.group d b) f left inside (ops_of x.ops.now) x.is_empty x.before
   in_group_front f left front shows os d b x inside (code.TheVariants.Group body) g h fits e =
       opens_same (ops.group d b) f left inside body (ops_of x.ops.now) b x.is_empty false x.before 1
-      (same_some inside body (sym e)) h.0 h.1 h.2 (opens_group f left body d b g.0 g.1 fits)
+      (same_some inside body (sym e)) h.0 h.1 h.2 (group_opens f left body d b g.0 g.1 fits)
   in_group_front f left front shows os d b x inside code.TheVariants.Ended g h fits e = absurd g
   in_group_front f left front shows os d b x inside code.TheVariants.Whole g h fits e = absurd g
   in_group_front f left front shows os d b x inside (code.TheVariants.Repetition body) g h fits e = absurd g
@@ -356,7 +366,7 @@ module _ (A : Type 0) (HasEdition : SyntaxContext → Edition → Type 0) where
   in_repetition_front f left front shows os b sep k x inside (code.TheVariants.Repetition body) g h fits e =
       opens_same (ops.repetition b sep k) f left inside body (ops_of x.ops.now) b x.is_empty
       (is_unseparated sep && is_nullable b) x.before 2 (same_some inside body (sym e)) h.0 h.1 h.2
-      (opens_repetition f left body b sep k g.0 g.1 fits)
+      (repetition_opens f left body b sep k g.0 g.1 fits)
   in_repetition_front f left front shows os b sep k x inside code.TheVariants.Ended g h fits e = absurd g
   in_repetition_front f left front shows os b sep k x inside code.TheVariants.Whole g h fits e = absurd g
   in_repetition_front f left front shows os b sep k x inside (code.TheVariants.Group body) g h fits e = absurd g
@@ -366,9 +376,9 @@ module _ (A : Type 0) (HasEdition : SyntaxContext → Edition → Type 0) where
       (x : Inner A) (inside : Forest) → Template HasEdition pattern f (op o os) → Holds x o → Fits 1 front f left
       → inside_of front ≡ Some inside → Opens o f left inside (ops_of x.ops.now) x.is_empty x.before
   opens f left front shows os (ops.group d b) x inside t h fits e =
-      in_group_front f left front shows os d b x inside front (group_at f left front shows os d b t) h fits e
+      in_group_front f left front shows os d b x inside front (front_group f left front shows os d b t) h fits e
   opens f left front shows os (ops.repetition b sep k) x inside t h fits e =
-      in_repetition_front f left front shows os b sep k x inside front (repetition_at f left front shows os b sep k t)
+      in_repetition_front f left front shows os b sep k x inside front (front_repetition f left front shows os b sep k t)
       h fits e
   opens f left front shows os (ops.token w) x inside t h fits e = absurd h
   opens f left front shows os (ops.variable name kind span) x inside t h fits e = absurd h
@@ -395,9 +405,9 @@ module _ (A : Type 0) (HasEdition : SyntaxContext → Edition → Type 0) where
   pub not_closed : (f left : Forest) (front : code.Front A) (shows : Shows (head pattern f) front left) (os : Ops)
       (o : Op) (x : Inner A) → Template HasEdition pattern f (op o os) → Holds x o → inside_of front ≡ None → ⊥
   not_closed f left front shows os (ops.group d b) x t h e =
-      group_closed f left front shows os d b front (group_at f left front shows os d b t) e
+      group_closed f left front shows os d b front (front_group f left front shows os d b t) e
   not_closed f left front shows os (ops.repetition b sep k) x t h e =
-      repetition_closed f left front shows os b sep k front (repetition_at f left front shows os b sep k t) e
+      repetition_closed f left front shows os b sep k front (front_repetition f left front shows os b sep k t) e
   not_closed f left front shows os (ops.token w) x t h e = h
   not_closed f left front shows os (ops.variable name kind span) x t h e = h
   not_closed f left front shows os (ops.expression w) x t h e = h
@@ -418,12 +428,27 @@ module _ (A : Type 0) (HasEdition : SyntaxContext → Edition → Type 0) where
       let r : Simple os f = is_simple o os f p (read t) in
       whole_shorter f r.0 left front (r.3 front left shows) fits
 
-pub plain_refused : (o : Op) → IsPlain o → false ≡ is_refused_op o
-plain_refused (ops.token t) p = refl
-plain_refused (ops.variable name kind span) p = refl
-plain_refused (ops.expression e) p = refl
-plain_refused (ops.group d b) p = absurd p
-plain_refused (ops.repetition b s k) p = absurd p
+-- ---- one op after the other
+
+passed_both : (f g h : Forest) (n : ℕ) → flat_len g ≤ flat_len f → flat_len h ≤ flat_len g
+    → passed f g + (passed g h + n) ≡ passed f h + n
+passed_both f g h n s t = omega arith
+
+module _ (HasEdition : SyntaxContext → Edition → Type 0) where
+  pub read_next : {A : Type 0} (f : Forest) (rest others : List (written.Op A)) (x : written.Op A) → rest ≡ x ∷ others
+      → Template HasEdition pattern f (ops_of rest) → Template HasEdition pattern f (op (op_of x) (ops_of others))
+  read_next {A} f rest others x e t =
+      subst (λ (os : List (written.Op A)). Template HasEdition pattern f (ops_of os)) e t
+
+  pub same_empty : (f : Forest) (n m : ℕ) → n ≡ m → EmptyAt HasEdition f n → EmptyAt HasEdition f m
+  same_empty f n m e w = subst (λ (k : ℕ). EmptyAt HasEdition f k) e w
+
+  -- the first in the trees after an op is the first of all
+  pub further_at : (f g h : Forest) (o : Op) → flat_len g ≤ flat_len f → flat_len h ≤ flat_len g
+      → ((n : ℕ) → EmptyAt HasEdition g n → EmptyAt HasEdition f (passed f g + n)) → PassesOp HasEdition o g h
+      → is_refused_op o ≡ false → (n : ℕ) → EmptyAt HasEdition h n → EmptyAt HasEdition f (passed f h + n)
+  further_at f g h o s t at past e n w =
+      same_empty f _ _ (passed_both f g h n s t) (at (passed g h + n) (past.at e n w))
 
 -- ---- a place that may be there
 

@@ -91,10 +91,11 @@ pub fn first_empty<A: Allocator + Copy, E: Copy + Fn(SyntaxContext) -> Edition>(
     let mut rest = ops;
     'ops: while let Some((op, others)) = rest.split_first() {
         let place = whole - src.remaining().flat_len();
-        if let Some(inside) = empty_at_front(alloc, edition, op, &mut src)? {
-            return Ok(Some(place + inside));
+        let found = empty_at_front(alloc, edition, op, &mut src)?;
+        match found {
+            Some(inside) => return Ok(Some(place + inside)),
+            None => rest = others,
         }
-        rest = others;
     }
     Ok(None)
 }
@@ -127,5 +128,8 @@ fn empty_at_front<A: Allocator + Copy, E: Copy + Fn(SyntaxContext) -> Edition>(
     if inner.is_empty {
         return Ok(Some(1));
     }
-    Ok(further(first_empty(alloc, edition, inner.ops, inside)?, inner.before))
+    Ok(further(
+        first_empty(alloc, edition, inner.ops, inside)?,
+        inner.before,
+    ))
 }
