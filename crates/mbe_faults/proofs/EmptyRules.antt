@@ -5,19 +5,21 @@ use Rattle.std.specs.List.{list_any}
 use Rattle.std.proofs.Common.{ap, sym, ◌∙◌, subst, arith, length-append}
 use Rattle.mbe_tt.specs.declared.span.SyntaxContext.{SyntaxContext}
 use Rattle.mbe_tt.specs.declared.span.Edition.{Edition}
-use Rattle.mbe_tt.specs.Trees.Tree.{Forest, flat_len, rest_of, passed}
+use Rattle.mbe_tt.specs.Trees.Tree.{Forest, none, flat_len, rest_of, passed}
 use Rattle.mbe_semantics.specs.Syntax.Op.{Ops}
 use Rattle.mbe_semantics.specs.Syntax.Nullable.{is_refused}
-use Rattle.mbe_semantics.specs.Syntax.Template.{Fault, empty_repetition}
-use Rattle.mbe_semantics.specs.Syntax.Definition.{Rule, RuleTrees, Rules, AreParts, after_separator, with_refusal, rule_trees_at}
-use Rattle.mbe_parser.specs.Reader.{ReadsRule}
+use Rattle.mbe_semantics.specs.declared.macro_call_style.MacroCallStyle.TheVariants.{FnLike}
+use Rattle.mbe_semantics.specs.Syntax.Template.{pattern, template, Fault, empty_repetition, Template}
+use Rattle.mbe_semantics.specs.Syntax.Definition.{Rule, RuleTrees, Rules, AreParts, PartsFault, after_separator}
+use Rattle.mbe_semantics.specs.Syntax.Definition.{with_refusal, rule_trees_at, IsMacroOfArguments, one_rule, faulty}
+use Rattle.mbe_parser.specs.Reader.{mode_of, ReadsRule}
 use Rattle.mbe_parser.proofs.RuleReading.{IsSeparated, following-some}
 use Rattle.mbe_faults.specs.declared.rules.Refusal.TheVariants as why
 use Rattle.mbe_faults.specs.declared.rules.RulesFault.{RulesFault}
 use Rattle.mbe_faults.specs.Places.{RulesFaultAt, pattern_place}
 use Rattle.mbe_faults.specs.Empty.{EmptyAt, RulesEmptyAt, in_rule, separated, IsEmptyPlace, IsRuleEmpty}
-use Rattle.mbe_faults.specs.Empty.{RefusedAt, by_fault, by_empty}
-use Rattle.mbe_faults.specs.Refusals.{refusal_of, AreRefused, first_of, refused}
+use Rattle.mbe_faults.specs.Empty.{RefusedAt, by_fault, by_empty, OneRefusedAt, by_empty_of}
+use Rattle.mbe_faults.specs.Refusals.{refusal_of, AreRefused, IsOneRefused, first_of, refused, empty_within}
 
 -- a pattern of these is refused
 abbrev pub refuses : List Rule → Bool
@@ -54,6 +56,41 @@ module _ (HasEdition : SyntaxContext → Edition → Type 0) where
       → IsRuleEmpty HasEdition f r (option_map (λ n. before + n) place)
   rule_empty f o r None before e p w = w
   rule_empty f o r (Some n) before e p w = (w.0, o, n, e, w.1, ap (λ (k : ℕ). k + n) p)
+
+  -- ---- the one rule of a `macro` with arguments
+
+  module _ (arguments body : Forest) where
+    abbrev OneRule : RuleTrees
+    OneRule = record { style = FnLike; reads = arguments; writes = body; back = none }
+
+    pub one_faulty : (rs : List Rule) (fault : Fault) → rs ≡ [] → PartsFault HasEdition OneRule fault
+        → IsOneRefused HasEdition arguments body rs (Some fault)
+    one_faulty rs fault e p =
+        subst (λ (xs : List Rule). IsMacroOfArguments HasEdition arguments body xs (Some fault)) (sym e) (faulty fault p)
+
+    one_read : (r : Rule) (rs : List Rule) (why : Option Fault) → rs ≡ r ∷ [] → AreParts HasEdition OneRule r
+        → with_refusal (r ∷ []) None ≡ why → IsOneRefused HasEdition arguments body rs why
+    one_read r rs why e p w =
+        subst (λ (xs : List Rule). IsMacroOfArguments HasEdition arguments body xs why) (sym e)
+        (subst (λ (x : Option Fault). IsMacroOfArguments HasEdition arguments body (r ∷ []) x) w (one_rule r p))
+
+    -- it is refused for what its pattern has
+    pub one_refused : (r : Rule) (rs : List Rule) (place : Option ℕ) → rs ≡ r ∷ [] → AreParts HasEdition OneRule r
+        → IsEmptyPlace HasEdition arguments r.reads place
+        → IsOneRefused HasEdition arguments body rs (option_map (λ x. refusal_of x.fault) (empty_within place))
+    one_refused r rs None e p w =
+        one_read r rs None e p (ap (λ (b : Bool). if b || false then Some empty_repetition else None) w)
+    one_refused r rs (Some n) e p w =
+        one_read r rs (Some empty_repetition) e p
+        (ap (λ (b : Bool). if b || false then Some empty_repetition else None) w.0)
+
+    -- there
+    pub one_placed : (reads writes : Ops) (place : Option ℕ) → Template HasEdition pattern arguments reads
+        → Template HasEdition template body writes → IsEmptyPlace HasEdition arguments reads place
+        → IfSome (empty_within place)
+        (λ x. OneRefusedAt HasEdition arguments body (refusal_of x.fault) (mode_of x.part) x.place)
+    one_placed reads writes None r t w = tt
+    one_placed reads writes (Some n) r t w = by_empty_of reads writes n r t w.1
 
 -- ---- rule after rule
 

@@ -1,4 +1,4 @@
-use Rattle.std.proofs.Common.{◌∙◌, ap, refl}
+use Rattle.std.proofs.Common.{ap, refl}
 use Rattle.mbe_ops.specs.Views.{ops_of}
 use Rattle.mbe_ops.proofs.OpViews.{view-open, view-open_repeat}
 use Rattle.mbe_faults.proofs.inner.inner_of.Goals as goal
