@@ -41,6 +41,7 @@ ROWS = [
     ("([$($x:expr),*]) => { 0 }", "(1, 2)"),
     ("(@sum $x:expr) => { 0 }; ($($x:expr),*) => { 0 }", "@sun 1"),
     ("($(a)? $(a)?) => { 0 }", "a"),
+    ("(a $($v:vis)*) => { 0 }", "a"),
 ]
 # Here rustc names the whole call, since there is nothing in it.
 EMPTY_CALL = ("($($k:ident = $v:expr),+) => { 0 }", "")

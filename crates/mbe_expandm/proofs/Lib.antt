@@ -1,4 +1,5 @@
 mod CrateLemmas
+mod EmptyEditions
 mod FeedLemmas
 mod LintLemmas
 mod NamingLemmas

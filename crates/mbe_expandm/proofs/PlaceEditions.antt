@@ -17,7 +17,7 @@ module _ {A B : SyntaxContext → Edition → Type 0} (more : (c : SyntaxContext
   specifies (dated_expr e is asked) = dated_expr e is (more _ e asked)
   specifies (undated a b) = undated a b
 
-  ops_read : {mode : Mode} {f : Forest} {os : Ops} → Template A mode f os → Template B mode f os
+  pub ops_read : {mode : Mode} {f : Forest} {os : Ops} → Template A mode f os → Template B mode f os
   ops_read (ops.nothing f e) = ops.nothing f e
   ops_read (ops.token f rest o os e t) = ops.token f rest o os e (ops_read t)
   ops_read (ops.variable f rest name span specifier kind os e s t) =
@@ -41,7 +41,7 @@ module _ {A B : SyntaxContext → Edition → Type 0} (more : (c : SyntaxContext
   place_read (after_repetition f inside rest separator repeat body n e b w) =
       after_repetition f inside rest separator repeat body n e (ops_read b) (place_read w)
 
-  parts_read : {o : RuleTrees} {r : Rule} → AreParts A o r → AreParts B o r
+  pub parts_read : {o : RuleTrees} {r : Rule} → AreParts A o r → AreParts B o r
   parts_read p = record { style = p.style; reads = ops_read p.reads; writes = ops_read p.writes }
 
   rule_place : {fault : Fault} {f : Forest} {n : ℕ} → RuleFaultAt A fault f n → RuleFaultAt B fault f n

@@ -135,7 +135,7 @@ static SECOND: [Row; 11] = [
     ),
     (
         "macro_rules! m { ($x:ident) => {}; ($(a)? b) => {}; ($()*) => {} }",
-        "1:14 error: macro `m`: empty token tree in repetition; \
+        "1:55 error: macro `m`, rule 3: empty token tree in repetition; \
             1:19 warning: unused macro variable: `$x`; \
             1:19 help: if this is intentional, prefix it with an underscore: `$_x`; ",
     ),

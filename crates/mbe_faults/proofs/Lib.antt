@@ -2,3 +2,6 @@ pub mod FrontLemmas
 pub mod PlaceLemmas
 pub mod PlaceLaws
 pub mod RuleLemmas
+pub mod EmptyLemmas
+pub mod EmptyRules
+pub mod OpSizes

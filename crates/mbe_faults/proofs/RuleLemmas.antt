@@ -2,11 +2,9 @@
 use Rattle.std.specs.Prelude.{◌≡◌, ◌≢◌, ◌≤◌, ◌+◌, ◌||◌, ℕ, suc, Bool, true, false, if◌then◌else◌, List, [], ◌∷◌, ◌++◌, length, codes, Some, None, refl}
 use Rattle.std.proofs.Common.{ap, sym, ◌∙◌, subst, arith, length-append}
 use Rattle.std.proofs.lemmas.Option.{none-some, same_Some}
-use Rattle.std.proofs.lemmas.Bool.{eq-eqb, ne_eqb}
 use Rattle.mbe_tt.specs.declared.span.SyntaxContext.{SyntaxContext}
 use Rattle.mbe_tt.specs.declared.span.Edition.{Edition}
 use Rattle.mbe_tt.specs.declared.tt.Delimiter.{Delimiter}
-use Rattle.mbe_tt.specs.Trees.Leaf.{literal, punct, ident}
 use Rattle.mbe_tt.specs.Trees.Tree.{Forest, none, leaf, group, flat_len, rest_of, passed, front_group, front_char}
 use Rattle.mbe_semantics.specs.Syntax.Template.{Fault}
 use Rattle.mbe_semantics.specs.Syntax.Definition.{Rule, after_separator}
@@ -14,7 +12,7 @@ use Rattle.mbe_parser.specs.Reader.{is_word, ReadsRule}
 use Rattle.mbe_parser.specs.declared.rules.Rule as code
 use Rattle.mbe_parser.specs.RuleViews.{rule_of, rules_seen}
 use Rattle.mbe_parser.proofs.RuleReading.{IsSeparated, following-some, following-none}
-use Rattle.mbe_faults.specs.Places.{begins_with, is_group, wanting, stop_at_pattern, stop_at_style, stop_in_rule, RuleFaultAt, RulesFaultAt, in_rule, unseparated, separated}
+use Rattle.mbe_faults.specs.Places.{is_group, wanting, stop_at_pattern, stop_at_style, stop_in_rule, RuleFaultAt, RulesFaultAt, in_rule, unseparated, separated}
 
 -- ---- what is wanted next
 
@@ -34,34 +32,12 @@ no_group_there none e = refl
 no_group_there (leaf l rest) e = refl
 no_group_there (group d inside rest) e = absurd (none-some (d, inside) (sym e))
 
-char_there : (c : ℕ) (f : Forest) → front_char f ≡ Some c → begins_with c f ≡ true
-char_there c none e = absurd (none-some c e)
-char_there c (leaf (literal l) rest) e = absurd (none-some c e)
-char_there c (leaf (ident i) rest) e = absurd (none-some c e)
-char_there c (leaf (punct p) rest) e = eq-eqb p.char c (same_Some p.char c e)
-char_there c (group d inside rest) e = absurd (none-some c e)
-
-no_char_there : (c : ℕ) (f : Forest) → (front_char f ≡ Some c → ⊥) → begins_with c f ≡ false
-no_char_there c none n = refl
-no_char_there c (leaf (literal l) rest) n = refl
-no_char_there c (leaf (ident i) rest) n = refl
-no_char_there c (leaf (punct p) rest) n = ne_eqb p.char c (λ e. n (ap Some e))
-no_char_there c (group d inside rest) n = refl
-
 pub past_group : (k : Forest → Forest) (f : Forest) (g : Delimiter × Forest) → front_group f ≡ Some g
     → wanting is_group k f ≡ k (rest_of f)
 past_group k f g e = if_so (is_group f) (k (rest_of f)) f (group_there f g e)
 
 pub at_no_group : (k : Forest → Forest) (f : Forest) → front_group f ≡ None → wanting is_group k f ≡ f
 at_no_group k f e = if_not (is_group f) (k (rest_of f)) f (no_group_there f e)
-
-pub past_char : (c : ℕ) (k : Forest → Forest) (f : Forest) → front_char f ≡ Some c
-    → wanting (begins_with c) k f ≡ k (rest_of f)
-past_char c k f e = if_so (begins_with c f) (k (rest_of f)) f (char_there c f e)
-
-pub at_no_char : (c : ℕ) (k : Forest → Forest) (f : Forest) → (front_char f ≡ Some c → ⊥)
-    → wanting (begins_with c) k f ≡ f
-at_no_char c k f n = if_not (begins_with c f) (k (rest_of f)) f (no_char_there c f n)
 
 -- ---- how long they are
 

@@ -27,6 +27,7 @@ use mbe_tt::tt::{
 use std::alloc::{AllocError, Allocator, Global};
 
 /// What is at the front, and what is inside it, which isn't read. Clauses see it by `Shows`.
+#[derive(Drop)]
 pub enum Front<'a, A: Allocator = Global> {
     /// There is nothing.
     Ended,

@@ -1,7 +1,9 @@
 // Where a definition is refused.
 #![tactic(auto)]
 
+pub mod empty;
 pub mod front;
+mod inner;
 pub mod rules;
 pub mod suffix;
 pub mod templates;

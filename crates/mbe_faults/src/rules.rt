@@ -1,17 +1,24 @@
 // The rules of a definition up to the first fault, and the place of it.
-ghost use Rattle.std.specs.Prelude.{◌≡◌, ◌<◌, ◌≤◌, ◌+◌, option_map, IfOk, IfErr, IfSome, OnOk, OnErr, is_ok, if◌then◌else◌};
+ghost use Rattle.std.specs.Prelude.{◌≡◌, ◌<◌, ◌≤◌, ◌+◌, ◌^◌, option_map, IfOk, IfErr, IfSome, OnOk, OnErr, is_ok, if◌then◌else◌};
 ghost use Rattle.mbe_tt.specs.Trees.Tree.{flat_len, rest_of};
 ghost use Rattle.mbe_errors.specs.ErrorViews.{fault_of};
 ghost use Rattle.mbe_semantics.specs.declared.macro_call_style.MacroCallStyle.{MacroCallStyle as SpecStyle};
+ghost use Rattle.mbe_semantics.specs.Syntax.Template.{pattern, Template};
 ghost use Rattle.mbe_semantics.specs.Syntax.Definition.{rule_trees_at, pattern_at};
 ghost use Rattle.mbe_semantics.specs.Laws.Marking.{MayAsk};
-ghost use Rattle.mbe_parser.specs.Reader.{mode_of, is_word, IsStyled, AreRuleTrees, ReadsRule, AreRules, IsOneRule};
+ghost use Rattle.mbe_ops.specs.Views.{template_of};
+ghost use Rattle.mbe_parser.specs.Reader.{mode_of, is_word, IsStyled, AreRuleTrees, ReadsRule};
 ghost use Rattle.mbe_parser.specs.RuleViews.{rule_of, rules_seen};
-ghost use Rattle.mbe_faults.specs.Places.{RuleFaultAt, RulesFaultAt, OneRuleFaultAt, stop_at_pattern, stop_in_rule};
+ghost use Rattle.mbe_faults.specs.Places.{RuleFaultAt, TemplateFaultAt, stop_at_pattern, stop_in_rule};
 ghost use Rattle.mbe_faults.specs.RuleTrees.{IsRule};
+ghost use Rattle.mbe_faults.specs.Empty.{RefusedAt, OneRefusedAt, IsEmptyPlace, IsRuleEmpty};
+ghost use Rattle.mbe_faults.specs.Refusals.{refusal_of, AreRefused, IsOneRefused, first_of, refused, empty_within};
+ghost use Rattle.mbe_faults.specs.declared.rules.Refusal.TheVariants as refusal;
 
+use crate::empty::{first_empty, further};
 use crate::templates::{Found, read_part};
 use mbe_errors::error::SyntaxFault;
+use mbe_ops::ops::MetaTemplate;
 use mbe_parser::parser::Mode;
 use mbe_parser::rules::Rule;
 use mbe_semantics::macro_call_style::MacroCallStyle;
@@ -19,28 +26,38 @@ use mbe_tt::span::{Edition, SyntaxContext};
 use mbe_tt::tt::{Leaf, TtElement, TtIter};
 use std::alloc::{AllocError, Allocator};
 
-/// A fault of a definition, and where it is.
+/// Why a definition is refused. Clauses see it by `refusal_of`.
+#[derive(Clone, Copy, Debug, PartialEq, Eq)]
+pub enum Refusal {
+    /// A token can't be read.
+    Syntax(SyntaxFault),
+    /// A repetition of a pattern has no separator and a body that can read nothing.
+    EmptyRepetition,
+}
+
+/// Why a definition is refused, and where.
 #[derive(Clone, Copy, Debug, PartialEq, Eq)]
 pub struct RulesFault {
-    pub fault: SyntaxFault,
+    pub fault: Refusal,
     /// The number of the rules that were read before.
     pub rule: usize,
-    /// The number of flat tokens before the token that can't be read.
+    /// The number of flat tokens before the token that can't be read, or before the group of the repetition.
     pub place: usize,
 }
 
-/// A fault of the one rule of a `macro` with arguments, and where it is.
+/// Why the one rule of a `macro` with arguments is refused, and where.
 #[derive(Clone, Copy, Debug, PartialEq, Eq)]
 pub struct PartFault {
-    pub fault: SyntaxFault,
-    /// Whether it is in the arguments, which are the pattern, or in the body.
+    pub fault: Refusal,
+    /// Whether that is in the arguments, which are the pattern, or in the body.
     pub part: Mode,
-    /// The number of flat tokens before the token that can't be read, in the arguments or in the body.
+    /// The number of flat tokens before the token that can't be read, or before the group of the repetition; in the arguments or in
+    /// the body.
     pub place: usize,
 }
 
-/// The rules that the chars separate, up to the first fault, and that fault. `AllocError` if out of memory, and beyond
-/// `mbe_parser::parser::NESTING_LIMIT`.
+/// The rules that the chars separate, up to the first fault; and why they are refused: for a repetition of a pattern that was read, or
+/// else for that fault. `AllocError` if out of memory, and beyond `mbe_parser::parser::NESTING_LIMIT`.
 pub fn read_rules<A: Allocator + Copy, E: Copy + Fn(SyntaxContext) -> Edition>(
     alloc: A,
     edition: E,
@@ -49,36 +66,40 @@ pub fn read_rules<A: Allocator + Copy, E: Copy + Fn(SyntaxContext) -> Edition>(
     missing: SyntaxFault,
 ) -> Result<(Vec<Rule<A>, A>, Option<RulesFault>), AllocError>
     requires { MayAsk (E.pre edition) }
-    ensures rules { IfOk result (λ r. AreRules (E.post edition) separators.now (fault_of missing)
-        src.entry (rules_seen r.0.items) (option_map (λ x. x.fault) r.1)) }
-    ensures place { IfOk result (λ r. IfSome r.1 (λ x. RulesFaultAt (E.post edition)
-        separators.now (fault_of missing) (fault_of x.fault) src.entry x.rule x.place)) }
+    ensures rules { IfOk result (λ r. AreRefused (E.post edition) separators.now (fault_of missing)
+        src.entry (rules_seen r.0.items) (option_map (λ x. refusal_of x.fault) r.1)) }
+    ensures place { IfOk result (λ r. IfSome r.1 (λ x. RefusedAt (E.post edition)
+        separators.now (fault_of missing) src.entry (refusal_of x.fault) x.rule x.place)) }
 {
     let whole = src.remaining().flat_len();
     let mut src = src;
     let mut rules = Vec::new(alloc);
+    let mut empty = None;
     'rules: while !src.is_empty() {
         let before = whole - src.remaining().flat_len();
         match read_rule(alloc, edition, &mut src)? {
-            Ok(rule) => rules.push(rule)?,
+            Ok((rule, place)) => {
+                empty = first_of(empty, place, rules.len(), before);
+                rules.push(rule)?;
+            }
             Err(found) => {
                 let place = before + found.place;
                 let fault = faulty(found.fault, rules.len(), place);
-                return Ok((rules, Some(fault)));
+                return Ok((rules, refused(empty, fault)));
             }
         }
         let Ok(()) = src.expect_any_char(separators) else {
             if src.is_empty() {
-                return Ok((rules, None));
+                return Ok((rules, empty));
             }
             let fault = faulty(missing, rules.len(), whole - src.remaining().flat_len());
-            return Ok((rules, Some(fault)));
+            return Ok((rules, refused(empty, fault)));
         };
     }
-    Ok((rules, None))
+    Ok((rules, empty))
 }
 
-/// The rule of a `macro` with arguments, or its first fault. `AllocError` as for `read_rules`.
+/// The rule of a `macro` with arguments, or its first fault; and why it is refused. `AllocError` as for `read_rules`.
 pub fn read_one_rule<A: Allocator + Copy, E: Copy + Fn(SyntaxContext) -> Edition>(
     alloc: A,
     edition: E,
@@ -86,35 +107,104 @@ pub fn read_one_rule<A: Allocator + Copy, E: Copy + Fn(SyntaxContext) -> Edition
     body: TtIter<'_, A>,
 ) -> Result<(Vec<Rule<A>, A>, Option<PartFault>), AllocError>
     requires { MayAsk (E.pre edition) }
-    ensures rule { IfOk result (λ r. IsOneRule (E.post edition) arguments.entry body.entry
-        (rules_seen r.0.items) (option_map (λ x. x.fault) r.1)) }
-    ensures place { IfOk result (λ r. IfSome r.1 (λ x. OneRuleFaultAt (E.post edition)
-        arguments.entry body.entry (fault_of x.fault) (mode_of x.part) x.place)) }
+    ensures rule { IfOk result (λ r. IsOneRefused (E.post edition) arguments.entry body.entry
+        (rules_seen r.0.items) (option_map (λ x. refusal_of x.fault) r.1)) }
+    ensures place { IfOk result (λ r. IfSome r.1 (λ x. OneRefusedAt (E.post edition)
+        arguments.entry body.entry (refusal_of x.fault) (mode_of x.part) x.place)) }
 {
     let mut rules = Vec::new(alloc);
-    let lhs = match read_part(alloc, edition, arguments, Mode::Pattern)? {
-        Ok(ops) => ops,
+    let (lhs, empty) = match read_pattern(alloc, edition, arguments)? {
+        Ok(read) => read,
         Err(found) => return Ok((rules, Some(found.within(Mode::Pattern)))),
     };
     match read_part(alloc, edition, body, Mode::Template)? {
         Ok(rhs) => {
             let style = MacroCallStyle::FnLike;
             rules.push(Rule { style, lhs, rhs })?;
-            Ok((rules, None))
+            Ok((rules, empty_within(empty)))
         }
         Err(found) => Ok((rules, Some(found.within(Mode::Template)))),
     }
 }
 
+// The ops of a pattern and the place of its first repetition that can read nothing; or its first fault.
+fn read_pattern<A: Allocator + Copy, E: Copy + Fn(SyntaxContext) -> Edition>(
+    alloc: A,
+    edition: E,
+    src: TtIter<'_, A>,
+) -> Result<Result<(MetaTemplate<A>, Option<usize>), Found>, AllocError>
+    requires { MayAsk (E.pre edition) }
+    ensures ops { IfOk result (λ r. IfOk r (λ t. Template (E.post edition) pattern
+        src.entry (template_of t.0))) }
+    ensures empty { IfOk result (λ r. IfOk r (λ t. IsEmptyPlace (E.post edition)
+        src.entry (template_of t.0) t.1)) }
+    ensures fault { IfOk result (λ r. IfErr r (λ x. TemplateFaultAt (E.post edition)
+        pattern (fault_of x.fault) src.entry x.place)) }
+    ensures within { IfOk result (λ r. IfErr r (λ x. x.place ≤ flat_len src.entry)) }
+    ensures within_empty { IfOk result (λ r. IfOk r (λ t. IfSome t.1
+        (λ n. n ≤ flat_len src.entry))) }
+{
+    match read_part(alloc, edition, src.fork(), Mode::Pattern)? {
+        Ok(ops) => {
+            let empty = first_empty(alloc, edition, &ops.0, src)?;
+            Ok(Ok((ops, empty)))
+        }
+        Err(found) => Ok(Err(found)),
+    }
+}
+
+// The first of a definition's empty repetitions, of which a rule may have one more, at this place in its trees.
+fn first_of(
+    first: Option<RulesFault>,
+    place: Option<usize>,
+    rule: usize,
+    before: usize,
+) -> Option<RulesFault>
+    requires { IfSome place (λ n. before + n < 2 ^ 64) }
+    ensures { result ≡ first_of first place rule before }
+{
+    if first.is_some() {
+        return first;
+    }
+    let place = place?;
+    Some(RulesFault {
+        fault: Refusal::EmptyRepetition,
+        rule,
+        place: before + place,
+    })
+}
+
+// An empty repetition goes before a fault.
+fn refused(empty: Option<RulesFault>, fault: RulesFault) -> Option<RulesFault>
+    ensures { result ≡ refused empty fault }
+{
+    match empty {
+        Some(empty) => Some(empty),
+        None => Some(fault),
+    }
+}
+
+// An empty repetition in the pattern of a rule.
+fn empty_within(place: Option<usize>) -> Option<PartFault>
+    ensures { result ≡ empty_within place }
+{
+    let place = place?;
+    Some(PartFault {
+        fault: Refusal::EmptyRepetition,
+        part: Mode::Pattern,
+        place,
+    })
+}
+
 impl Found {
     // Of that part of a rule.
     fn within(self, part: Mode) -> PartFault
-        ensures fault { result.fault ≡ self.fault }
+        ensures fault { result.fault ≡ refusal.Syntax self.fault }
         ensures part { result.part ≡ part }
         ensures place { result.place ≡ self.place }
     {
         PartFault {
-            fault: self.fault,
+            fault: Refusal::Syntax(self.fault),
             part,
             place: self.place,
         }
@@ -122,22 +212,27 @@ impl Found {
 }
 
 fn faulty(fault: SyntaxFault, rule: usize, place: usize) -> RulesFault
-    ensures fault { result.fault ≡ fault }
+    ensures fault { result.fault ≡ refusal.Syntax fault }
     ensures rule { result.rule ≡ rule }
     ensures place { result.place ≡ place }
 {
+    let fault = Refusal::Syntax(fault);
     RulesFault { fault, rule, place }
 }
 
-// The rule in front, or its first fault and the place of it in these trees.
+// The rule in front and the place in these trees of the first repetition of its pattern that can read nothing; or its first fault
+// and the place of it.
 fn read_rule<A: Allocator + Copy, E: Copy + Fn(SyntaxContext) -> Edition>(
     alloc: A,
     edition: E,
     src: &mut TtIter<'_, A>,
-) -> Result<Result<Rule<A>, Found>, AllocError>
+) -> Result<Result<(Rule<A>, Option<usize>), Found>, AllocError>
     requires { MayAsk (E.pre edition) }
     ensures rule { IfOk result (λ r. IfOk r (λ x. ReadsRule (E.post edition)
-        src.old (rule_of x) src.new)) }
+        src.old (rule_of x.0) src.new)) }
+    ensures empty { IfOk result (λ r. IfOk r (λ x. IsRuleEmpty (E.post edition)
+        src.old (rule_of x.0) x.1)) }
+    ensures within_empty { IfOk result (λ r. IfOk r (λ x. IfSome x.1 (λ n. n ≤ flat_len src.old))) }
     ensures fault { IfOk result (λ r. IfErr r (λ x. RuleFaultAt (E.post edition)
         (fault_of x.fault) src.old x.place)) }
     ensures within { IfOk result (λ r. IfErr r (λ x. x.place ≤ flat_len src.old)) }
@@ -154,12 +249,12 @@ fn read_rule<A: Allocator + Copy, E: Copy + Fn(SyntaxContext) -> Edition>(
     let passed = whole - src.remaining().flat_len();
     let in_template = passed - (template.remaining().flat_len() + 1);
     let in_pattern = in_template - (pattern.remaining().flat_len() + 4);
-    let lhs = match read_part(alloc, edition, pattern, Mode::Pattern)? {
-        Ok(ops) => ops,
+    let (lhs, empty) = match read_pattern(alloc, edition, pattern)? {
+        Ok(read) => read,
         Err(found) => return Ok(Err(found.moved(in_pattern))),
     };
     match read_part(alloc, edition, template, Mode::Template)? {
-        Ok(rhs) => Ok(Ok(Rule { style, lhs, rhs })),
+        Ok(rhs) => Ok(Ok((Rule { style, lhs, rhs }, further(empty, in_pattern)))),
         Err(found) => Ok(Err(found.moved(in_template))),
     }
 }

@@ -32,8 +32,8 @@ abbrev pub rules_lints : Defined → List Rule → List Lint
 rules_lints d [] = []
 rules_lints d (r ∷ rs) = findings_lints d (findings r.reads r.writes) ++ rules_lints d rs
 
--- of a definition that is read so, that it is refused, then what is found of the rules that were read, and which of them
--- no call reaches
+-- of a definition that is read so, that it is refused, then what is found of the rules that were read, and which of
+-- them no call reaches
 abbrev pub macro_lints : Defined → Macro → Option Spot → List Lint
 macro_lints d m spot =
     refusal_lints d.name m.err spot ++ (rules_lints d m.rules ++ unreached_lints d (unreached m.rules))

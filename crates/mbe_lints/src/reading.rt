@@ -1,12 +1,10 @@
 // The rules of definitions.
-ghost use Rattle.std.specs.Prelude.{◌≡◌, option_map, IfOk, None, Some, if◌then◌else◌};
-ghost use Rattle.std.specs.List.{list_any};
+ghost use Rattle.std.specs.Prelude.{◌≡◌, IfOk, None, Some};
 ghost use Rattle.mbe_tt.specs.Views.View.{trees};
 ghost use Rattle.mbe_parser.specs.Reader.{mode_of};
-ghost use Rattle.mbe_errors.specs.ErrorViews.{fault_of};
 ghost use Rattle.mbe_parser.specs.RuleViews.{rules_seen};
-ghost use Rattle.mbe_semantics.specs.Syntax.Definition.{with_refusal};
-ghost use Rattle.mbe_semantics.specs.Syntax.Nullable.{is_refused};
+ghost use Rattle.mbe_errors.specs.ErrorViews.{parse_error_of};
+ghost use Rattle.mbe_faults.specs.Refusals.{refusal_of};
 ghost use Rattle.mbe_semantics.specs.Expansion.ReadAs.{IsReadAs, IsReadAsMacro};
 ghost use Rattle.mbe_calls.specs.Fronts as fronts;
 ghost use Rattle.mbe_calls.specs.Shown.{defined_shown, form_shown};
@@ -19,20 +17,21 @@ use crate::spot::Spot;
 use mbe_calls::calls::{Defined, Form};
 use mbe_errors::error::{ParseError, SyntaxFault};
 use mbe_explaining::places::span_at;
-use mbe_faults::rules::{PartFault, RulesFault, read_one_rule, read_rules as faulty_rules};
+use mbe_faults::rules::{
+    PartFault, Refusal, RulesFault, read_one_rule, read_rules as faulty_rules,
+};
 use mbe_parser::parser::Mode;
 use mbe_parser::rules::Rule;
-use mbe_parser::validate::refuses_some;
 use mbe_tt::span::{Edition, Span, SyntaxContext};
 use mbe_tt::tt::{Subtree, TokenTreesView};
 use std::alloc::{AllocError, Allocator, Global};
 
-/// The rules of a definition up to the first fault, that fault, and where it is. Clauses see the first two by `macro_read`.
+/// The rules of a definition up to the first fault, why it is refused, and where. Clauses see the first two by `macro_read`.
 #[derive(Drop)]
 pub struct ReadMacro<A: Allocator = Global> {
     pub rules: Vec<Rule<A>, A>,
     pub err: Option<ParseError<A>>,
-    /// The token that can't be read. `None` without an error, and where that is of a repetition, which can be read.
+    /// The token that can't be read, or the opening of the repetition that can read nothing. `None` without an error.
     pub spot: Option<Spot>,
 }
 
@@ -64,32 +63,44 @@ fn part_spot<A: Allocator>(
     Spot { rule: 0, span }
 }
 
-// The error that a pattern is refused goes before any other fault.
-fn with_fault<A: Allocator + Copy>(
+// The error that is reported of a refusal.
+fn error_of<A: Allocator + Copy>(alloc: A, why: Refusal) -> Result<ParseError<A>, AllocError>
+    ensures { IfOk result (λ e. parse_error_of e ≡ refusal_of why) }
+{
+    match why {
+        Refusal::Syntax(fault) => ParseError::of_fault(alloc, fault),
+        Refusal::EmptyRepetition => Ok(ParseError::RepetitionEmptyTokenTree),
+    }
+}
+
+// These rules, and why they are refused and where.
+fn refused<A: Allocator + Copy>(
     alloc: A,
     rules: Vec<Rule<A>, A>,
-    fault: Option<SyntaxFault>,
-    spot: Option<Spot>,
+    why: Refusal,
+    spot: Spot,
 ) -> Result<ReadMacro<A>, AllocError>
     ensures read { IfOk result (λ m. macro_read m ≡ record {
       rules = rules_seen rules.items;
-      err = with_refusal (rules_seen rules.items) (option_map fault_of fault);
+      err = Some (refusal_of why);
     }) }
-    ensures spot { IfOk result (λ m. m.spot
-        ≡ (if list_any (λ r. is_refused r.reads) (rules_seen rules.items) then None else spot)) }
+    ensures spot { IfOk result (λ m. m.spot ≡ Some spot) }
 {
-    if refuses_some(&rules) {
-        return Ok(ReadMacro {
-            rules,
-            err: Some(ParseError::RepetitionEmptyTokenTree),
-            spot: None,
-        });
-    }
-    let err = match fault {
-        None => None,
-        Some(fault) => Some(ParseError::of_fault(alloc, fault)?),
-    };
+    let err = Some(error_of(alloc, why)?);
+    let spot = Some(spot);
     Ok(ReadMacro { rules, err, spot })
+}
+
+// These rules, which aren't refused.
+fn kept<A: Allocator>(rules: Vec<Rule<A>, A>) -> ReadMacro<A>
+    ensures read { macro_read result ≡ record { rules = rules_seen rules.items; err = None } }
+    ensures spot { result.spot ≡ None }
+{
+    ReadMacro {
+        rules,
+        err: None,
+        spot: None,
+    }
 }
 
 // The rules of a `macro_rules!` definition, whose group closes there.
@@ -108,10 +119,10 @@ fn read_rules<A: Allocator + Copy, E: Copy + Fn(SyntaxContext) -> Edition>(
     let missing = SyntaxFault::ExpectedSemicolon;
     let (rules, found) = faulty_rules(alloc, ctx_edition, body.iter(), &[';'], missing)?;
     let Some(found) = found else {
-        return with_fault(alloc, rules, None, None);
+        return Ok(kept(rules));
     };
     let spot = rules_spot(body, close, found);
-    with_fault(alloc, rules, Some(found.fault), Some(spot))
+    refused(alloc, rules, found.fault, spot)
 }
 
 // The rules of a `macro` definition, whose group closes there.
@@ -130,10 +141,10 @@ fn read_body<A: Allocator + Copy, E: Copy + Fn(SyntaxContext) -> Edition>(
     let missing = SyntaxFault::ExpectedSeparator;
     let (rules, found) = faulty_rules(alloc, ctx_edition, body.iter(), &[';', ','], missing)?;
     let Some(found) = found else {
-        return with_fault(alloc, rules, None, None);
+        return Ok(kept(rules));
     };
     let spot = rules_spot(body, close, found);
-    with_fault(alloc, rules, Some(found.fault), Some(spot))
+    refused(alloc, rules, found.fault, spot)
 }
 
 // The one rule of a `macro` definition with a pattern, whose groups close there.
@@ -154,11 +165,11 @@ fn read_one<A: Allocator + Copy, E: Copy + Fn(SyntaxContext) -> Edition>(
 {
     let (rules, found) = read_one_rule(alloc, ctx_edition, pattern.iter(), body.iter())?;
     let Some(found) = found else {
-        return with_fault(alloc, rules, None, None);
+        return Ok(kept(rules));
     };
     let pattern_close = pattern_group.delimiter.close;
     let spot = part_spot(pattern, pattern_close, body, close, found);
-    with_fault(alloc, rules, Some(found.fault), Some(spot))
+    refused(alloc, rules, found.fault, spot)
 }
 
 /// Reads a definition, as `mbe` does. `ctx_edition` returns the edition of a context; it decides what `pat` and `expr` mean.

@@ -1,7 +1,7 @@
 // Where definitions are refused.
 use crate::matches::trees_of;
 use mbe_errors::error::SyntaxFault;
-use mbe_faults::rules::{PartFault, RulesFault, read_one_rule, read_rules};
+use mbe_faults::rules::{PartFault, Refusal, RulesFault, read_one_rule, read_rules};
 use mbe_tt::span::Edition;
 use std::alloc::{AllocError, Global};
 use test_rows::{Fields, Rows, Wrong, each, holds, rows};
@@ -59,10 +59,30 @@ const FAULTS: &str = rows![
     ),
 ];
 
+// A repetition that can read nothing and has no separator; its group's place.
+const EMPTY: &str = rows![
+    ("($()*) => {}", "EmptyRepetition", 0, 2),
+    ("(a $($x:vis)*) => {}", "EmptyRepetition", 0, 3),
+    ("($($()*)*) => {}", "EmptyRepetition", 0, 2),
+    ("($($(a)?)+) => {}", "EmptyRepetition", 0, 2),
+    ("($($()* a)*) => {}", "EmptyRepetition", 0, 4),
+    ("([b $()+]) => {}", "EmptyRepetition", 0, 4),
+    ("() => {}; ($x:ident $()*) => {}", "EmptyRepetition", 1, 13),
+    ("($()*) => {}; ($x) => {}", "EmptyRepetition", 0, 2),
+    ("($()*) => {}; ($($y:vis)*) => {}", "EmptyRepetition", 0, 2),
+    (
+        "unsafe attr(a) ($(),* $()*) => {}",
+        "EmptyRepetition",
+        0,
+        12
+    ),
+];
+
 const READ: &str = rows![
     (""),
     ("() => {}"),
     ("() => {};"),
+    ("($x:vis $(),* $($x:vis a)*) => {$()*}"),
     ("unsafe attr(a) ($x:ident $($y:tt),*) => {$crate $x $($y)-* ${count($y)}}"),
     ("derive() ($) => {$}; ($true:tt) => {$true}"),
     ("(a [$(($x:ty)) , +]) => {..= $( $x )'a?}; (..=) => {}"),
@@ -81,6 +101,13 @@ fn fault(
     Ok(fault)
 }
 
+fn named(alloc: Global, refusal: Refusal) -> Result<String, AllocError> {
+    match refusal {
+        Refusal::Syntax(fault) => format!(in alloc; "{fault:?}"),
+        Refusal::EmptyRepetition => String::from_str(alloc, "EmptyRepetition"),
+    }
+}
+
 // A text without a fault has no other field.
 #[derive(Clone, Copy)]
 struct Faults;
@@ -95,7 +122,8 @@ impl Rows for Faults {
             return Ok(want.is_empty());
         };
         let want = format!(in alloc; "{want} {rule} {place}")?;
-        let found = format!(in alloc; "{:?} {} {}", found.fault, found.rule, found.place)?;
+        let name = named(alloc, found.fault)?;
+        let found = format!(in alloc; "{} {} {}", name.as_str(), found.rule, found.place)?;
         Ok(found.as_str() == want.as_str())
     }
 }
@@ -106,14 +134,19 @@ fn faults_are_placed(rt: HostRuntime) -> Result<(), Wrong> {
 }
 
 #[test]
+fn empty_repetitions_are_placed(rt: HostRuntime) -> Result<(), Wrong> {
+    each(rt.alloc(), &Faults, EMPTY, 10)
+}
+
+#[test]
 fn what_is_read_has_no_fault(rt: HostRuntime) -> Result<(), Wrong> {
-    each(rt.alloc(), &Faults, READ, 6)
+    each(rt.alloc(), &Faults, READ, 7)
 }
 
 fn is_between_rules(alloc: Global, text: &str) -> Result<bool, AllocError> {
     let found = fault(alloc, text, &[';', ','], SyntaxFault::ExpectedSeparator)?;
     let want = RulesFault {
-        fault: SyntaxFault::ExpectedSeparator,
+        fault: Refusal::Syntax(SyntaxFault::ExpectedSeparator),
         rule: 2,
         place: 13,
     };
@@ -130,6 +163,7 @@ const PARTS: &str = rows![
     ("$x:tt, $y", "$x", "MissingSpecifier", "Pattern", 5,),
     ("$x:tt", "a {$x $-}", "ExpectedIdent", "Template", 4,),
     ("$$", "${x}", "DollarInPattern", "Pattern", 0),
+    ("a $()*", "a", "EmptyRepetition", "Pattern", 2),
     ("$x:tt", "$x"),
 ];
 
@@ -155,12 +189,13 @@ impl Rows for Parts {
             return Ok(want.is_empty());
         };
         let want = format!(in alloc; "{want} {part} {place}")?;
-        let found = format!(in alloc; "{:?} {:?} {}", found.fault, found.part, found.place)?;
+        let name = named(alloc, found.fault)?;
+        let found = format!(in alloc; "{} {:?} {}", name.as_str(), found.part, found.place)?;
         Ok(found.as_str() == want.as_str())
     }
 }
 
 #[test]
 fn faults_of_one_rule_are_placed(rt: HostRuntime) -> Result<(), Wrong> {
-    each(rt.alloc(), &Parts, PARTS, 4)
+    each(rt.alloc(), &Parts, PARTS, 5)
 }

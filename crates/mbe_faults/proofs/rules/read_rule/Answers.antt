@@ -1,10 +1,12 @@
-use Rattle.std.proofs.Common.{◌≡◌, ◌+◌, ◌-◌, ap, arith}
+use Rattle.std.proofs.Common.{◌≡◌, ◌≤◌, ◌<◌, ◌+◌, ◌-◌, ap, arith}
 use Rattle.mbe_tt.specs.Trees.Tree.{flat_len, passed}
 use Rattle.mbe_errors.specs.ErrorViews.{fault_of}
 use Rattle.mbe_ops.specs.Views.{template_of}
 use Rattle.mbe_faults.specs.Places.{in_trees, in_pattern, in_template, stop_in_rule, pattern_place, template_place}
 use Rattle.mbe_faults.specs.RuleTrees.{rule_of_parts}
 use Rattle.mbe_faults.proofs.RuleLemmas.{rule_placed}
+use Rattle.mbe_faults.proofs.EmptyLemmas.{each_place, further_place}
+use Rattle.mbe_faults.proofs.EmptyRules.{rule_empty}
 use Rattle.mbe_faults.proofs.rules.read_rule.Goals as goal
 
 pub returns-in-Err-clause-fault : goal.returns-in-Err-clause-fault
@@ -24,7 +26,7 @@ pub returns-in-Err-2-clause-fault : goal.returns-in-Err-2-clause-fault
 returns-in-Err-2-clause-fault g c =
     let f = c.args.src.now in
     let o = rule_of_parts c.in-Ok.parts c.rule_trees.new.src in
-    let w = rw c.in-Err-2.is at c.in_ok-ops.ensures.fault in
+    let w = rw c.in-Err-2.is at c.in_ok-read.ensures.fault in
     let e : pattern_place f o + c.in-Err-2.found.place ≡ c.moved.result.place =
     omega (
       arith,
@@ -45,7 +47,7 @@ pub returns-in-Err-3-clause-fault : goal.returns-in-Err-3-clause-fault
 returns-in-Err-3-clause-fault g c =
     let f = c.args.src.now in
     let o = rule_of_parts c.in-Ok.parts c.rule_trees.new.src in
-    let reads = rw c.in-Ok-2.is at c.in_ok-ops.ensures.ops in
+    let reads = rw c.in-Ok-2.is at c.in_ok-read.ensures.ops in
     let w = rw c.in-Err-3.is at c.in_ok-rhs.ensures.fault in
     let e : template_place f o + c.in-Err-3.found.place ≡ c.moved-in-Err-3.result.place =
     omega (
@@ -59,7 +61,7 @@ returns-in-Err-3-clause-fault g c =
       ap flat_len c.remaining-3.ensures,
     ) in
     rw c.moved-in-Err-3.ensures.fault (rule_placed _ (fault_of c.in-Err-3.found.fault) f _ _ e
-    (in_template o (template_of c.in-Ok-2.ops) c.in-Err-3.found.place c.in-Ok.ensures.trees reads w))
+    (in_template o (template_of c.in-Ok-2.read.0) c.in-Err-3.found.place c.in-Ok.ensures.trees reads w))
 
 pub returns-in-Err-3-clause-within : goal.returns-in-Err-3-clause-within
 returns-in-Err-3-clause-within g c =
@@ -76,3 +78,70 @@ returns-in-Err-3-clause-within g c =
       c.flat_len-3.ensures,
       ap flat_len c.remaining-3.ensures,
     )
+
+pub further-requires : goal.further-requires
+further-requires g c =
+    let room : (c.flat_len-whole.result - c.flat_len-2.result - (c.flat_len-3.result + 1) - (c.flat_len-4.result + 4))
+    + flat_len c.in-Ok.parts.1 ≤ c.flat_len-whole.result =
+    omega (
+      arith,
+      c.in-Ok.ensures.room,
+      c.flat_len-whole.ensures,
+      ap flat_len c.remaining.ensures,
+      c.flat_len-2.ensures,
+      ap flat_len c.remaining-2.ensures,
+      c.flat_len-3.ensures,
+      ap flat_len c.remaining-3.ensures,
+      c.flat_len-4.ensures,
+      ap flat_len c.remaining-4.ensures,
+    ) in
+    each_place (λ n. n ≤ flat_len c.in-Ok.parts.1)
+    (λ n. (c.flat_len-whole.result - c.flat_len-2.result - (c.flat_len-3.result + 1) - (c.flat_len-4.result + 4)) + n
+    < 18446744073709551616) c.in-Ok-2.read.1 (λ n h. omega (arith, h, room))
+    (rw c.in-Ok-2.is at c.in_ok-read.ensures.within_empty)
+
+pub returns-in-Ok-3-clause-empty : goal.returns-in-Ok-3-clause-empty
+returns-in-Ok-3-clause-empty g c =
+    let f = c.args.src.now in
+    let o = rule_of_parts c.in-Ok.parts c.rule_trees.new.src in
+    let w = rw c.in-Ok-2.is at c.in_ok-read.ensures.empty in
+    let e : c.flat_len-whole.result - c.flat_len-2.result - (c.flat_len-3.result + 1) - (c.flat_len-4.result + 4)
+    ≡ pattern_place f o =
+    omega (
+      arith,
+      c.flat_len-whole.ensures,
+      ap flat_len c.remaining.ensures,
+      c.flat_len-2.ensures,
+      ap flat_len c.remaining-2.ensures,
+      c.flat_len-3.ensures,
+      ap flat_len c.remaining-3.ensures,
+      c.flat_len-4.ensures,
+      ap flat_len c.remaining-4.ensures,
+    ) in
+    rw c.further.ensures (rule_empty _ f o (record {
+      style = c.in-Ok.parts.0;
+      reads = template_of c.in-Ok-2.read.0;
+      writes = template_of c.in-Ok-3.rhs;
+    }) c.in-Ok-2.read.1 _ c.in-Ok.ensures.trees e w)
+
+pub returns-in-Ok-3-clause-within_empty : goal.returns-in-Ok-3-clause-within_empty
+returns-in-Ok-3-clause-within_empty g c =
+    let room : (c.flat_len-whole.result - c.flat_len-2.result - (c.flat_len-3.result + 1) - (c.flat_len-4.result + 4))
+    + flat_len c.in-Ok.parts.1 ≤ c.flat_len-whole.result =
+    omega (
+      arith,
+      c.in-Ok.ensures.room,
+      c.flat_len-whole.ensures,
+      ap flat_len c.remaining.ensures,
+      c.flat_len-2.ensures,
+      ap flat_len c.remaining-2.ensures,
+      c.flat_len-3.ensures,
+      ap flat_len c.remaining-3.ensures,
+      c.flat_len-4.ensures,
+      ap flat_len c.remaining-4.ensures,
+    ) in
+    let all : c.flat_len-whole.result ≡ flat_len c.args.src.now =
+    omega (arith, c.flat_len-whole.ensures, ap flat_len c.remaining.ensures) in
+    rw c.further.ensures (further_place (λ n. n ≤ flat_len c.in-Ok.parts.1) (λ n. n ≤ flat_len c.args.src.now)
+    (c.flat_len-whole.result - c.flat_len-2.result - (c.flat_len-3.result + 1) - (c.flat_len-4.result + 4))
+    c.in-Ok-2.read.1 (λ n h. omega (arith, h, room, all)) (rw c.in-Ok-2.is at c.in_ok-read.ensures.within_empty))

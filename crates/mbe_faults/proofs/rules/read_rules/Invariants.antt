@@ -4,6 +4,7 @@ use Rattle.mbe_errors.specs.ErrorViews.{fault_of}
 use Rattle.mbe_parser.specs.RuleViews.{rules_seen}
 use Rattle.mbe_parser.proofs.RuleReading.{Continues}
 use Rattle.mbe_faults.proofs.RuleLemmas.{SoFar}
+use Rattle.mbe_faults.proofs.EmptyRules.{Settled, Goes}
 use Rattle.mbe_faults.proofs.rules.read_rules.Given as goal
 
 abbrev pub invariant-rules : goal.invariant-rules
@@ -12,6 +13,10 @@ invariant-rules g l = record {
       (rules_seen l.rules.items) l.fn.src l.src;
   so_far : SoFar (λ ctx e. g.E.Fn.post l.edition (ctx, tt) e) l.separators (fault_of l.missing)
       (length l.rules.items) l.fn.src l.src;
+  settled : Settled (λ ctx e. g.E.Fn.post l.edition (ctx, tt) e) l.separators l.fn.src (rules_seen l.rules.items)
+      l.empty;
+  goes : Goes (λ ctx e. g.E.Fn.post l.edition (ctx, tt) e) l.separators l.fn.src l.src
+      (length (rules_seen l.rules.items)) l.empty;
   whole : l.whole ≡ flat_len l.fn.src;
 }
 

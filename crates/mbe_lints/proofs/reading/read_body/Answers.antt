@@ -1,37 +1,35 @@
-use Rattle.std.proofs.Common.{Some, None}
+use Rattle.std.proofs.Common.{Some, None, ap, sym, subst, ◌∙◌}
 use Rattle.std.proofs.lemmas.Result.{IfOk-weaker}
 use Rattle.mbe_tt.specs.Views.View.{trees}
-use Rattle.mbe_parser.specs.RuleViews.{rules_seen}
-use Rattle.mbe_parser.proofs.RuleReading.{read_as_body}
+use Rattle.mbe_semantics.specs.Expansion.ReadAs.{IsReadAsMacro}
+use Rattle.mbe_faults.specs.Refusals.{refusal_of}
 use Rattle.mbe_calls.specs.Fronts.{Body}
 use Rattle.mbe_lints.specs.Read.{macro_read}
-use Rattle.mbe_lints.proofs.RefusedLemmas.{told, no_fault, fault_in_body}
+use Rattle.mbe_lints.proofs.RefusedLemmas.{told, not_refused_at, fault_in_body}
 use Rattle.mbe_lints.proofs.reading.read_body.Goals as goal
 
 pub returns-in_default-clause-read : goal.returns-in_default-clause-read
 returns-in_default-clause-read g c =
-    IfOk-weaker c.with_fault.result _ _
-    (λ m e. read_as_body _ c.iter.result (trees c.args.body) (rules_seen c.in_ok-rules.rules.items) None (macro_read m)
-    c.iter.ensures (rw c.in_default.is at c.in_ok-rules.ensures.rules) e) c.with_fault.ensures.read
+    subst (λ f. IsReadAsMacro _ None f (macro_read c.kept.result)) c.iter.ensures
+    (subst (IsReadAsMacro _ None c.iter.result) (sym c.kept.ensures.read)
+    (rw c.in_default.is at c.in_ok-rules.ensures.rules))
 
 pub returns-in_default-clause-spot : goal.returns-in_default-clause-spot
 returns-in_default-clause-spot g c =
-    told c.with_fault.result _ _ _
-    (λ m e s. no_fault _ c.args.close (trees c.args.body) Body (rules_seen c.in_ok-rules.rules.items) (macro_read m)
-    m.spot e s) c.with_fault.ensures.read c.with_fault.ensures.spot
+    not_refused_at _ c.args.close (trees c.args.body) Body (macro_read c.kept.result) c.kept.result.spot
+    (ap (λ m. m.err) c.kept.ensures.read) c.kept.ensures.spot
 
 pub returns-clause-read : goal.returns-clause-read
 returns-clause-read g c =
-    IfOk-weaker c.with_fault-2.result _ _
-    (λ m e. read_as_body _ c.iter.result (trees c.args.body) (rules_seen c.in_ok-rules.rules.items)
-    (Some c.in-Some.found.fault) (macro_read m) c.iter.ensures (rw c.in-Some.is at c.in_ok-rules.ensures.rules) e)
-    c.with_fault-2.ensures.read
+    let read = rw c.in-Some.is at c.in_ok-rules.ensures.rules in
+    IfOk-weaker c.refused.result _ _
+    (λ m e. subst (λ f. IsReadAsMacro _ None f (macro_read m)) c.iter.ensures
+    (subst (IsReadAsMacro _ None c.iter.result) (sym e) read)) c.refused.ensures.read
 
 pub returns-clause-spot : goal.returns-clause-spot
 returns-clause-spot g c =
     let w = rw (c.in-Some.is, c.iter.ensures) at c.in_ok-rules.ensures.place in
-    told c.with_fault-2.result _ _ _
-    (λ m e s. fault_in_body _ c.args.close (trees c.args.body) (rules_seen c.in_ok-rules.rules.items)
-    c.in-Some.found.fault (macro_read m) m.spot e c.in-Some.found.rule c.in-Some.found.place
-    (rw c.rules_spot-spot.ensures at s) w)
-    c.with_fault-2.ensures.read c.with_fault-2.ensures.spot
+    told c.refused.result _ _ _
+    (λ m e s. fault_in_body _ c.args.close (trees c.args.body) (refusal_of c.in-Some.found.fault) (macro_read m) m.spot
+    (ap (λ x. x.err) e) c.in-Some.found.rule c.in-Some.found.place (s ∙ ap Some c.rules_spot-spot.ensures) w)
+    c.refused.ensures.read c.refused.ensures.spot
