@@ -31,7 +31,7 @@ module _ (HasEdition : SyntaxContext → Edition → Type 0) where
         → RefusedAt close rules m Rules (Some (rules_spot close rules rule n))
     in_body : (why : Fault) (rule n : ℕ) → m.err ≡ Some why
         → refused.RefusedAt HasEdition (59 ∷ 44 ∷ []) (expected (codes "expected `;` or `,` to delimit rules"))
-            rules why rule n
+        rules why rule n
         → RefusedAt close rules m Body (Some (rules_spot close rules rule n))
     in_part : (k : Delimiter) (arguments : Forest) (why : Fault) (part : Mode) (n : ℕ) → m.err ≡ Some why
         → refused.OneRefusedAt HasEdition arguments rules why part n

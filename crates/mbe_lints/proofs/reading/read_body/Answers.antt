@@ -10,9 +10,8 @@ use Rattle.mbe_lints.proofs.reading.read_body.Goals as goal
 
 pub returns-in_default-clause-read : goal.returns-in_default-clause-read
 returns-in_default-clause-read g c =
-    subst (λ f. IsReadAsMacro _ None f (macro_read c.kept.result)) c.iter.ensures
-    (subst (IsReadAsMacro _ None c.iter.result) (sym c.kept.ensures.read)
-    (rw c.in_default.is at c.in_ok-rules.ensures.rules))
+    let read = rw (c.in_default.is, c.iter.ensures) at c.in_ok-rules.ensures.rules in
+    subst (IsReadAsMacro _ None (trees c.args.body)) (sym c.kept.ensures.read) read
 
 pub returns-in_default-clause-spot : goal.returns-in_default-clause-spot
 returns-in_default-clause-spot g c =
@@ -21,10 +20,9 @@ returns-in_default-clause-spot g c =
 
 pub returns-clause-read : goal.returns-clause-read
 returns-clause-read g c =
-    let read = rw c.in-Some.is at c.in_ok-rules.ensures.rules in
+    let read = rw (c.in-Some.is, c.iter.ensures) at c.in_ok-rules.ensures.rules in
     IfOk-weaker c.refused.result _ _
-    (λ m e. subst (λ f. IsReadAsMacro _ None f (macro_read m)) c.iter.ensures
-    (subst (IsReadAsMacro _ None c.iter.result) (sym e) read)) c.refused.ensures.read
+    (λ m e. subst (IsReadAsMacro _ None (trees c.args.body)) (sym e) read) c.refused.ensures.read
 
 pub returns-clause-spot : goal.returns-clause-spot
 returns-clause-spot g c =
