@@ -13,7 +13,9 @@ use Rattle.mbe_tt.proofs.builder.TopSubtreeBuilder.open.Goals as goal
 pub invariant_of-self-2 : goal.invariant_of-self-2
 invariant_of-self-2 g c =
     let d : Delimiter = record { opening = c.args.span; close = c.args.span; kind = c.args.kind } in
-    let room : length (entries_of c.push_reserved.new.self.items) + (c.self.inside.depth + 1) ≤ vec_capacity c.push_reserved.new.self =
+    let room :
+        length (entries_of c.push_reserved.new.self.items) + (c.self.inside.depth + 1)
+        ≤ vec_capacity c.push_reserved.new.self =
     omega (
       arith,
       length-shown c.push_reserved.new.self.items,
@@ -39,7 +41,9 @@ invariant_of-self-2 g c =
 pub returns-clause-ok : goal.returns-clause-ok
 returns-clause-ok g c =
     let d : Delimiter = record { opening = c.args.span; close = c.args.span; kind = c.args.kind } in
-    let room : length (entries_of c.push_reserved.new.self.items) + (c.self.inside.depth + 1) ≤ vec_capacity c.push_reserved.new.self =
+    let room :
+        length (entries_of c.push_reserved.new.self.items) + (c.self.inside.depth + 1)
+        ≤ vec_capacity c.push_reserved.new.self =
     omega (
       arith,
       length-shown c.push_reserved.new.self.items,
