@@ -14,8 +14,8 @@ pub invariant_of-self-2 : goal.invariant_of-self-2
 invariant_of-self-2 g c =
     let d : Delimiter = record { opening = c.args.span; close = c.args.span; kind = c.args.kind } in
     let room :
-        length (entries_of c.push_reserved.new.self.items) + (c.self.inside.depth + 1)
-        ≤ vec_capacity c.push_reserved.new.self =
+    length (entries_of c.push_reserved.new.self.items) + (c.self.inside.depth + 1)
+    ≤ vec_capacity c.push_reserved.new.self =
     omega (
       arith,
       length-shown c.push_reserved.new.self.items,
@@ -42,8 +42,8 @@ pub returns-clause-ok : goal.returns-clause-ok
 returns-clause-ok g c =
     let d : Delimiter = record { opening = c.args.span; close = c.args.span; kind = c.args.kind } in
     let room :
-        length (entries_of c.push_reserved.new.self.items) + (c.self.inside.depth + 1)
-        ≤ vec_capacity c.push_reserved.new.self =
+    length (entries_of c.push_reserved.new.self.items) + (c.self.inside.depth + 1)
+    ≤ vec_capacity c.push_reserved.new.self =
     omega (
       arith,
       length-shown c.push_reserved.new.self.items,
