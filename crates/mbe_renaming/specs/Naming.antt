@@ -242,6 +242,16 @@ after_word w progress.Unbound v = unbound (is_same w v) v.role
 after_word w (progress.Later n) v = later n (is_same w v) v.role
 after_word w progress.Bound v = progress.Bound
 
+-- where a value begins or ends
+abbrev pub is_edge : Role → Bool
+is_edge Begin = true
+is_edge End = true
+is_edge _ = false
+
+-- a word of the local's context, or where a value begins or ends: no other changes anything
+abbrev pub concerns : Word → Word → Bool
+concerns w v = context w == context v || is_edge v.role
+
 abbrev pub doubt_at : Word → Progress → Word → List Doubt
 doubt_at w p v = if is_doubt w p v then record { bound = w.span; place = v.span } ∷ [] else []
 

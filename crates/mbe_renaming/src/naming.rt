@@ -496,17 +496,36 @@ fn may_be(local: Word<'_>, word: Word<'_>) -> bool
         && local.text == word.text
 }
 
+fn is_edge(role: Role) -> bool
+    ensures { result ≡ spec.is_edge role }
+{
+    matches!(role, Role::Begin | Role::End)
+}
+
+// Whether a word tells something of a local. Most don't, and each local looks at all words.
+fn concerns(local: Word<'_>, word: Word<'_>) -> bool
+    ensures { result ≡ spec.concerns (word_of local.entry) (word_of word.entry) }
+{
+    local.span.ctx.0 == word.span.ctx.0 || is_edge(word.role)
+}
+
+#[tactic(auto, using(crate::proofs::BesideLemmas::no_doubt))]
 fn is_doubt(local: Word<'_>, progress: Progress, word: Word<'_>) -> bool
     ensures { result ≡ spec.is_doubt (word_of local.entry) progress (word_of word.entry) }
 {
-    is_same(local, word) && is_doubtful(progress, word.role)
-        || mentions(local, word)
-        || may_be(local, word)
+    concerns(local, word)
+        && (is_same(local, word) && is_doubtful(progress, word.role)
+            || mentions(local, word)
+            || may_be(local, word))
 }
 
+#[tactic(auto, using(crate::proofs::BesideLemmas::as_before))]
 fn after_word(local: Word<'_>, progress: Progress, word: Word<'_>) -> Progress
     ensures { result ≡ spec.after_word (word_of local.entry) progress (word_of word.entry) }
 {
+    if !concerns(local, word) {
+        return progress;
+    }
     match progress {
         Progress::Unbound => unbound(is_same(local, word), word.role),
         Progress::Later(lets) => later(lets, is_same(local, word), word.role),
