@@ -1,6 +1,6 @@
 -- A word that doesn't concern a local is no doubt of it, and after it the local is as it was.
-use Rattle.std.proofs.Common.{◌≡◌, ℕ, Bool, true, false, refl}
-use Rattle.std.specs.Prelude.{◌&&◌, ◌||◌, ◌==◌}
+use Rattle.std.proofs.Common.{◌≡◌, ℕ, false, refl}
+use Rattle.std.specs.Prelude.{◌==◌}
 use Rattle.std.proofs.Math.Bool.{and-false}
 use Rattle.mbe_renaming.specs.declared.naming.Progress.{Progress}
 use Rattle.mbe_renaming.specs.declared.naming.Progress.TheVariants.{Unbound, Later, Bound}
