@@ -87,4 +87,5 @@ names_beside out left = if has_let out then words_in left else []
 
 -- an expansion whose locals are told apart from others of their names, by the contexts of its steps
 abbrev pub told_apart : List ℕ → ℕ → Forest → Forest → Forest
-told_apart contexts mark left out = renamed_trees (names_beside out left) (record { contexts = contexts; mark = numbered mark }) out
+told_apart contexts mark left out =
+    renamed_trees (names_beside out left) (record { contexts = contexts; mark = numbered mark }) out
