@@ -125,8 +125,8 @@ invisible_example = record {
   entered = λ g. (
     hidden_rule,
     applies_once g FnLike hidden_a hidden_rule
-        (item no_items (grouped (item no_items (taken (codes "x") styles.stripped (text_at 1 0 (codes "a") none))))) refl
-        refl
+        (item no_items (grouped (item no_items (taken (codes "x") styles.stripped (text_at 1 0 (codes "a") none)))))
+        refl refl
         ((_, refl, (refl, (_, refl, (refl, refl)), refl)), refl) refl,
     this_one _ _ _,
     (_, (_, _, refl, refl, refl), refl),
