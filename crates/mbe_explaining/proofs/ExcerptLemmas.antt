@@ -15,16 +15,19 @@ not_less a b h = grind (arith, nat_tests)
 module _ (room : ℕ) (at_start : Bool) (cs : List ℕ) (n c : ℕ) (here : (n < length cs) × (c ≡ get_or cs n c)) where
   -- what a character comes to that isn't passed over
   abbrev shown : Bool → ℕ → List ℕ
-  shown full x = if full then encode_utf8 8230 else in_line x ++ excerpt_in (room - columns x) (x == 10) (drop (n + 1) cs)
+  shown full x = if full then encode_utf8 8230 else in_line x
+      ++ excerpt_in (room - columns x) (x == 10) (drop (n + 1) cs)
 
   opened : excerpt_in room at_start (drop n cs)
       ≡ (if is_indent at_start c then excerpt_in room at_start (drop (n + 1) cs) else shown (nat_lt room (columns c)) c)
   opened =
       at_drop_more (excerpt_in room at_start) cs n c here.0
-      ∙ ap (λ x. if is_indent at_start x then excerpt_in room at_start (drop (n + 1) cs) else shown (nat_lt room (columns x)) x)
+      ∙ ap (λ x. if is_indent at_start x then excerpt_in room at_start (drop (n + 1) cs) else shown
+          (nat_lt room (columns x)) x)
       (sym here.1)
 
-  pub passed_over : is_indent at_start c ≡ true → excerpt_in room at_start (drop n cs) ≡ excerpt_in room at_start (drop (n + 1) cs)
+  pub passed_over : is_indent at_start c ≡ true
+      → excerpt_in room at_start (drop n cs) ≡ excerpt_in room at_start (drop (n + 1) cs)
   passed_over t = opened
       ∙ ap (λ b. if b then excerpt_in room at_start (drop (n + 1) cs) else shown (nat_lt room (columns c)) c) t
 

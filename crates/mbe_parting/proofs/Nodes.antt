@@ -122,24 +122,19 @@ edge_of_step : (s : Step) (e : Edge) → In e (edges_of s)
     → (e.source ≡ s.source) × In e.target (option_to_list s.one ++ option_to_list s.other)
 edge_of_step s e h =
     elim (in_either e (map (edge s.source) (option_to_list s.one)) (map (edge s.source) (option_to_list s.other)) h) [
-      | inl a ↦ of_one (from-map (edge s.source) e (option_to_list s.one) a)
-      | inr b ↦ of_other (from-map (edge s.source) e (option_to_list s.other) b)
+      | inl a ↦ there (option_to_list s.one) (λ t h. in_left t (option_to_list s.one) (option_to_list s.other) h)
+          (from-map (edge s.source) e (option_to_list s.one) a)
+      | inr b ↦ there (option_to_list s.other) (λ t h. in_right t (option_to_list s.one) (option_to_list s.other) h)
+          (from-map (edge s.source) e (option_to_list s.other) b)
     ]
   where
-    of_one : ((t : ℕ) × In t (option_to_list s.one) × (e ≡ edge s.source t))
+    there : (ts : List ℕ) → ((t : ℕ) → In t ts → In t (option_to_list s.one ++ option_to_list s.other))
+        → ((t : ℕ) × In t ts × (e ≡ edge s.source t))
         → (e.source ≡ s.source) × In e.target (option_to_list s.one ++ option_to_list s.other)
-    of_one r = (
+    there ts side r = (
       ap (λ (v : Edge). v.source) r.2,
       subst (λ v. In v (option_to_list s.one ++ option_to_list s.other)) (sym (ap (λ (v : Edge). v.target) r.2))
-          (in_left r.0 (option_to_list s.one) (option_to_list s.other) r.1),
-    )
-
-    of_other : ((t : ℕ) × In t (option_to_list s.other) × (e ≡ edge s.source t))
-        → (e.source ≡ s.source) × In e.target (option_to_list s.one ++ option_to_list s.other)
-    of_other r = (
-      ap (λ (v : Edge). v.source) r.2,
-      subst (λ v. In v (option_to_list s.one ++ option_to_list s.other)) (sym (ap (λ (v : Edge). v.target) r.2))
-          (in_right r.0 (option_to_list s.one) (option_to_list s.other) r.1),
+          (side r.0 r.1),
     )
 
 pub from-edges : (ss : List Step) (e : Edge) → In e (edges_in ss) → IsEdge ss e

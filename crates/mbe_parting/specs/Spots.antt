@@ -33,6 +33,14 @@ abbrev mutual
   spots no_ops end = end ∷ []
   spots (op o os) end = spots_of_op o ++ spots os end
 
+-- the ops in an op, and what is at their end
+abbrev pub inside_of : Op → Option (Ops × Spot)
+inside_of (token t) = None
+inside_of (variable name kind span) = None
+inside_of (expression e) = None
+inside_of (group d b) = Some (b, closing)
+inside_of (repetition b s k) = Some (b, round_end s k (dots b))
+
 -- what is at the end of the innermost open item
 abbrev pub end_of : List Frame → Spot
 end_of [] = ending

@@ -3,8 +3,7 @@
 ghost use Rattle.std.specs.Prelude.{◌≡◌, ◌<◌, nat_lt, length, map, option_map, IfOk};
 ghost use Rattle.mbe_tt.specs.Views.View.{trees};
 ghost use Rattle.mbe_semantics.specs.Readings.Input.{input_of};
-ghost use Rattle.mbe_ops.specs.Views.{op_of, separator_seen};
-ghost use Rattle.mbe_matcher.specs.Wanted.{wanted_seen, before_round, read_next};
+ghost use Rattle.mbe_matcher.specs.Wanted.{wanted_seen};
 ghost use Rattle.mbe_parting.specs.Code.{spot_seen};
 ghost use Rattle.mbe_parting.specs.Going.{wanted_at, stays, staying, is_beyond, goes_on, next_at, next_there, AreAhead};
 
@@ -12,10 +11,8 @@ use crate::edges::{Edge, Step};
 use crate::marks::{is_marked, reached_from};
 use crate::spot::Spot;
 use crate::ways::step_at;
-use mbe_matcher::wanting::Wanted;
-use mbe_ops::ops::{Op, Separator};
+use mbe_matcher::wanting::{Wanted, op_next, round_next};
 use mbe_places::source::Source;
-use mbe_semantics::kinds::RepeatKind;
 use mbe_tt::grammar::FragmentGrammar;
 use std::alloc::{AllocError, Allocator};
 
@@ -25,37 +22,6 @@ pub(crate) struct Bounds<'n> {
     pub(crate) live: &'n [bool],
     pub(crate) end: usize,
     pub(crate) last: usize,
-}
-
-// An op that reads something by itself.
-#[tactic(auto, using(mbe_ops::proofs::OpViews::views))]
-fn op_next<A: Allocator>(op: &Op<A>) -> Option<Wanted<'_, A>>
-    ensures { option_map wanted_seen result ≡ read_next (op_of op.now) }
-{
-    match op {
-        Op::Var { .. } | Op::Subtree { .. } => Some(Wanted::Op(op)),
-        Op::Literal(_) | Op::Ident(_) | Op::Punct(_) => Some(Wanted::Op(op)),
-        Op::Repeat { .. } => None,
-        Op::Ignore { .. }
-        | Op::Index { .. }
-        | Op::Len { .. }
-        | Op::Count { .. }
-        | Op::Concat { .. } => None,
-    }
-}
-
-// The separator after a round that another may follow.
-fn round_next<A: Allocator>(
-    kind: RepeatKind,
-    separator: Option<&Separator<A>>,
-) -> Option<Wanted<'_, A>>
-    ensures { option_map wanted_seen result
-        ≡ before_round kind (option_map (λ s. separator_seen s.now) separator.entry) }
-{
-    match (kind, separator) {
-        (RepeatKind::ZeroOrOne, _) | (_, None) => None,
-        (_, Some(separator)) => Some(Wanted::Separator(separator)),
-    }
 }
 
 // What is next at a dot.

@@ -1,9 +1,7 @@
 // Where two readings of an argument part. A layer of `mbe`: use that crate.
 #![tactic(auto)]
 
-mod eat;
 mod edges;
-mod fronts;
 mod going;
 mod graph;
 pub mod laws;

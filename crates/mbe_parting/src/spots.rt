@@ -1,46 +1,15 @@
 // The dots of a pattern, in order, each with what is there. The number of a dot says how many follow it, itself counted.
-ghost use Rattle.std.specs.Prelude.{◌≡◌, ◌++◌, map, IfOk, OnOk, IfSome};
-ghost use Rattle.mbe_semantics.specs.Matching.Dots.{dots, op_dots};
+ghost use Rattle.std.specs.Prelude.{◌≡◌, ◌++◌, map, option_map, IfOk, OnOk};
+ghost use Rattle.mbe_semantics.specs.Matching.Dots.{op_dots};
 ghost use Rattle.mbe_ops.specs.Views.{op_of, ops_of, template_of};
-ghost use Rattle.mbe_parting.specs.Spots.{ending, spots, spots_of_op};
+ghost use Rattle.mbe_parting.specs.Spots.{ending, inside_of, spots, spots_of_op};
 ghost use Rattle.mbe_parting.specs.Code.{spot_seen};
 
 use crate::spot::Spot;
+use mbe_matcher::skipping::op_dots_of;
 use mbe_ops::ops::{MetaTemplate, Op};
 use mbe_ops::walk::{OpDelimited, OpDelimitedIter};
 use std::alloc::{AllocError, Allocator};
-
-// How many dots there are in the ops. `None` if no `usize` holds the number.
-#[cycle(counting)]
-fn dots_of<A: Allocator>(ops: &[Op<A>]) -> Option<usize>
-    ensures { IfSome result (λ n. n ≡ dots (ops_of ops.now)) }
-{
-    let mut count = 1usize;
-    for stop in OpDelimitedIter::new(ops) {
-        count = match stop {
-            OpDelimited::Op(op) => count.checked_add(1)?.checked_add(op_dots_of(op)?)?,
-            OpDelimited::Open(_) | OpDelimited::Close(_) => count,
-        };
-    }
-    Some(count)
-}
-
-#[cycle(counting)]
-#[tactic(auto, using(mbe_ops::proofs::OpViews::views))]
-fn op_dots_of<A: Allocator>(op: &Op<A>) -> Option<usize>
-    ensures { IfSome result (λ n. n ≡ op_dots (op_of op.now)) }
-{
-    match op {
-        Op::Subtree { tokens, .. } => dots_of(&tokens.0),
-        Op::Repeat { tokens, .. } => dots_of(&tokens.0),
-        Op::Var { .. } | Op::Literal(_) | Op::Ident(_) | Op::Punct(_) => Some(0),
-        Op::Ignore { .. }
-        | Op::Index { .. }
-        | Op::Len { .. }
-        | Op::Count { .. }
-        | Op::Concat { .. } => Some(0),
-    }
-}
 
 // Those of ops, at whose end this is.
 #[cycle(spotting)]
@@ -62,8 +31,8 @@ fn push_spots<'a, A: Allocator + Copy>(
     Ok(())
 }
 
+// The one before the op, and those in it.
 #[cycle(spotting)]
-#[tactic(auto, using(mbe_ops::proofs::OpViews::views))]
 fn push_op<'a, A: Allocator + Copy>(
     op: &'a Op<A>,
     all: &mut Vec<Spot<'a, A>, A>,
@@ -73,8 +42,20 @@ fn push_op<'a, A: Allocator + Copy>(
 {
     let dots = op_dots_of(op).ok_or(AllocError)?;
     all.push(Spot::Before { op, dots })?;
+    match inside(op, dots) {
+        Some((ops, end)) => push_spots(ops, end, all),
+        None => Ok(()),
+    }
+}
+
+// The ops in an op in which there are so many dots, and what is at their end.
+#[tactic(auto, using(mbe_ops::proofs::OpViews::views))]
+fn inside<A: Allocator>(op: &Op<A>, dots: usize) -> Option<(&[Op<A>], Spot<'_, A>)>
+    requires { dots ≡ op_dots (op_of op.now) }
+    ensures { option_map (λ p. (ops_of p.0.now, spot_seen p.1)) result ≡ inside_of (op_of op.now) }
+{
     match op {
-        Op::Subtree { tokens, .. } => push_spots(&tokens.0, Spot::Closing, all),
+        Op::Subtree { tokens, .. } => Some((&tokens.0, Spot::Closing)),
         Op::Repeat {
             tokens,
             kind,
@@ -85,14 +66,14 @@ fn push_op<'a, A: Allocator + Copy>(
                 kind: *kind,
                 dots,
             };
-            push_spots(&tokens.0, end, all)
+            Some((&tokens.0, end))
         }
-        Op::Var { .. } | Op::Literal(_) | Op::Ident(_) | Op::Punct(_) => Ok(()),
+        Op::Var { .. } | Op::Literal(_) | Op::Ident(_) | Op::Punct(_) => None,
         Op::Ignore { .. }
         | Op::Index { .. }
         | Op::Len { .. }
         | Op::Count { .. }
-        | Op::Concat { .. } => Ok(()),
+        | Op::Concat { .. } => None,
     }
 }
 

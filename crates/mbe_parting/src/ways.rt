@@ -8,10 +8,10 @@ ghost use Rattle.mbe_parting.specs.Spots.{over, over_one, over_fragment, again, 
 ghost use Rattle.mbe_parting.specs.Code.{spot_seen, way_seen, ways_seen};
 ghost use Rattle.mbe_parting.specs.Graph.{node, target, step_at};
 
-use crate::eat::eat_fragment;
 use crate::edges::Step;
-use crate::fronts::{between_width, opens, token_width};
 use crate::spot::{Spot, Way, Ways};
+use mbe_matcher::eat::eat_fragment;
+use mbe_matcher::fronts::{between_width, opens, token_width};
 use mbe_ops::ops::{Op, Separator};
 use mbe_places::source::Source;
 use mbe_semantics::kinds::{MetaVarKind, RepeatKind};

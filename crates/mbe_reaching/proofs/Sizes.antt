@@ -56,7 +56,8 @@ repetitions_alike o p body other held holds s t k l round inside ho hp hb hc he 
 
 -- ---- any trees
 
-pub trees_seen : (o : Op) (body held : Ops) (s : Option Separator) (k : RepeatKind) (list inside : Bool) (only : Option Op)
+pub trees_seen : (o : Op) (body held : Ops) (s : Option Separator) (k : RepeatKind) (list inside : Bool)
+    (only : Option Op)
     → o ≡ repetition body s k → held ≡ body → list ≡ is_list s k → list ≡ true → only ≡ only_op held
     → inside ≡ is_some_tree only → inside ≡ are_trees o
 trees_seen o body held s k list inside only ho hb hl ht hn ha =

@@ -9,36 +9,42 @@ use Rattle.mbe_parting.specs.declared.spot.Spot as declared
 use Rattle.mbe_parting.specs.Graph.{AreReached, node, steps_before, edges_in, flipped}
 use Rattle.mbe_parting.proofs.Whole.{spots-some}
 use Rattle.mbe_parting.proofs.graph.graph_of.Goals as goal
+use Rattle.mbe_parting.proofs.graph.graph_of.Goals.{In_ok-count}
+
+-- the numbers of the graph
+module _ (g : _) (c : In_ok-count g) where
+  is_size : c.len-size.result ≡ length c.in_ok-spots.spots.items
+  is_size = c.len-size.ensures ∙ (let e : c.in_ok-spots.spots.len ≡ length c.in_ok-spots.spots.items =
+      omega (arith, c.in_ok-spots.spots.ok.0) in e)
+
+  is_last : c.in_ok-end.end ≡ node c.len-size.result c.flat_len-length.result 1
+  is_last = subst (λ r. IfSome r (λ n. n ≡ node c.len-size.result c.flat_len-length.result 1))
+      c.in_ok-end.ensures.ok_part c.node.ensures
+
+  is_most : c.in_ok-most.most ≡ node c.len-size.result c.flat_len-length.result c.len-size.result
+  is_most = subst (λ r. IfSome r (λ n. n ≡ node c.len-size.result c.flat_len-length.result c.len-size.result))
+      c.in_ok-most.ensures.ok_part c.node-2.ensures
+
+  is_count : c.in_ok-count.count ≡ c.in_ok-most.most + 1
+  is_count = search rules
 
 pub reached_from-requires-2 : goal.reached_from-requires-2
 reached_from-requires-2 g c =
     let some : 0 < length c.in_ok-spots.spots.items =
     spots-some c.in_ok-spots.spots.items (template_of c.args.pattern.now) c.in_ok-spots.ensures in
-    let size : c.len-size.result ≡ length c.in_ok-spots.spots.items =
-    c.len-size.ensures ∙ (let e : c.in_ok-spots.spots.len ≡ length c.in_ok-spots.spots.items =
-    omega (arith, c.in_ok-spots.spots.ok.0) in e) in
-    let last : c.in_ok-end.end ≡ node c.len-size.result c.flat_len-length.result 1 =
-    subst (λ r. IfSome r (λ n. n ≡ node c.len-size.result c.flat_len-length.result 1)) c.in_ok-end.ensures.ok_part
-    c.node.ensures in
-    let most : c.in_ok-most.most ≡ node c.len-size.result c.flat_len-length.result c.len-size.result =
-    subst (λ r. IfSome r (λ n. n ≡ node c.len-size.result c.flat_len-length.result c.len-size.result))
-    c.in_ok-most.ensures.ok_part c.node-2.ensures in
-    let count : c.in_ok-count.count ≡ c.in_ok-most.most + 1 = search rules in
+    let here = (goal.at.reached_from-requires-2 g c).In_ok-count in
+    let size = is_size g here in
+    let last = is_last g here in
+    let most = is_most g here in
+    let count = is_count g here in
     omega (arith, some, size, last, most, count)
 
 pub returns-clause-graph : goal.returns-clause-graph
 returns-clause-graph g c =
-    let size : c.len-size.result ≡ length c.in_ok-spots.spots.items =
-    c.len-size.ensures ∙ (let e : c.in_ok-spots.spots.len ≡ length c.in_ok-spots.spots.items =
-    omega (arith, c.in_ok-spots.spots.ok.0) in e) in
+    let here = (goal.at.returns-clause-graph g c).In_ok-count in
+    let size = is_size g here in
+    let last = is_last g here in
     let len : c.flat_len-length.result ≡ flat_len (trees c.args.argument) = c.flat_len-length.ensures in
-    let last : c.in_ok-end.end ≡ node c.len-size.result c.flat_len-length.result 1 =
-    subst (λ r. IfSome r (λ n. n ≡ node c.len-size.result c.flat_len-length.result 1)) c.in_ok-end.ensures.ok_part
-    c.node.ensures in
-    let most : c.in_ok-most.most ≡ node c.len-size.result c.flat_len-length.result c.len-size.result =
-    subst (λ r. IfSome r (λ n. n ≡ node c.len-size.result c.flat_len-length.result c.len-size.result))
-    c.in_ok-most.ensures.ok_part c.node-2.ensures in
-    let count : c.in_ok-count.count ≡ c.in_ok-most.most + 1 = search rules in
     let spots_are : c.deref.result.now ≡ c.in_ok-spots.spots.items = c.deref.ensures.value in
     record {
       spots = c.in_ok-spots.ensures;
@@ -48,7 +54,7 @@ returns-clause-graph g c =
       edges = c.in_ok-edges.ensures ∙ ap edges_in c.deref-2.ensures.value;
       end = last ∙ ap (λ v. node v c.flat_len-length.result 1) size
           ∙ ap (λ v. node (length c.in_ok-spots.spots.items) v 1) len;
-      count = count ∙ ap (λ v. v + 1) (most ∙ ap (λ v. node v c.flat_len-length.result v) size
+      count = is_count g here ∙ ap (λ v. v + 1) (is_most g here ∙ ap (λ v. node v c.flat_len-length.result v) size
           ∙ ap (λ v. node (length c.in_ok-spots.spots.items) v (length c.in_ok-spots.spots.items)) len);
       reached = subst (λ v. AreReached c.in_ok-edges.edges.items v c.in_ok-count.count c.in_ok-reached.reached.items)
           size

@@ -1,31 +1,42 @@
-use Rattle.std.proofs.Common.{◌≡◌, ◌∷◌, ◌++◌, map, option_map, inl, inr, ap, sym, subst, refl, ◌∙◌, arith}
+use Rattle.std.proofs.Common.{◌≡◌, ℕ, List, [], ◌∷◌, ◌++◌, map, option_map, Some, ap, sym, subst, ◌∙◌, append-nil, arith}
 use Rattle.std.specs.Prelude.{None, OnOk, IfSome}
 use Rattle.mbe_semantics.specs.Matching.Dots.{op_dots}
-use Rattle.mbe_semantics.specs.Syntax.Op.{group, repetition, no_ops}
-use Rattle.mbe_ops.specs.Views.{op_of, ops_of, separator_seen}
+use Rattle.mbe_semantics.specs.Syntax.Op.{no_ops}
+use Rattle.mbe_ops.specs.Views.{op_of, ops_of}
 use Rattle.mbe_ops.specs.Walk.{stops_left, ops_in}
-use Rattle.mbe_ops.proofs.EqualityLemmas.{op_weight, ops_weight}
+use Rattle.mbe_ops.proofs.EqualityLemmas.{ops_weight}
 use Rattle.mbe_ops.proofs.WalkLemmas.{op_first, no_op_first, ops_at_first}
-use Rattle.mbe_ops.proofs.OpViews.{view-open, view-open_repeat, view-subtree, view-repeat, view-var, view-literal, view-ident, view-punct, view-ignore, view-index, view-len, view-count, view-concat}
-use Rattle.mbe_matcher.proofs.StepLemmas.{separator_same}
-use Rattle.mbe_parting.specs.Spots.{before, closing, round_end, spots, spots_of_op}
+use Rattle.mbe_parting.specs.Spots.{Spot, before, inside_of, spots, spots_of_op}
 use Rattle.mbe_parting.specs.Code.{spot_seen}
-use Rattle.mbe_parting.proofs.Spotting.{pushed-more, pushed-one, pushed-op, pushed-end, IsFlat}
+use Rattle.mbe_parting.proofs.Spotting.{pushed-more, pushed-op, pushed-end, spots_in, op-spots, inside-lighter}
 use Rattle.mbe_parting.proofs.spots.+spotting.Goals as goal
+use Rattle.mbe_parting.proofs.spots.+spotting.Goals.{push_op-In_ok-push}
+
+-- how many dots there are in the op
+counted : (g : _) (t : ℕ) (c : push_op-In_ok-push g t) → c.in_ok-dots.dots ≡ op_dots (op_of c.args.op.now)
+counted g t c =
+    subst (λ r. IfSome r (λ n. n ≡ op_dots (op_of c.args.op.now))) c.in_ok-dots.ensures.ok_part c.op_dots_of.ensures
+
+-- the one before it, and what is in it
+pushed : (g : _) (t : ℕ) (c : push_op-In_ok-push g t) (inside : List Spot) → inside ≡ spots_in (inside_of (op_of c.args.op.now))
+    → map spot_seen c.push.new.self.items ++ inside
+    ≡ map spot_seen c.args.all.now.items ++ spots_of_op (op_of c.args.op.now)
+pushed g t c inside e =
+    let o = op_of c.args.op.now in
+    pushed-more c.args.all.now.items c.push.new.self.items _ (before o (op_dots o)) inside (spots_of_op o)
+    c.in_ok-push.ensures.items (ap (before o) (counted g t c))
+    (op-spots o ∙ ap (λ l. before o (op_dots o) ∷ l) (sym e))
+
+pub push_op-inside-requires : goal.push_op-inside-requires
+push_op-inside-requires g t c = counted g t (goal.at.push_op-inside-requires g t c).push_op-In_ok-push
 
 pub push_op-push_spots-requires : goal.push_op-push_spots-requires
 push_op-push_spots-requires g t c κs within =
-    let here = c.in-Subtree in
-    let seen = ap op_weight (ap op_of here.is ∙ view-open here.tokens _) in
-    let inside = ap (λ xs. ops_weight (ops_of xs)) c.deref.ensures.value in
-    (omega (arith, c.decreases, seen, inside), within)
-
-pub push_op-push_spots-requires-in-Repeat : goal.push_op-push_spots-requires-in-Repeat
-push_op-push_spots-requires-in-Repeat g t c κs within =
-    let here = c.in-Repeat in
-    let seen = ap op_weight (ap op_of here.is ∙ view-open_repeat here.tokens _ _) in
-    let inside = ap (λ xs. ops_weight (ops_of xs)) c.deref-in-Repeat.ensures.value in
-    (omega (arith, c.decreases, seen, inside), within)
+    let here = c.in-Some in
+    let seen : inside_of (op_of c.args.op.now) ≡ Some (ops_of here.ops.now, spot_seen here.end) =
+    sym c.inside.ensures ∙ ap (option_map (λ p. (ops_of p.0.now, spot_seen p.1))) here.is in
+    let lighter = inside-lighter (op_of c.args.op.now) (ops_of here.ops.now) (spot_seen here.end) seen in
+    (omega (arith, c.decreases, lighter), within)
 
 pub push_spots-push_op-requires : goal.push_spots-push_op-requires
 push_spots-push_op-requires g t c κs within =
@@ -66,189 +77,21 @@ push_spots-loop-stop-preserved g t c =
           ∙ before.so_far;
     }
 
-pub push_op-returns-in-Subtree : goal.push_op-returns-in-Subtree
-push_op-returns-in-Subtree g t c =
-    let count : c.in_ok-dots.dots ≡ op_dots (op_of c.args.op.now) =
-    subst (λ r. IfSome r (λ n. n ≡ op_dots (op_of c.args.op.now))) c.in_ok-dots.ensures.ok_part c.op_dots_of.ensures in
-    let seen : op_of c.args.op.now ≡ group c.in-Subtree.delimiter (ops_of c.deref.result.now) =
-    ap op_of c.in-Subtree.is ∙ view-subtree _ c.in-Subtree.delimiter
-    ∙ ap (λ xs. group c.in-Subtree.delimiter (ops_of xs)) (sym c.deref.ensures.value) in
+pub push_op-returns-in-Some : goal.push_op-returns-in-Some
+push_op-returns-in-Some g t c =
+    let here = c.in-Some in
+    let seen : inside_of (op_of c.args.op.now) ≡ Some (ops_of here.ops.now, spot_seen here.end) =
+    sym c.inside.ensures ∙ ap (option_map (λ p. (ops_of p.0.now, spot_seen p.1))) here.is in
     subst (λ v. OnOk c.push_spots.result (map spot_seen c.push_spots.new.all.items ≡ v))
-    (pushed-more c.args.all.now.items c.push.new.self.items _ (before (op_of c.args.op.now) (op_dots (op_of
-    c.args.op.now)))
-    (spots (ops_of c.deref.result.now) closing) (spots_of_op (op_of c.args.op.now)) c.in_ok-push.ensures.items
-    (ap (before (op_of c.args.op.now)) count)
-    (subst (λ o. spots_of_op o ≡ before o (op_dots o) ∷ spots (ops_of c.deref.result.now) closing) (sym seen) refl))
-    c.push_spots.ensures
+    (pushed g t (goal.at.push_op-returns-in-Some g t c).push_op-In_ok-push
+    (spots (ops_of here.ops.now) (spot_seen here.end)) (ap spots_in (sym seen))) c.push_spots.ensures
 
-pub push_op-returns-in-Repeat : goal.push_op-returns-in-Repeat
-push_op-returns-in-Repeat g t c =
-    let count : c.in_ok-dots.dots ≡ op_dots (op_of c.args.op.now) =
-    subst (λ r. IfSome r (λ n. n ≡ op_dots (op_of c.args.op.now))) c.in_ok-dots.ensures.ok_part c.op_dots_of.ensures in
-    let seen : op_of c.args.op.now
-    ≡ repetition (ops_of c.deref-in-Repeat.result.now) (option_map (λ v. separator_seen v.now) c.as_ref.result)
-    c.in-Repeat.kind =
-    ap op_of c.in-Repeat.is ∙ view-repeat _ _ _
-    ∙ ap (λ x. repetition (ops_of c.in-Repeat.tokens.0.items) x c.in-Repeat.kind)
-    (sym (separator_same c.as_ref.result c.in-Repeat.separator c.as_ref.ensures.value))
-    ∙ ap (λ xs. repetition (ops_of xs) (option_map (λ v. separator_seen v.now) c.as_ref.result) c.in-Repeat.kind)
-    (sym c.deref-in-Repeat.ensures.value) in
-    let all : spots_of_op (op_of c.args.op.now) ≡ before (op_of c.args.op.now) (op_dots (op_of c.args.op.now))
-    ∷ spots (ops_of c.deref-in-Repeat.result.now)
-    (round_end (option_map (λ v. separator_seen v.now) c.as_ref.result) c.in-Repeat.kind
-    (op_dots (op_of c.args.op.now))) =
-    subst (λ o. spots_of_op o ≡ before o (op_dots o) ∷ spots (ops_of c.deref-in-Repeat.result.now)
-    (round_end (option_map (λ v. separator_seen v.now) c.as_ref.result) c.in-Repeat.kind (op_dots o))) (sym seen)
-    refl in
-    subst (λ v. OnOk c.push_spots-in-Repeat.result (map spot_seen c.push_spots-in-Repeat.new.all.items ≡ v))
-    (pushed-more c.args.all.now.items c.push.new.self.items _ (before (op_of c.args.op.now) (op_dots (op_of
-    c.args.op.now)))
-    _ (spots_of_op (op_of c.args.op.now)) c.in_ok-push.ensures.items
-    (ap (before (op_of c.args.op.now)) count)
-    (all ∙ ap (λ n. before (op_of c.args.op.now) (op_dots (op_of c.args.op.now))
-    ∷ spots (ops_of c.deref-in-Repeat.result.now)
-    (round_end (option_map (λ v. separator_seen v.now) c.as_ref.result) c.in-Repeat.kind n)) (sym count)))
-    c.push_spots-in-Repeat.ensures
-
-pub push_op-returns-in-Var : goal.push_op-returns-in-Var
-push_op-returns-in-Var g t c =
-    let count : c.in_ok-dots.dots ≡ op_dots (op_of c.args.op.now) =
-    subst (λ r. IfSome r (λ n. n ≡ op_dots (op_of c.args.op.now))) c.in_ok-dots.ensures.ok_part c.op_dots_of.ensures in
-    let flat : IsFlat (op_of c.args.op.now) =
-    elim c.in-Var.is [
-      | inl w ↦ subst IsFlat (sym (ap op_of w.3 ∙ view-var _ w.0 w.1 w.2)) refl
-      | inr (inl w) ↦ subst IsFlat (sym (ap op_of w.1 ∙ view-literal w.0)) refl
-      | inr (inr (inl w)) ↦ subst IsFlat (sym (ap op_of w.1 ∙ view-ident w.0)) refl
-      | inr (inr (inr w)) ↦ subst IsFlat (sym (ap op_of w.1 ∙ view-punct _ w.0)) refl
-    ] in
-    pushed-one c.args.all.now.items c.push.new.self.items _ (before (op_of c.args.op.now) (op_dots (op_of
-    c.args.op.now)))
-    (spots_of_op (op_of c.args.op.now)) c.in_ok-push.ensures.items (ap (before (op_of c.args.op.now)) count) flat
-
-pub push_op-returns-in-Var-2 : goal.push_op-returns-in-Var-2
-push_op-returns-in-Var-2 g t c =
-    let count : c.in_ok-dots.dots ≡ op_dots (op_of c.args.op.now) =
-    subst (λ r. IfSome r (λ n. n ≡ op_dots (op_of c.args.op.now))) c.in_ok-dots.ensures.ok_part c.op_dots_of.ensures in
-    let flat : IsFlat (op_of c.args.op.now) =
-    elim c.in-Var.is [
-      | inl w ↦ subst IsFlat (sym (ap op_of w.3 ∙ view-var _ w.0 w.1 w.2)) refl
-      | inr (inl w) ↦ subst IsFlat (sym (ap op_of w.1 ∙ view-literal w.0)) refl
-      | inr (inr (inl w)) ↦ subst IsFlat (sym (ap op_of w.1 ∙ view-ident w.0)) refl
-      | inr (inr (inr w)) ↦ subst IsFlat (sym (ap op_of w.1 ∙ view-punct _ w.0)) refl
-    ] in
-    pushed-one c.args.all.now.items c.push.new.self.items _ (before (op_of c.args.op.now) (op_dots (op_of
-    c.args.op.now)))
-    (spots_of_op (op_of c.args.op.now)) c.in_ok-push.ensures.items (ap (before (op_of c.args.op.now)) count) flat
-
-pub push_op-returns-in-Var-3 : goal.push_op-returns-in-Var-3
-push_op-returns-in-Var-3 g t c =
-    let count : c.in_ok-dots.dots ≡ op_dots (op_of c.args.op.now) =
-    subst (λ r. IfSome r (λ n. n ≡ op_dots (op_of c.args.op.now))) c.in_ok-dots.ensures.ok_part c.op_dots_of.ensures in
-    let flat : IsFlat (op_of c.args.op.now) =
-    elim c.in-Var.is [
-      | inl w ↦ subst IsFlat (sym (ap op_of w.3 ∙ view-var _ w.0 w.1 w.2)) refl
-      | inr (inl w) ↦ subst IsFlat (sym (ap op_of w.1 ∙ view-literal w.0)) refl
-      | inr (inr (inl w)) ↦ subst IsFlat (sym (ap op_of w.1 ∙ view-ident w.0)) refl
-      | inr (inr (inr w)) ↦ subst IsFlat (sym (ap op_of w.1 ∙ view-punct _ w.0)) refl
-    ] in
-    pushed-one c.args.all.now.items c.push.new.self.items _ (before (op_of c.args.op.now) (op_dots (op_of
-    c.args.op.now)))
-    (spots_of_op (op_of c.args.op.now)) c.in_ok-push.ensures.items (ap (before (op_of c.args.op.now)) count) flat
-
-pub push_op-returns-in-Var-4 : goal.push_op-returns-in-Var-4
-push_op-returns-in-Var-4 g t c =
-    let count : c.in_ok-dots.dots ≡ op_dots (op_of c.args.op.now) =
-    subst (λ r. IfSome r (λ n. n ≡ op_dots (op_of c.args.op.now))) c.in_ok-dots.ensures.ok_part c.op_dots_of.ensures in
-    let flat : IsFlat (op_of c.args.op.now) =
-    elim c.in-Var.is [
-      | inl w ↦ subst IsFlat (sym (ap op_of w.3 ∙ view-var _ w.0 w.1 w.2)) refl
-      | inr (inl w) ↦ subst IsFlat (sym (ap op_of w.1 ∙ view-literal w.0)) refl
-      | inr (inr (inl w)) ↦ subst IsFlat (sym (ap op_of w.1 ∙ view-ident w.0)) refl
-      | inr (inr (inr w)) ↦ subst IsFlat (sym (ap op_of w.1 ∙ view-punct _ w.0)) refl
-    ] in
-    pushed-one c.args.all.now.items c.push.new.self.items _ (before (op_of c.args.op.now) (op_dots (op_of
-    c.args.op.now)))
-    (spots_of_op (op_of c.args.op.now)) c.in_ok-push.ensures.items (ap (before (op_of c.args.op.now)) count) flat
-
-pub push_op-returns-in-Ignore : goal.push_op-returns-in-Ignore
-push_op-returns-in-Ignore g t c =
-    let count : c.in_ok-dots.dots ≡ op_dots (op_of c.args.op.now) =
-    subst (λ r. IfSome r (λ n. n ≡ op_dots (op_of c.args.op.now))) c.in_ok-dots.ensures.ok_part c.op_dots_of.ensures in
-    let flat : IsFlat (op_of c.args.op.now) =
-    elim c.in-Ignore.is [
-      | inl w ↦ subst IsFlat (sym (ap op_of w.2 ∙ view-ignore _ w.0 w.1)) refl
-      | inr (inl w) ↦ subst IsFlat (sym (ap op_of w.1 ∙ view-index _ w.0)) refl
-      | inr (inr (inl w)) ↦ subst IsFlat (sym (ap op_of w.1 ∙ view-len _ w.0)) refl
-      | inr (inr (inr (inl w))) ↦ subst IsFlat (sym (ap op_of w.2 ∙ view-count _ w.0 w.1)) refl
-      | inr (inr (inr (inr w))) ↦ subst IsFlat (sym (ap op_of w.2 ∙ view-concat w.0 w.1)) refl
-    ] in
-    pushed-one c.args.all.now.items c.push.new.self.items _ (before (op_of c.args.op.now) (op_dots (op_of
-    c.args.op.now)))
-    (spots_of_op (op_of c.args.op.now)) c.in_ok-push.ensures.items (ap (before (op_of c.args.op.now)) count) flat
-
-pub push_op-returns-in-Ignore-2 : goal.push_op-returns-in-Ignore-2
-push_op-returns-in-Ignore-2 g t c =
-    let count : c.in_ok-dots.dots ≡ op_dots (op_of c.args.op.now) =
-    subst (λ r. IfSome r (λ n. n ≡ op_dots (op_of c.args.op.now))) c.in_ok-dots.ensures.ok_part c.op_dots_of.ensures in
-    let flat : IsFlat (op_of c.args.op.now) =
-    elim c.in-Ignore.is [
-      | inl w ↦ subst IsFlat (sym (ap op_of w.2 ∙ view-ignore _ w.0 w.1)) refl
-      | inr (inl w) ↦ subst IsFlat (sym (ap op_of w.1 ∙ view-index _ w.0)) refl
-      | inr (inr (inl w)) ↦ subst IsFlat (sym (ap op_of w.1 ∙ view-len _ w.0)) refl
-      | inr (inr (inr (inl w))) ↦ subst IsFlat (sym (ap op_of w.2 ∙ view-count _ w.0 w.1)) refl
-      | inr (inr (inr (inr w))) ↦ subst IsFlat (sym (ap op_of w.2 ∙ view-concat w.0 w.1)) refl
-    ] in
-    pushed-one c.args.all.now.items c.push.new.self.items _ (before (op_of c.args.op.now) (op_dots (op_of
-    c.args.op.now)))
-    (spots_of_op (op_of c.args.op.now)) c.in_ok-push.ensures.items (ap (before (op_of c.args.op.now)) count) flat
-
-pub push_op-returns-in-Ignore-3 : goal.push_op-returns-in-Ignore-3
-push_op-returns-in-Ignore-3 g t c =
-    let count : c.in_ok-dots.dots ≡ op_dots (op_of c.args.op.now) =
-    subst (λ r. IfSome r (λ n. n ≡ op_dots (op_of c.args.op.now))) c.in_ok-dots.ensures.ok_part c.op_dots_of.ensures in
-    let flat : IsFlat (op_of c.args.op.now) =
-    elim c.in-Ignore.is [
-      | inl w ↦ subst IsFlat (sym (ap op_of w.2 ∙ view-ignore _ w.0 w.1)) refl
-      | inr (inl w) ↦ subst IsFlat (sym (ap op_of w.1 ∙ view-index _ w.0)) refl
-      | inr (inr (inl w)) ↦ subst IsFlat (sym (ap op_of w.1 ∙ view-len _ w.0)) refl
-      | inr (inr (inr (inl w))) ↦ subst IsFlat (sym (ap op_of w.2 ∙ view-count _ w.0 w.1)) refl
-      | inr (inr (inr (inr w))) ↦ subst IsFlat (sym (ap op_of w.2 ∙ view-concat w.0 w.1)) refl
-    ] in
-    pushed-one c.args.all.now.items c.push.new.self.items _ (before (op_of c.args.op.now) (op_dots (op_of
-    c.args.op.now)))
-    (spots_of_op (op_of c.args.op.now)) c.in_ok-push.ensures.items (ap (before (op_of c.args.op.now)) count) flat
-
-pub push_op-returns-in-Ignore-4 : goal.push_op-returns-in-Ignore-4
-push_op-returns-in-Ignore-4 g t c =
-    let count : c.in_ok-dots.dots ≡ op_dots (op_of c.args.op.now) =
-    subst (λ r. IfSome r (λ n. n ≡ op_dots (op_of c.args.op.now))) c.in_ok-dots.ensures.ok_part c.op_dots_of.ensures in
-    let flat : IsFlat (op_of c.args.op.now) =
-    elim c.in-Ignore.is [
-      | inl w ↦ subst IsFlat (sym (ap op_of w.2 ∙ view-ignore _ w.0 w.1)) refl
-      | inr (inl w) ↦ subst IsFlat (sym (ap op_of w.1 ∙ view-index _ w.0)) refl
-      | inr (inr (inl w)) ↦ subst IsFlat (sym (ap op_of w.1 ∙ view-len _ w.0)) refl
-      | inr (inr (inr (inl w))) ↦ subst IsFlat (sym (ap op_of w.2 ∙ view-count _ w.0 w.1)) refl
-      | inr (inr (inr (inr w))) ↦ subst IsFlat (sym (ap op_of w.2 ∙ view-concat w.0 w.1)) refl
-    ] in
-    pushed-one c.args.all.now.items c.push.new.self.items _ (before (op_of c.args.op.now) (op_dots (op_of
-    c.args.op.now)))
-    (spots_of_op (op_of c.args.op.now)) c.in_ok-push.ensures.items (ap (before (op_of c.args.op.now)) count) flat
-
-pub push_op-returns-in-Ignore-5 : goal.push_op-returns-in-Ignore-5
-push_op-returns-in-Ignore-5 g t c =
-    let count : c.in_ok-dots.dots ≡ op_dots (op_of c.args.op.now) =
-    subst (λ r. IfSome r (λ n. n ≡ op_dots (op_of c.args.op.now))) c.in_ok-dots.ensures.ok_part c.op_dots_of.ensures in
-    let flat : IsFlat (op_of c.args.op.now) =
-    elim c.in-Ignore.is [
-      | inl w ↦ subst IsFlat (sym (ap op_of w.2 ∙ view-ignore _ w.0 w.1)) refl
-      | inr (inl w) ↦ subst IsFlat (sym (ap op_of w.1 ∙ view-index _ w.0)) refl
-      | inr (inr (inl w)) ↦ subst IsFlat (sym (ap op_of w.1 ∙ view-len _ w.0)) refl
-      | inr (inr (inr (inl w))) ↦ subst IsFlat (sym (ap op_of w.2 ∙ view-count _ w.0 w.1)) refl
-      | inr (inr (inr (inr w))) ↦ subst IsFlat (sym (ap op_of w.2 ∙ view-concat w.0 w.1)) refl
-    ] in
-    pushed-one c.args.all.now.items c.push.new.self.items _ (before (op_of c.args.op.now) (op_dots (op_of
-    c.args.op.now)))
-    (spots_of_op (op_of c.args.op.now)) c.in_ok-push.ensures.items (ap (before (op_of c.args.op.now)) count) flat
+pub push_op-returns : goal.push_op-returns
+push_op-returns g t c =
+    let none : inside_of (op_of c.args.op.now) ≡ None =
+    sym c.inside.ensures ∙ ap (option_map (λ p. (ops_of p.0.now, spot_seen p.1))) c.in-None.is in
+    sym (append-nil (map spot_seen c.push.new.self.items))
+    ∙ pushed g t (goal.at.push_op-returns g t c).push_op-In_ok-push [] (ap spots_in (sym none))
 
 pub push_spots-returns : goal.push_spots-returns
 push_spots-returns g t c =
