@@ -1,11 +1,9 @@
 // Users of the binding log, who see its contracts alone, and its tests.
-#![tactic(auto)]
-
-#[cfg(test)]
 mod calls;
-#[cfg(test)]
+mod memory;
 mod model;
-#[cfg(test)]
-mod tests;
-#[cfg(test)]
+mod rows;
+mod scripts;
+mod tables;
 mod uses;
+mod values;

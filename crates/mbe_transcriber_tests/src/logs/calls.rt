@@ -8,6 +8,7 @@ use mbe_semantics::kinds::MetaVarKind;
 use mbe_tt::symbol::Symbol;
 use mbe_tt::tt::TokenTreesView;
 use std::alloc::{AllocError, Allocator, Global};
+use test_rows::number;
 
 /// What a name is bound to.
 #[derive(Clone, Copy)]
@@ -43,20 +44,47 @@ pub fn new_book<'a, A: Allocator + Copy>(alloc: A) -> Book<'a, A> {
     }
 }
 
-/// Makes the calls, up to one that is refused or whose handle isn't live. How many were made.
+fn what_of(letter: u8) -> What {
+    match letter {
+        b't' => What::Tree,
+        b'o' => What::Nothing,
+        b's' => What::Skipped,
+        _ => What::Missing,
+    }
+}
+
+// A call of a row: `alloc`, `copy 0`, `nested 1 0`, `default 0`, or what is pushed, as `tree 0 1`, `optional 0 1`,
+// `skipped 0 1` and `missing 0 1`. After its kind come handles, and a name.
+fn call_of(row: &str) -> Call {
+    let mut words = row.split(' ');
+    let kind = words.next().unwrap_or("");
+    let at = number(words.next().unwrap_or(""));
+    let other = number(words.next().unwrap_or(""));
+    match kind.as_bytes().first() {
+        None | Some(b'a') => Call::Alloc,
+        Some(b'c') => Call::Copy(at),
+        Some(b'n') => Call::Nested(at, other),
+        Some(b'd') => Call::Default(at),
+        Some(letter) => Call::Push(at, what_of(*letter), other),
+    }
+}
+
+/// Makes the calls of a row, so many at most, up to one that is refused or whose handle isn't live. How many were made.
 pub fn make<'a, A: Allocator + Copy>(
     book: &mut Book<'a, A>,
     names: &[Symbol<A>],
     tree: TokenTreesView<'a, A>,
-    calls: &[Call],
+    calls: &str,
+    most: usize,
 ) -> usize {
-    for (made, call) in calls.iter().enumerate() {
-        match apply(book, names, tree, *call) {
-            Ok(true) => {}
-            Ok(false) | Err(AllocError) => return made,
+    let mut made = 0usize;
+    for row in calls.split(',') {
+        if made == most || !apply(book, names, tree, call_of(row.trim_start())).unwrap_or(false) {
+            return made;
         }
+        made = made.saturating_add(1);
     }
-    calls.len()
+    made
 }
 
 /// Makes the call. `false` where no live handle is at the place.

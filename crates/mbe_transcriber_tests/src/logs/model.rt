@@ -1,5 +1,5 @@
 // A plain model of a log: each account is a list of its own, which a copy clones.
-use crate::calls::{Call, What};
+use super::calls::{Call, What};
 use std::alloc::{AllocError, Global};
 
 // What an account holds, in the order of writing. A nested account is between an opening and a closing.

@@ -1,5 +1,5 @@
-use crate::calls::{Book, Call, What, apply, built, names, new_book};
-use crate::model;
+use super::calls::{Book, Call, What, apply, built, names, new_book};
+use super::model;
 use mbe_tt::span::{DelimSpan, Span};
 use mbe_tt::symbol::Symbol;
 use mbe_tt::tt::{TokenTreesView, TopSubtree};
@@ -87,9 +87,12 @@ fn script(alloc: Global, seed: usize) -> Result<bool, AllocError> {
     play(&mut both, alloc, &names, tree.view(), seed)
 }
 
-#[test]
-fn random_scripts_agree_with_plain_lists(rt: HostRuntime) {
-    for seed in 0..500usize {
-        assert!(rt; script(rt.alloc(), seed).unwrap_or(false), "at {seed}");
+/// Whether so many random scripts agree with plain lists.
+pub fn all_agree(alloc: Global, seeds: usize) -> Result<bool, AllocError> {
+    for seed in 0..seeds {
+        if !script(alloc, seed)? {
+            return Ok(false);
+        }
     }
+    Ok(true)
 }

@@ -1,4 +1,4 @@
-use crate::calls::{Book, Call, What, make, names, new_book, show_built};
+use super::calls::{Book, make, names, new_book, show_built};
 use mbe_log::log::BindingLog;
 use mbe_tt::span::{DelimSpan, Span};
 use mbe_tt::symbol::Symbol;
@@ -7,24 +7,12 @@ use refusing::Refusing;
 use std::alloc::{AllocError, Allocator, Global};
 
 // Each call, on lists that end with the handle's entries and on lists that go on after them.
-static CALLS: [Call; 16] = [
-    Call::Alloc,
-    Call::Push(0, What::Tree, 0),
-    Call::Push(0, What::Nothing, 1),
-    Call::Copy(0),
-    Call::Push(0, What::Skipped, 2),
-    Call::Push(1, What::Missing, 2),
-    Call::Default(1),
-    Call::Push(1, What::Tree, 1),
-    Call::Alloc,
-    Call::Nested(2, 1),
-    Call::Copy(1),
-    Call::Default(1),
-    Call::Default(3),
-    Call::Push(3, What::Tree, 0),
-    Call::Nested(2, 3),
-    Call::Nested(0, 2),
-];
+const CALLS: &str =
+    "alloc, tree 0 0, optional 0 1, copy 0, skipped 0 2, missing 1 2, default 1, tree 1 1, \
+    alloc, nested 2 1, copy 1, default 1, default 3, tree 3 0, nested 2 3, nested 0 2";
+
+// How many they are.
+const ALL: usize = 16;
 
 // What all handles bind, one after the other.
 fn texts<A: Allocator + Copy>(
@@ -58,7 +46,7 @@ fn is_as_after<'a, A: Allocator + Copy>(
     count: usize,
 ) -> Result<bool, AllocError> {
     let mut other = new_book(alloc);
-    let made = make(&mut other, names, tree, CALLS.get(..count).unwrap_or(&[]));
+    let made = make(&mut other, names, tree, CALLS, count);
     Ok(made == count && bind_alike(alloc, one, &other, names)?)
 }
 
@@ -71,8 +59,8 @@ fn is_whole<'a, A: Allocator + Copy>(
     tree: TokenTreesView<'a, A>,
     builds: bool,
 ) -> Option<bool> {
-    let made = make(one, names, tree, &CALLS);
-    if made == CALLS.len() && (!builds || texts(alloc, one, names).is_ok()) {
+    let made = make(one, names, tree, CALLS, ALL);
+    if made == ALL && (!builds || texts(alloc, one, names).is_ok()) {
         return Some(true);
     }
     if is_as_after(alloc, one, names, tree, made).ok()? {
@@ -97,30 +85,17 @@ fn is_refused(alloc: Global, builds: bool, number: u64) -> Option<bool> {
     (alloc.has_refused() != is_whole).then_some(!is_whole)
 }
 
-// The number of the first request that isn't there to be refused, where each before is refused in turn as it has to be.
-fn first_unrefused(alloc: Global, builds: bool) -> Option<u64> {
+/// The number of the first request that isn't there to be refused, where each before is refused in turn as it has to be.
+pub fn first_unrefused(alloc: Global, builds: bool) -> Option<u64> {
     for number in 1..1000u64 {
         if !is_refused(alloc, builds, number)? {
             return Some(number);
         }
     }
     None
-}
+} /// Whether the last of so many handles has no entry and one round, each of which has bound a name.
 
-// The tree, each name, both lists of lists and each list that has an entry are a request at least.
-#[test]
-fn a_refused_call_changes_no_handle(rt: HostRuntime) {
-    assert!(rt; first_unrefused(rt.alloc(), false).unwrap_or(0) > 12);
-}
-
-// The text of each of the four handles is a request more at least.
-#[test]
-fn a_refused_build_can_be_asked_again(rt: HostRuntime) {
-    assert!(rt; first_unrefused(rt.alloc(), true).unwrap_or(0) > 16);
-}
-
-// How many entries the last of so many handles has, each of which has bound a name.
-fn last_of_many(alloc: Global, count: usize) -> Result<(usize, usize), AllocError> {
+pub fn is_last_of_many(alloc: Global, count: usize) -> Result<bool, AllocError> {
     let name = Symbol::intern(alloc, "x")?;
     let mut log = BindingLog::new(alloc);
     for _handle in 0..count {
@@ -130,11 +105,5 @@ fn last_of_many(alloc: Global, count: usize) -> Result<(usize, usize), AllocErro
     let mut last = log.alloc()?;
     log.push_empty(&mut last, &name)?;
     log.push_default(&mut last)?;
-    Ok(log.entries_of(&last))
-}
-
-#[test]
-fn a_log_has_a_million_lists(rt: HostRuntime) -> Result<(), AllocError> {
-    assert_eq!(rt; last_of_many(rt.alloc(), 500_000)?, (0, 1));
-    Ok(())
+    Ok(log.entries_of(&last) == (0, 1))
 }

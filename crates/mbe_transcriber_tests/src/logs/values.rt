@@ -1,4 +1,4 @@
-use crate::uses::text_of;
+use super::uses::text_of;
 use mbe_log::bindings::{Binding, Bindings};
 use mbe_log::fragment::{Fragment, TokensOrigin};
 use mbe_log::log::{BindingLog, Handle, again};
@@ -23,17 +23,12 @@ fn add_lists(log: &mut BindingLog<'_>) -> Result<(), AllocError> {
     Ok(())
 }
 
-// Before, by the call whose contract says what is written.
-fn is_listed(alloc: Global) -> Result<bool, AllocError> {
+/// Whether a log prints how many lists it has; before, by the call whose contract says what is written.
+pub fn is_listed(alloc: Global) -> Result<bool, AllocError> {
     let mut log = BindingLog::new(alloc);
     let is_empty = text_of(alloc, &log)?.as_str() == "BindingLog { commands: 0, rounds: 0 }";
     add_lists(&mut log)?;
     Ok(is_empty && prints(alloc, &log, "BindingLog { commands: 3, rounds: 2 }")?)
-}
-
-#[test]
-fn a_log_prints_how_many_lists_it_has(rt: HostRuntime) {
-    assert!(rt; is_listed(rt.alloc()).unwrap_or(false));
 }
 
 fn shows_parts(alloc: Global, handle: &Handle) -> Result<bool, AllocError> {
@@ -41,17 +36,13 @@ fn shows_parts(alloc: Global, handle: &Handle) -> Result<bool, AllocError> {
     Ok(text.contains("current") && text.contains("finished"))
 }
 
-fn are_compared(alloc: Global, log: &mut BindingLog<'_>) -> Result<bool, AllocError> {
+/// Whether handles are equal where their parts are.
+pub fn are_compared(alloc: Global) -> Result<bool, AllocError> {
+    let mut log = BindingLog::new(alloc);
     let one = log.alloc()?;
     let same = again(&one);
     let other = log.copy(&one)?;
     Ok(same == one && other != one && shows_parts(alloc, &same)?)
-}
-
-#[test]
-fn handles_are_equal_where_their_parts_are(rt: HostRuntime) {
-    let mut log = BindingLog::new(rt.alloc());
-    assert!(rt; are_compared(rt.alloc(), &mut log).unwrap_or(false));
 }
 
 // Names in the order of their binding, each with the kind of expression that is missing, or empty.
@@ -89,21 +80,18 @@ fn bindings<'a>(alloc: Global, bound: Bound) -> Result<Bindings<'a>, AllocError>
     Ok(bindings)
 }
 
-fn are_same(alloc: Global, one: Bound, two: Bound) -> Result<bool, AllocError> {
-    Ok(bindings(alloc, one)? == bindings(alloc, two)?)
+fn are_same(alloc: Global, one: Bound, two: Bound, equal: bool) -> Result<bool, AllocError> {
+    Ok((bindings(alloc, one)? == bindings(alloc, two)?) == equal)
 }
 
-fn are_printed(alloc: Global, bound: Bound, text: &str) -> Result<bool, AllocError> {
-    prints(alloc, &bindings(alloc, bound)?, text)
-}
-
-#[test]
-fn bindings_are_equal_in_any_order(rt: HostRuntime) {
-    let alloc = rt.alloc();
-    assert!(rt; are_same(alloc, ONE, OTHER_WAY).unwrap_or(false));
-    assert!(rt; !are_same(alloc, ONE, OTHER_KIND).unwrap_or(true));
+/// Whether bindings are equal in any order, and print their names in that of their binding.
+pub fn are_bindings(alloc: Global) -> Result<bool, AllocError> {
     let text = "{\"x\": Empty, \"y\": Missing(Expr(Expr)), }";
-    assert!(rt; are_printed(alloc, ONE, text).unwrap_or(false));
+    Ok(
+        are_same(alloc, ONE, OTHER_WAY, true)?
+            && are_same(alloc, ONE, OTHER_KIND, false)?
+            && prints(alloc, &bindings(alloc, ONE)?, text)?,
+    )
 }
 
 #[derive(Clone, Copy)]
@@ -139,30 +127,18 @@ fn are_compared_by(
     Ok((one == two) == equal && (copy == *two) == equal)
 }
 
-// The same of fragments of one tree.
-fn are_fragments(
-    alloc: Global,
-    one: Written,
-    two: Written,
-    equal: bool,
-) -> Result<bool, AllocError> {
+/// Whether fragments are equal where trees and writing are.
+pub fn are_fragments(alloc: Global) -> Result<bool, AllocError> {
     let tree = TopSubtree::empty(alloc, DelimSpan::from_single(Span::default()))?;
-    are_compared_by(
-        &fragment(tree.view(), one),
-        &fragment(tree.view(), two),
-        equal,
+    let raw = fragment(tree.view(), Written::Raw);
+    let found = fragment(tree.view(), Written::Found);
+    let expr = fragment(tree.view(), Written::Expr);
+    let path = fragment(tree.view(), Written::Path);
+    Ok(
+        are_compared_by(&raw, &fragment(tree.view(), Written::Raw), true)?
+            && are_compared_by(&raw, &found, false)?
+            && are_compared_by(&expr, &path, false)?,
     )
-}
-
-#[test]
-fn fragments_are_equal_where_trees_and_writing_are(rt: HostRuntime) {
-    for (one, two, equal) in [
-        (Written::Raw, Written::Raw, true),
-        (Written::Raw, Written::Found, false),
-        (Written::Expr, Written::Path, false),
-    ] {
-        assert!(rt; are_fragments(rt.alloc(), one, two, equal).unwrap_or(false));
-    }
 }
 
 fn list(alloc: Global) -> Result<Binding<'static>, AllocError> {
@@ -172,13 +148,9 @@ fn list(alloc: Global) -> Result<Binding<'static>, AllocError> {
     Ok(Binding::Nested(list))
 }
 
-fn is_list(alloc: Global) -> Result<bool, AllocError> {
+/// Whether a list prints what it has.
+pub fn is_list(alloc: Global) -> Result<bool, AllocError> {
     let list = list(alloc)?;
     let is_printed = prints(alloc, &list, "Nested([Fragment(Empty), Empty, ])")?;
     Ok(is_printed && list != Binding::Empty)
-}
-
-#[test]
-fn a_list_prints_what_it_has(rt: HostRuntime) {
-    assert!(rt; is_list(rt.alloc()).unwrap_or(false));
 }
