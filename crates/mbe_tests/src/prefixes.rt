@@ -1,9 +1,11 @@
 // Each prefix of a definition, cut after each char. A group that is open at the end is closed there.
-use crate::reading::{is_text, read};
+use crate::errors::is_shown;
 use mbe::DeclarativeMacro;
-use mbe_text::lexer::LexError;
+use mbe_text::lexer::{LexError, lex};
+use mbe_text::scanner::LexFault;
+use mbe_text::wrong::Wrong;
+use mbe_tt::span::Edition;
 use std::alloc::{AllocError, Global};
-use std::process::Abort;
 use test_rows::{fields, number, rows};
 
 // Pieces of definitions, and what is read of each prefix that ends in one: how many rules are kept, and the error, if there is one;
@@ -211,10 +213,23 @@ const PIECES: &str = rows![
 
 const COUNT: usize = 198;
 
+// The macro of a text, which is file 0, in edition 2024.
+fn read(alloc: Global, text: &str) -> Result<DeclarativeMacro, LexError> {
+    if text.len() > u32::MAX as usize {
+        return Err(LexError::Fault(LexFault {
+            offset: u32::MAX,
+            wrong: Wrong::Start,
+        }));
+    }
+    let definition = lex(alloc, text, 0)?;
+    let edition = |_context| Edition::Edition2024;
+    Ok(DeclarativeMacro::parse_macro_rules(alloc, &definition, edition)?)
+}
+
 // Whether so many rules of the macro are kept, and that error is reported.
 fn is_kept(alloc: Global, rules: &DeclarativeMacro, count: &str, error: &str) -> bool {
     let is_reported = match rules.err() {
-        Some(err) => is_text(alloc, err, error),
+        Some(err) => is_shown(alloc, err, error).unwrap_or(false),
         None => error.is_empty(),
     };
     rules.num_rules() == number(count) && is_reported
@@ -264,11 +279,7 @@ fn first_misread(alloc: Global) -> Result<Option<String>, AllocError> {
     Ok(None)
 }
 
-fn none(rt: &impl Abort, prefix: Result<Option<String>, AllocError>) {
-    assert!(rt; matches!(prefix, Ok(None)), "{prefix:?}");
-}
-
-#[test]
-fn each_prefix_of_a_definition(rt: HostRuntime) {
-    none(&rt, first_misread(rt.alloc()));
+/// Whether each prefix is read so.
+pub fn are_read(alloc: Global) -> Result<bool, AllocError> {
+    Ok(first_misread(alloc)?.is_none())
 }

@@ -1,10 +1,10 @@
 // Every public type has a derived text, which names the type or the variant and holds its fields.
-use crate::reading::read;
+use crate::runs::defined;
+use crate::trees::lexed;
 use mbe::{
     Binding, BindingLog, Bindings, CountError, ExpandError, ExpandErrorKind, ExprKind, Fragment,
     Handle, MacroCallStyle, MacroCallStyles, MetaVarKind, ParseError, TokensOrigin, ValueResult,
 };
-use mbe_text::lexer::lex;
 use mbe_tt::grammar::{Front, PrefixEntryPoint};
 use mbe_tt::span::{DelimSpan, Edition, Span, SyntaxContext};
 use mbe_tt::symbol::Symbol;
@@ -14,7 +14,6 @@ use mbe_tt::tt::{
 use std::alloc::{AllocError, Global};
 use std::fmt::Debug;
 use std::rc::Rc;
-use test_rows::{Wrong, holds};
 
 fn has_parts(text: &str, parts: &[&str]) -> bool {
     for part in parts {
@@ -43,19 +42,18 @@ const SPAN: Span = Span {
 
 const SPAN_TEXT: &str = "Span { file: 1, ast: 0, start: 2, end: 3, ctx: SyntaxContext(4) }";
 
-#[test]
-fn spans_and_fronts_are_shown(rt: HostRuntime) -> Result<(), Wrong> {
-    let alloc = rt.alloc();
+/// Whether spans and fronts are shown.
+pub fn are_spans_shown(alloc: Global) -> bool {
     let pair = DelimSpan::from_single(SPAN);
     let front = Front {
         count: 5,
         fault: true,
     };
-    holds(Ok(shows(alloc, &SPAN, &[SPAN_TEXT])))?;
-    holds(Ok(shows(alloc, &pair, &["DelimSpan { opening: Span {"])))?;
-    holds(Ok(shows(alloc, &front, &["Front { count: 5, fault: true }"])))?;
-    holds(Ok(shows(alloc, &Edition::Edition2021, &["Edition2021"])))?;
-    holds(Ok(shows(alloc, &PrefixEntryPoint::PatTop, &["PatTop"])))
+    shows(alloc, &SPAN, &[SPAN_TEXT])
+        && shows(alloc, &pair, &["DelimSpan { opening: Span {"])
+        && shows(alloc, &front, &["Front { count: 5, fault: true }"])
+        && shows(alloc, &Edition::Edition2021, &["Edition2021"])
+        && shows(alloc, &PrefixEntryPoint::PatTop, &["PatTop"])
 }
 
 static LEAVES: [&str; 4] = [
@@ -76,16 +74,14 @@ fn are_borrows_shown(alloc: Global, tree: &TopSubtree) -> bool {
         && shows(alloc, &iter.next(), &["Subtree("])
 }
 
-#[test]
-fn trees_are_shown(rt: HostRuntime) -> Result<(), Wrong> {
-    let Ok(tree) = lex(rt.alloc(), "(a 1 +)", 0) else {
-        return Err(Wrong("not lexed"));
-    };
-    holds(Ok(shows(rt.alloc(), &tree, &LEAVES) && are_borrows_shown(rt.alloc(), &tree)))
+/// Whether trees are shown.
+pub fn are_trees_shown(alloc: Global) -> Result<bool, AllocError> {
+    let tree = lexed(alloc, 0, "(a 1 +)")?;
+    Ok(shows(alloc, &tree, &LEAVES) && are_borrows_shown(alloc, &tree))
 }
 
-#[test]
-fn groups_and_builders_are_shown(rt: HostRuntime) -> Result<(), Wrong> {
+/// Whether groups and builders are shown.
+pub fn are_groups_shown(alloc: Global) -> Result<bool, AllocError> {
     let subtree = Subtree {
         delimiter: Delimiter {
             kind: DelimiterKind::Brace,
@@ -96,9 +92,8 @@ fn groups_and_builders_are_shown(rt: HostRuntime) -> Result<(), Wrong> {
         "Subtree { delimiter: Delimiter { opening: Span {",
         "kind: Brace",
     ];
-    holds(Ok(shows(rt.alloc(), &subtree, &parts)))?;
-    let builder = TopSubtreeBuilder::new(rt.alloc(), subtree.delimiter)?;
-    holds(Ok(shows(rt.alloc(), &builder, &["TopSubtreeBuilder {"])))
+    let builder = TopSubtreeBuilder::new(alloc, subtree.delimiter)?;
+    Ok(shows(alloc, &subtree, &parts) && shows(alloc, &builder, &["TopSubtreeBuilder {"]))
 }
 
 fn is_binding_error_shown(alloc: Global) -> Result<bool, AllocError> {
@@ -110,29 +105,28 @@ fn is_binding_error_shown(alloc: Global) -> Result<bool, AllocError> {
     Ok(is_kind_shown && shows(alloc, &error, &["ExpandError { inner: (Span {"]))
 }
 
-#[test]
-fn errors_and_results_are_shown(rt: HostRuntime) -> Result<(), Wrong> {
-    let alloc = rt.alloc();
+/// Whether errors and results are shown.
+pub fn are_errors_shown(alloc: Global) -> Result<bool, AllocError> {
     let result: ValueResult<u32, CountError> = ValueResult::new(6, CountError::Misplaced);
-    holds(Ok(shows(
-        alloc,
-        &result,
-        &["ValueResult { value: 6, err: Some(Misplaced) }"],
-    )))?;
-    holds(is_binding_error_shown(alloc))?;
     let parse: ParseError = ParseError::Expected(String::from_str(alloc, "b")?);
-    holds(Ok(shows(alloc, &parse, &["Expected(\"b\")"])))
+    Ok(
+        shows(
+            alloc,
+            &result,
+            &["ValueResult { value: 6, err: Some(Misplaced) }"],
+        ) && shows(alloc, &parse, &["Expected(\"b\")"])
+            && is_binding_error_shown(alloc)?,
+    )
 }
 
-#[test]
-fn macros_and_styles_are_shown(rt: HostRuntime) -> Result<(), Wrong> {
-    let alloc = rt.alloc();
-    holds(Ok(shows(alloc, &MacroCallStyle::Derive, &["Derive"])))?;
-    holds(Ok(shows(alloc, &MacroCallStyles::ATTR, &["MacroCallStyles(2)"])))?;
-    let Ok(rules) = read(alloc, "attr() ($(a),*) => {}") else {
-        return Err(Wrong("not read"));
-    };
-    holds(Ok(shows(alloc, &rules, &["DeclarativeMacro {", "style: Attr"])))
+/// Whether macros and styles are shown.
+pub fn are_macros_shown(alloc: Global) -> Result<bool, AllocError> {
+    let rules = defined(alloc, "attr() ($(a),*) => {}")?;
+    Ok(
+        shows(alloc, &MacroCallStyle::Derive, &["Derive"])
+            && shows(alloc, &MacroCallStyles::ATTR, &["MacroCallStyles(2)"])
+            && shows(alloc, &rules, &["DeclarativeMacro {", "style: Attr"]),
+    )
 }
 
 fn are_shown(alloc: Global, handle: &Handle, bindings: &Bindings<'_>) -> bool {
@@ -162,13 +156,9 @@ fn is_bound_shown(
     Ok(are_shown(alloc, &handle, &bindings))
 }
 
-#[test]
-fn bindings_are_shown(rt: HostRuntime) -> Result<(), Wrong> {
-    let alloc = rt.alloc();
-    holds(Ok(is_missing_shown(alloc)))?;
+/// Whether bindings are shown.
+pub fn are_bindings_shown(alloc: Global) -> Result<bool, AllocError> {
     let name = Symbol::intern(alloc, "x")?;
-    let Ok(tree) = lex(alloc, "d", 0) else {
-        return Err(Wrong("not lexed"));
-    };
-    holds(is_bound_shown(alloc, &name, tree.view()))
+    let tree = lexed(alloc, 0, "d")?;
+    Ok(is_missing_shown(alloc) && is_bound_shown(alloc, &name, tree.view())?)
 }

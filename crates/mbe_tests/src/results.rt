@@ -2,7 +2,6 @@
 use mbe::CountError::{Misplaced, OutOfBounds};
 use mbe::{CountError, ValueResult};
 use std::alloc::AllocError;
-use test_rows::{Wrong, holds};
 
 type Counted = ValueResult<u32, CountError>;
 
@@ -18,8 +17,8 @@ fn are(answers: &[Counted], wanted: &[Want]) -> bool {
     answers.len() == wanted.len()
 }
 
-#[test]
-fn results_are_made(rt: HostRuntime) -> Result<(), Wrong> {
+/// Whether results are made by each call.
+pub fn are_made() -> bool {
     let made = [
         ValueResult::new(3, Misplaced),
         ValueResult::ok(3),
@@ -36,14 +35,14 @@ fn results_are_made(rt: HostRuntime) -> Result<(), Wrong> {
         (3, None),
         (0, Some(Misplaced)),
     ];
-    holds(Ok(are(&made, &wanted)))
+    are(&made, &wanted)
 }
 
-#[test]
-fn a_result_is_the_error_where_there_is_one(rt: HostRuntime) -> Result<(), Wrong> {
+/// Whether a result is the error where there is one.
+pub fn is_error() -> bool {
     let failed: Counted = ValueResult::new(3, Misplaced);
     let fine: Counted = ValueResult::ok(3);
-    holds(Ok(failed.result() == Err(Misplaced) && fine.result() == Ok(3)))
+    failed.result() == Err(Misplaced) && fine.result() == Ok(3)
 }
 
 fn mapped(answer: Counted) -> Counted {
@@ -54,10 +53,10 @@ fn moved(answer: Counted) -> Counted {
     answer.map_err(|_err| OutOfBounds)
 }
 
-#[test]
-fn values_and_errors_are_paired_and_mapped(rt: HostRuntime) -> Result<(), Wrong> {
+/// Whether values and errors are paired and mapped.
+pub fn are_mapped() -> bool {
     let paired = Counted::new(3, Misplaced).zip_val(true);
-    holds(Ok(paired.value == (3, true) && paired.err == Some(Misplaced)))?;
+    let is_paired = paired.value == (3, true) && paired.err == Some(Misplaced);
     let made = [
         mapped(Counted::new(3, Misplaced)),
         mapped(Counted::ok(3)),
@@ -70,7 +69,7 @@ fn values_and_errors_are_paired_and_mapped(rt: HostRuntime) -> Result<(), Wrong>
         (3, Some(OutOfBounds)),
         (3, None),
     ];
-    holds(Ok(are(&made, &wanted)))
+    is_paired && are(&made, &wanted)
 }
 
 // Whether a copy is equal, and what is lent is both parts.
@@ -80,16 +79,17 @@ fn is_copied(answer: &Counted) -> Result<bool, AllocError> {
     Ok(is_lent && answer.try_clone()? == *answer)
 }
 
-#[test]
-fn results_are_lent_and_copied(rt: HostRuntime) -> Result<(), Wrong> {
-    holds(is_copied(&Counted::new(3, Misplaced)))?;
-    holds(is_copied(&Counted::ok(4)))
+/// Whether results are lent and copied.
+pub fn are_copied() -> bool {
+    is_copied(&Counted::new(3, Misplaced)).unwrap_or(false)
+        && is_copied(&Counted::ok(4)).unwrap_or(false)
 }
 
-#[test]
-fn results_are_equal_by_both_parts(rt: HostRuntime) -> Result<(), Wrong> {
+/// Whether results are equal by both parts.
+pub fn are_compared() -> bool {
     let answer: Counted = ValueResult::new(3, Misplaced);
-    holds(Ok(answer == ValueResult::new(3, Misplaced)))?;
-    holds(Ok(answer != Counted::new(4, Misplaced)))?;
-    holds(Ok(answer != Counted::new(3, OutOfBounds) && answer != Counted::ok(3)))
+    answer == ValueResult::new(3, Misplaced)
+        && answer != Counted::new(4, Misplaced)
+        && answer != Counted::new(3, OutOfBounds)
+        && answer != Counted::ok(3)
 }

@@ -1,14 +1,11 @@
 // Kinds of errors: copies, equality and hashes.
-use crate::reading::is_text;
+use crate::errors::is_shown;
 use mbe::{CountError, ExpandError, ExpandErrorKind, ParseError};
 use mbe_tt::span::{Span, SyntaxContext};
 use std::alloc::{AllocError, Global};
 use std::error::Error;
 use std::hash::{DefaultHasher, Hash, Hasher};
 use std::rc::Rc;
-use test_rows::{Wrong, holds};
-
-const KINDS: usize = 8;
 
 fn kind(alloc: Global, number: usize) -> Result<ExpandErrorKind, AllocError> {
     let text = match number {
@@ -49,22 +46,14 @@ fn are_compared(alloc: Global, (one, two): (usize, usize)) -> Result<bool, Alloc
     Ok(are_same(&copy, &kind(alloc, two)?) == Some(one == two))
 }
 
-// The first kind that isn't compared so with that one.
-fn first_miscompared(alloc: Global, one: usize) -> Result<Option<usize>, AllocError> {
-    for two in 0..KINDS {
-        if !are_compared(alloc, (one, two))? {
-            return Ok(Some(two));
+/// Whether all pairs of kinds are compared so.
+pub fn are_all_compared(alloc: Global) -> Result<bool, AllocError> {
+    for pair in 0..64usize {
+        if !are_compared(alloc, (pair / 8, pair % 8))? {
+            return Ok(false);
         }
     }
-    Ok(None)
-}
-
-#[test]
-fn kinds_are_compared_and_copied(rt: HostRuntime) {
-    for one in 0..KINDS {
-        let two = first_miscompared(rt.alloc(), one);
-        assert!(rt; matches!(two, Ok(None)), "{one} and {two:?}");
-    }
+    Ok(true)
 }
 
 fn at(start: u32) -> Span {
@@ -106,34 +95,22 @@ fn are_kept_apart(alloc: Global, first: &ExpandError) -> Result<bool, AllocError
     )
 }
 
-fn are_errors_kept_apart(alloc: Global) -> Result<bool, AllocError> {
+/// Whether errors are compared by place and kind.
+pub fn are_errors_kept_apart(alloc: Global) -> Result<bool, AllocError> {
     are_kept_apart(alloc, &error(alloc, 1, 0)?)
 }
 
-#[test]
-fn errors_are_compared_by_place_and_kind(rt: HostRuntime) -> Result<(), Wrong> {
-    holds(are_errors_kept_apart(rt.alloc()))
+fn is_error_shown<E: Error>(alloc: Global, error: &E, want: &str) -> Result<bool, AllocError> {
+    is_shown(alloc, error, want)
 }
 
-fn is_shown<E: Error>(alloc: Global, error: &E, want: &str) -> bool {
-    is_text(alloc, error, want)
-}
-
-fn is_kind_shown(alloc: Global, number: usize, want: &str) -> Result<bool, AllocError> {
-    Ok(is_shown(alloc, &kind(alloc, number)?, want))
-}
-
-fn is_error_shown(alloc: Global, number: usize, want: &str) -> Result<bool, AllocError> {
-    Ok(is_shown(alloc, &error(alloc, 1, number)?, want))
-}
-
-#[test]
-fn each_error_is_one(rt: HostRuntime) -> Result<(), Wrong> {
-    let alloc = rt.alloc();
-    let is_shown_so = is_shown(alloc, &CountError::Misplaced, "${count} misplaced");
-    holds(Ok(is_shown_so))?;
-    holds(is_kind_shown(alloc, 4, "leftover tokens"))?;
-    holds(is_error_shown(alloc, 5, "Expand exceed limit"))?;
+/// Whether each error is one of the standard library, with its text.
+pub fn are_errors(alloc: Global) -> Result<bool, AllocError> {
     let parse: ParseError = ParseError::InvalidRepeat;
-    holds(Ok(is_shown(alloc, &parse, "invalid repeat")))
+    Ok(
+        is_error_shown(alloc, &parse, "invalid repeat")?
+            && is_error_shown(alloc, &CountError::Misplaced, "${count} misplaced")?
+            && is_error_shown(alloc, &kind(alloc, 4)?, "leftover tokens")?
+            && is_error_shown(alloc, &error(alloc, 1, 5)?, "Expand exceed limit")?,
+    )
 }
