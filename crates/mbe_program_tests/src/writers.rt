@@ -1,8 +1,10 @@
 // Writers that fail at each of their calls, take a little at a time, take nothing more, or hold back what isn't flushed.
-use crate::rows::{Row, ran, rows};
+use crate::runs::{EXPANDING, ran};
+use crate::worked::ROWS;
 use std::alloc::{AllocError, Global};
 use std::io;
 use std::io::Write;
+use test_rows::{Fields, Rows, Wrong, each, number};
 
 /// A writer that fails at one of its calls, counted from 1. Each write takes three bytes at most. What was written comes
 /// through once it is flushed.
@@ -51,11 +53,11 @@ impl Write for Slow {
 // all of it was written and flushed. Nothing where that isn't so.
 fn is_broken(
     alloc: Global,
-    &(def, arg, status, want): &Row,
-    number: u64,
+    [def, arg, status, want, ..]: Fields,
+    call: u64,
 ) -> Result<Option<bool>, AllocError> {
-    let mut out = Slow::new(alloc, number);
-    let found = ran(alloc, (def, arg), &mut out).status();
+    let mut out = Slow::new(alloc, call);
+    let found = ran(alloc, (def, arg), EXPANDING, &mut out).status();
     let is_flushed = out.held.is_empty();
     out.written.extend_from_slice(out.held.as_slice())?;
     let written = out.written.as_slice();
@@ -63,37 +65,28 @@ fn is_broken(
     let is_so = if is_broken {
         found == 3 && want.as_bytes().starts_with(written)
     } else {
-        found == status && is_flushed && written == want.as_bytes()
+        usize::from(found) == number(status) && is_flushed && written == want.as_bytes()
     };
     Ok(is_so.then_some(is_broken))
 }
 
 // The first call of the writer that a run doesn't make. Nothing where a failed one isn't reported.
-fn first_unfailed(alloc: Global, row: &Row) -> Result<Option<u64>, AllocError> {
-    for number in 1..10_000u64 {
-        match is_broken(alloc, row, number)? {
+fn first_unfailed(alloc: Global, fields: Fields) -> Result<Option<u64>, AllocError> {
+    for call in 1..10_000u64 {
+        match is_broken(alloc, fields, call)? {
             Some(true) => {}
-            Some(false) => return Ok(Some(number)),
+            Some(false) => return Ok(Some(call)),
             None => return Ok(None),
         }
     }
     Ok(None)
 }
 
-// The last call that fails is a flush, after at least one write for every three bytes.
-fn are_reported(alloc: Global, row: &Row) -> bool {
-    let writes = row.3.len() / 3;
-    match first_unfailed(alloc, row) {
-        Ok(number) => number.unwrap_or(0) > (writes as u64).saturating_add(1),
-        Err(AllocError) => false,
-    }
-}
-
-#[test]
-fn a_writer_that_fails_is_reported(rt: HostRuntime) {
-    for row in rows() {
-        assert!(rt; are_reported(rt.alloc(), row), "{}", row.0);
-    }
+// Whether the last call that fails is a flush, after at least one write for every three bytes.
+fn is_failing(alloc: Global, fields: Fields) -> Result<bool, AllocError> {
+    let writes = fields[3].len() / 3;
+    let number = first_unfailed(alloc, fields)?;
+    Ok(number.unwrap_or(0) > (writes as u64).saturating_add(1))
 }
 
 /// A writer that has room for so many bytes, and takes none after them.
@@ -117,28 +110,42 @@ impl Write for Full {
 }
 
 // Whether a run can't write where there is no room for all, and what has room is written.
-fn is_full(alloc: Global, &(def, arg, _, want): &Row, room: usize) -> bool {
+fn is_full(alloc: Global, [def, arg, _, want, ..]: Fields, room: usize) -> bool {
     let mut out = Full {
         written: Vec::new(alloc),
         room,
     };
-    let outcome = ran(alloc, (def, arg), &mut out);
+    let outcome = ran(alloc, (def, arg), EXPANDING, &mut out);
     outcome.status() == 3 && out.room == 0 && want.as_bytes().starts_with(out.written.as_slice())
 }
 
-// The first number of bytes for which there is room and that isn't so.
-fn first_unreported(alloc: Global, row: &Row) -> Option<usize> {
-    for room in 0..row.3.len() {
-        if !is_full(alloc, row, room) {
-            return Some(room);
+// Whether that is so for each number of bytes.
+fn is_filled(alloc: Global, fields: Fields) -> Result<bool, AllocError> {
+    for room in 0..fields[3].len() {
+        if !is_full(alloc, fields, room) {
+            return Ok(false);
         }
     }
-    None
+    Ok(true)
+}
+
+#[derive(Clone, Copy)]
+enum Writer {
+    Failing,
+    Filled,
+}
+
+impl Rows for Writer {
+    fn is_so(&self, alloc: Global, fields: Fields) -> Result<bool, AllocError> {
+        match self {
+            Writer::Failing => is_failing(alloc, fields),
+            Writer::Filled => is_filled(alloc, fields),
+        }
+    }
 }
 
 #[test]
-fn a_writer_that_takes_no_byte_is_reported(rt: HostRuntime) {
-    for row in rows() {
-        assert!(rt; first_unreported(rt.alloc(), row).is_none(), "{}", row.0);
-    }
+fn a_writer_that_fails_or_takes_no_byte_is_reported(rt: HostRuntime) -> Result<(), Wrong> {
+    each(rt.alloc(), &Writer::Failing, ROWS, 9)?;
+    each(rt.alloc(), &Writer::Filled, ROWS, 9)
 }

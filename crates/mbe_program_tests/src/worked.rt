@@ -1,18 +1,8 @@
 // Worked rows: a definition, an argument, and all that is printed of them.
-use mbe_program::program::{Outcome, run};
-use mbe_tt::span::Edition;
-use std::alloc::Allocator;
-use std::io::Write;
+use test_rows::rows;
 
 /// A definition and an argument, the status, and what is printed.
-pub type Row = (&'static str, &'static str, u8, &'static str);
-
-const LIST: &str = "\n($($e:expr),* $(,)?) => {\n    $($e);* ;\n};\n";
-
-const SIGNS: &str =
-    "\n(-1) => {-1};\n(- 2) => {- 2};\n(- 3.0) => {- 3.0};\n(@$lit:literal) => {$lit}\n";
-
-static ROWS: [Row; 9] = [
+pub const ROWS: &str = rows![
     (
         "($($x:ident),*) => {$($x);*}",
         "a, b",
@@ -25,7 +15,7 @@ SUBTREE $$ 1@0..4 1@0..4
 ",
     ),
     (
-        LIST,
+        "\n($($e:expr),* $(,)?) => {\n    $($e);* ;\n};\n",
         "\n    _,\n    const { 1 },\n",
         0,
         "arm 0
@@ -40,7 +30,7 @@ SUBTREE $$ 1@0..25 1@0..25
 ",
     ),
     (
-        SIGNS,
+        "\n(-1) => {-1};\n(- 2) => {- 2};\n(- 3.0) => {- 3.0};\n(@$lit:literal) => {$lit}\n",
         "@--1.0",
         1,
         "error: expected literal at 1@1..2
@@ -50,7 +40,7 @@ SUBTREE $$ 1@0..6 1@0..6
 ",
     ),
     (
-        SIGNS,
+        "\n(-1) => {-1};\n(- 2) => {- 2};\n(- 3.0) => {- 3.0};\n(@$lit:literal) => {$lit}\n",
         "@-1",
         0,
         "arm 3
@@ -113,20 +103,3 @@ SUBTREE $$ 1@0..6 1@0..6
 ",
     ),
 ];
-
-/// All rows. A table is part of the proof of each function that names it, so only this one does.
-pub fn rows() -> &'static [Row] {
-    &ROWS
-}
-
-/// The run of texts shorter than 2^32 bytes, all of edition 2024.
-pub fn ran<A: Allocator + Copy, W: Write>(
-    alloc: A,
-    (def, arg): (&str, &str),
-    out: &mut W,
-) -> Outcome<A> {
-    if def.len() > u32::MAX as usize || arg.len() > u32::MAX as usize {
-        return Outcome::OutOfMemory;
-    }
-    run(alloc, def, arg, Edition::Edition2024, false, out)
-}

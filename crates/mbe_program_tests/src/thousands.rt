@@ -1,16 +1,10 @@
 // Definitions and arguments of thousands of tokens, with the memory that they take.
-use crate::rows::ran;
+use crate::runs::{EXPANDING, prints};
 use crate::texts::push_many;
 use std::alloc::{AllocError, Global};
 use std::test::Fail;
 use std::time::{CpuClock, Duration};
-
-// Whether the run prints that, with that status.
-fn prints(alloc: Global, (def, arg): (&str, &str), (status, want): (u8, &str)) -> bool {
-    let mut out = Vec::new(alloc);
-    let outcome = ran(alloc, (def, arg), &mut out);
-    outcome.status() == status && out.as_slice() == want.as_bytes()
-}
+use test_rows::{Fields, rows};
 
 // What is printed first: the rule, and the group around what is written, of an argument of so many bytes.
 fn push_front(want: &mut String, end: usize) -> Result<(), AllocError> {
@@ -52,20 +46,18 @@ fn push_statements(want: &mut String, end: usize) -> Result<(), AllocError> {
     writeln!(want, "  LITERAL Integer {STATEMENTS} 1@0..{end}")
 }
 
-fn are_statements(alloc: Global) -> bool {
+/// Whether 5,100 tokens of an argument are lexed, matched, bound, written and printed.
+pub fn are_statements(alloc: Global) -> Result<bool, AllocError> {
     let definition = "($($k:ident = $e:expr;)*) => {$($k: $e)* ${count($k)}}";
-    let Ok(argument) = "a = 1 + 2;".repeat(alloc, STATEMENTS) else {
-        return false;
-    };
+    let argument = "a = 1 + 2;".repeat(alloc, STATEMENTS)?;
     let mut want = String::new(alloc);
-    push_statements(&mut want, argument.len()).is_ok()
-        && prints(alloc, (definition, argument.as_str()), (0, want.as_str()))
-}
-
-// 5,100 tokens of an argument, each of which is lexed, matched, bound, written and printed.
-#[test]
-fn an_argument_of_five_thousand_tokens(rt: HostRuntime) {
-    assert!(rt; are_statements(rt.alloc()));
+    push_statements(&mut want, argument.len())?;
+    Ok(prints(
+        alloc,
+        (definition, argument.as_str()),
+        EXPANDING,
+        (want.as_str(), 0),
+    ))
 }
 
 const NAMES: usize = 1_250;
@@ -94,29 +86,23 @@ fn push_words(want: &mut String, end: usize) -> Result<(), AllocError> {
     Ok(())
 }
 
-fn are_names(alloc: Global) -> bool {
-    let Ok(argument) = "a ".repeat(alloc, NAMES) else {
-        return false;
-    };
+/// Whether 5,000 tokens of a pattern bind 1,250 names, which a template writes.
+pub fn are_names(alloc: Global) -> Result<bool, AllocError> {
+    let argument = "a ".repeat(alloc, NAMES)?;
     let mut definition = String::new(alloc);
     let mut want = String::new(alloc);
-    push_definition(&mut definition).is_ok()
-        && push_words(&mut want, argument.len()).is_ok()
-        && prints(
-            alloc,
-            (definition.as_str(), argument.as_str()),
-            (0, want.as_str()),
-        )
-}
-
-// 5,000 tokens of a pattern that binds 1,250 names, and a template that writes them.
-#[test]
-fn a_definition_of_five_thousand_tokens(rt: HostRuntime) {
-    assert!(rt; are_names(rt.alloc()));
+    push_definition(&mut definition)?;
+    push_words(&mut want, argument.len())?;
+    Ok(prints(
+        alloc,
+        (definition.as_str(), argument.as_str()),
+        EXPANDING,
+        (want.as_str(), 0),
+    ))
 }
 
 // Each pattern is a single fragment, which takes a million links and what follows them.
-static CHAINS: [(&str, &str, &str); 5] = [
+pub const CHAINS: &str = rows![
     ("($t:ty) => {}", "&", "x"),
     ("($p:pat) => {}", "&", "x"),
     ("($e:expr) => {}", "-", "x"),
@@ -124,21 +110,21 @@ static CHAINS: [(&str, &str, &str); 5] = [
     ("($e:expr) => {}", "break ", ""),
 ];
 
-fn is_one_fragment(alloc: Global, &(definition, link, tail): &(&str, &str, &str)) -> bool {
-    let Ok(mut argument) = link.repeat(alloc, 1_000_000) else {
-        return false;
-    };
+/// Whether a million links are one fragment.
+pub fn is_one_fragment(
+    alloc: Global,
+    [definition, link, tail, ..]: Fields,
+) -> Result<bool, AllocError> {
+    let mut argument = link.repeat(alloc, 1_000_000)?;
     let mut want = String::new(alloc);
-    argument.push_str(tail).is_ok()
-        && push_front(&mut want, argument.len()).is_ok()
-        && prints(alloc, (definition, argument.as_str()), (0, want.as_str()))
-}
-
-#[test]
-fn long_chains_are_one_fragment(rt: HostRuntime) {
-    for chain in &CHAINS {
-        assert!(rt; is_one_fragment(rt.alloc(), chain), "{}", chain.1);
-    }
+    argument.push_str(tail)?;
+    push_front(&mut want, argument.len())?;
+    Ok(prints(
+        alloc,
+        (definition, argument.as_str()),
+        EXPANDING,
+        (want.as_str(), 0),
+    ))
 }
 
 fn push_level(text: &mut String) -> Result<(), AllocError> {
@@ -161,7 +147,7 @@ fn nested_repetitions_that_can_be_empty_are_refused_at_once(rt: HostRuntime) -> 
     let mut definition = String::new(rt.alloc());
     push_levels(&mut definition)?;
     let start = rt.process_cpu_time()?;
-    assert!(rt; prints(rt.alloc(), (definition.as_str(), ""), (2, "")));
+    assert!(rt; prints(rt.alloc(), (definition.as_str(), ""), EXPANDING, ("", 2)));
     let time = rt.process_cpu_time()?.saturating_sub(start);
     assert!(rt; time < Duration::from_secs(6), "{time:?}");
     Ok(())

@@ -1,8 +1,9 @@
 // The whole program on files of a machine of tests: its status, its output and its line on standard error.
 use crate::machine::{Content, Machine};
 use mbe_program::command::run_command;
-use std::alloc::Global;
+use std::alloc::{AllocError, Global};
 use std::io::ErrorKind;
+use test_rows::{Fields, number, rows};
 
 static FILES: [(&str, Content<'static>); 14] = [
     ("good.def", Content::Bytes(b"($x:ident) => {$x}")),
@@ -22,18 +23,12 @@ static FILES: [(&str, Content<'static>); 14] = [
 ];
 
 // The words, the status, standard output, and the line on standard error without its end.
-type Run = (&'static str, u8, &'static str, &'static str);
-
-const EXPANDED: &str = "arm 0\nSUBTREE $$ 1@0..1 1@0..1\n  IDENT   a 1@0..1\n";
-
-const USAGE: &str = "usage: mbex [--lint] DEF-FILE ARG-FILE [EDITION]";
-
-static RUNS: [Run; 45] = [
-    ("good.def good.arg", 0, EXPANDED, ""),
-    ("good.def good.arg 2015", 0, EXPANDED, ""),
-    ("good.def good.arg 2018", 0, EXPANDED, ""),
-    ("good.def good.arg 2021", 0, EXPANDED, ""),
-    ("good.def good.arg 2024", 0, EXPANDED, ""),
+pub const RUNS: &str = rows![
+    ("good.def good.arg", 0, "arm 0\nSUBTREE $$ 1@0..1 1@0..1\n  IDENT   a 1@0..1\n", ""),
+    ("good.def good.arg 2015", 0, "arm 0\nSUBTREE $$ 1@0..1 1@0..1\n  IDENT   a 1@0..1\n", ""),
+    ("good.def good.arg 2018", 0, "arm 0\nSUBTREE $$ 1@0..1 1@0..1\n  IDENT   a 1@0..1\n", ""),
+    ("good.def good.arg 2021", 0, "arm 0\nSUBTREE $$ 1@0..1 1@0..1\n  IDENT   a 1@0..1\n", ""),
+    ("good.def good.arg 2024", 0, "arm 0\nSUBTREE $$ 1@0..1 1@0..1\n  IDENT   a 1@0..1\n", ""),
     // `pat` takes a `|` from edition 2021 on.
     (
         "old.def either.arg 2021",
@@ -106,7 +101,7 @@ static RUNS: [Run; 45] = [
         "",
         "definition refused: expected `;`",
     ),
-    ("--lint", 3, "", USAGE),
+    ("--lint", 3, "", "usage: mbex [--lint] DEF-FILE ARG-FILE [EDITION]"),
     ("--lint good.def missing", 3, "", "cannot read missing"),
     (
         "--lint good.def open.arg",
@@ -114,12 +109,12 @@ static RUNS: [Run; 45] = [
         "",
         "cannot lex open.arg at 2",
     ),
-    ("", 3, "", USAGE),
-    ("good.def", 3, "", USAGE),
-    ("good.def good.arg 2022", 3, "", USAGE),
-    ("good.def good.arg 2024 more", 3, "", USAGE),
-    ("--lint good.arg", 3, "", USAGE),
-    ("good.def ?", 3, "", USAGE),
+    ("", 3, "", "usage: mbex [--lint] DEF-FILE ARG-FILE [EDITION]"),
+    ("good.def", 3, "", "usage: mbex [--lint] DEF-FILE ARG-FILE [EDITION]"),
+    ("good.def good.arg 2022", 3, "", "usage: mbex [--lint] DEF-FILE ARG-FILE [EDITION]"),
+    ("good.def good.arg 2024 more", 3, "", "usage: mbex [--lint] DEF-FILE ARG-FILE [EDITION]"),
+    ("--lint good.arg", 3, "", "usage: mbex [--lint] DEF-FILE ARG-FILE [EDITION]"),
+    ("good.def ?", 3, "", "usage: mbex [--lint] DEF-FILE ARG-FILE [EDITION]"),
     ("missing good.arg", 3, "", "cannot read missing"),
     ("good.def missing", 3, "", "cannot read missing"),
     ("missing latin", 3, "", "cannot read missing"),
@@ -144,10 +139,6 @@ fn machine(alloc: Global, words: &'static str) -> Machine<'static> {
     Machine::new(alloc, words, &FILES)
 }
 
-fn all_runs() -> &'static [Run] {
-    &RUNS
-}
-
 // Whether that is on standard error: the line and its end, or nothing where there is no line.
 fn says(written: &[u8], line: &str) -> bool {
     match written.split_last() {
@@ -157,68 +148,46 @@ fn says(written: &[u8], line: &str) -> bool {
 }
 
 // Whether the machine's command has that status, output and line.
-fn runs(machine: Machine<'_>, (status, output, line): (u8, &[u8], &str)) -> bool {
+fn runs(machine: Machine<'_>, (status, output, line): (usize, &[u8], &str)) -> bool {
     let found = run_command(&machine);
     let (out, err) = machine.written();
-    found == status && out.as_slice() == output && says(err.as_slice(), line)
+    usize::from(found) == status && out.as_slice() == output && says(err.as_slice(), line)
 }
 
-fn is_run(alloc: Global, &(words, status, output, line): &Run) -> bool {
-    runs(machine(alloc, words), (status, output.as_bytes(), line))
+/// Whether a run has that status, that output and that line.
+pub fn is_ended(
+    alloc: Global,
+    [words, status, output, line, ..]: Fields,
+) -> Result<bool, AllocError> {
+    let want = (number(status), output.as_bytes(), line);
+    Ok(runs(machine(alloc, words), want))
 }
 
-#[test]
-fn each_run_has_a_status_an_output_and_a_line(rt: HostRuntime) {
-    for run in all_runs() {
-        assert!(rt; is_run(rt.alloc(), run), "{}", run.0);
-    }
-}
-
-fn is_muted(alloc: Global, &(words, status, output, _line): &Run) -> bool {
-    runs(
-        machine(alloc, words).mute(),
-        (status, output.as_bytes(), ""),
-    )
-}
-
-// A line that can't be written changes nothing else.
-#[test]
-fn a_mute_standard_error_changes_no_status(rt: HostRuntime) {
-    for run in all_runs() {
-        assert!(rt; is_muted(rt.alloc(), run), "{}", run.0);
-    }
+/// The same where no line can be written, which changes nothing else.
+pub fn is_muted(alloc: Global, [words, status, output, ..]: Fields) -> Result<bool, AllocError> {
+    let want = (number(status), output.as_bytes(), "");
+    Ok(runs(machine(alloc, words).mute(), want))
 }
 
 // Whether an output that takes so many bytes of it holds these, and the status is 3 unless that is all.
 fn breaks(
     alloc: Global,
-    &(words, status, output, line): &Run,
+    [words, status, output, line, ..]: Fields,
     (room, full): (usize, ErrorKind),
 ) -> bool {
     let machine = machine(alloc, words).with_room(room, full);
     match output.as_bytes().get(..room) {
         Some(taken) if room < output.len() => runs(machine, (3, taken, "cannot write")),
-        _ => runs(machine, (status, output.as_bytes(), line)),
+        _ => runs(machine, (number(status), output.as_bytes(), line)),
     }
 }
 
-// The first number of bytes after which a full device isn't reported so.
-fn first_unreported(alloc: Global, run: &Run) -> Option<usize> {
-    for room in 0..=run.2.len() {
-        if !breaks(alloc, run, (room, ErrorKind::StorageFull)) {
-            return Some(room);
+/// Whether a full device is reported so after each number of bytes, and so is a closed pipe.
+pub fn is_broken(alloc: Global, fields: Fields) -> Result<bool, AllocError> {
+    for room in 0..=fields[2].len() {
+        if !breaks(alloc, fields, (room, ErrorKind::StorageFull)) {
+            return Ok(false);
         }
     }
-    None
-}
-
-fn is_reported(alloc: Global, run: &Run) -> bool {
-    first_unreported(alloc, run).is_none() && breaks(alloc, run, (0, ErrorKind::BrokenPipe))
-}
-
-#[test]
-fn a_full_device_and_a_closed_pipe_are_reported(rt: HostRuntime) {
-    for run in all_runs() {
-        assert!(rt; is_reported(rt.alloc(), run), "{}", run.0);
-    }
+    Ok(breaks(alloc, fields, (0, ErrorKind::BrokenPipe)))
 }

@@ -123,36 +123,36 @@ impl Work for Writing {
     }
 }
 
-static CALLS: [(Call, &str); 5] = [
-    (Call::Open, "  SUBTREE [] 1@0..9 1@0..9\n"),
-    (Call::Push, "  IDENT   x 1@0..1\n"),
-    (
-        Call::Extend,
-        "  IDENT   x 1@0..1\n  IDENT   x 1@0..1\n  IDENT   x 1@0..1\n",
-    ),
-    (Call::ExtendWithTt, "  PUNCH   + [joint] 2@0..1\n"),
-    (Call::ExtendWithTtAlone, "  PUNCH   + [alone] 2@0..1\n"),
-];
-
-// How often a call is refused of builders that hold up to twenty words. One of them at least has no room left.
-fn refused(alloc: Global, (call, adds): (Call, &'static str)) -> Option<u64> {
-    let mut count = 0u64;
-    for held in 0..20usize {
-        let work = Writing {
-            call,
-            count: held,
-            adds,
-        };
-        count = count.saturating_add(refusals(alloc, &work)?);
+// Whether a call is refused of builders that hold up to twenty words. One of them at least has no room left.
+fn is_refused(alloc: Global, call: Call, adds: &'static str) -> Result<bool, AllocError> {
+    let mut total = 0u64;
+    for count in 0..20usize {
+        let work = Writing { call, count, adds };
+        match refusals(alloc, &work) {
+            Some(refused) => total = total.saturating_add(refused),
+            None => return Ok(false),
+        }
     }
-    Some(count)
+    Ok(total > 0)
 }
 
-#[test]
-fn a_refused_builder_holds_what_it_held(rt: HostRuntime) {
-    for (row, &call) in CALLS.iter().enumerate() {
-        assert!(rt; refused(rt.alloc(), call).unwrap_or(0) > 0, "row {row}");
-    }
+const WORD: &str = "  IDENT   x 1@0..1\n";
+
+const THREE_WORDS: &str = "  IDENT   x 1@0..1\n  IDENT   x 1@0..1\n  IDENT   x 1@0..1\n";
+
+/// Whether a refused builder holds what it held.
+pub fn are_builders_refused(alloc: Global) -> Result<bool, AllocError> {
+    Ok(
+        is_refused(alloc, Call::Open, "  SUBTREE [] 1@0..9 1@0..9\n")?
+            && is_refused(alloc, Call::Push, WORD)?
+            && is_refused(alloc, Call::Extend, THREE_WORDS)?
+            && is_refused(alloc, Call::ExtendWithTt, "  PUNCH   + [joint] 2@0..1\n")?
+            && is_refused(
+                alloc,
+                Call::ExtendWithTtAlone,
+                "  PUNCH   + [alone] 2@0..1\n",
+            )?,
+    )
 }
 
 /// A call that makes a value of its own.
@@ -211,11 +211,14 @@ impl Work for Making {
     }
 }
 
-static MAKINGS: [Making; 4] = [Making::Symbol, Making::Empty, Making::Builder, Making::Copy];
+fn is_made(alloc: Global, work: Making) -> bool {
+    refusals(alloc, &work).unwrap_or(0) > 0
+}
 
-#[test]
-fn values_are_made_or_refused(rt: HostRuntime) {
-    for (row, work) in MAKINGS.iter().enumerate() {
-        assert!(rt; refusals(rt.alloc(), work).unwrap_or(0) > 0, "row {row}");
-    }
+/// Whether values are made or refused.
+pub fn are_made(alloc: Global) -> bool {
+    is_made(alloc, Making::Symbol)
+        && is_made(alloc, Making::Empty)
+        && is_made(alloc, Making::Builder)
+        && is_made(alloc, Making::Copy)
 }

@@ -1,12 +1,12 @@
 // Definitions that are read while each request for memory is refused in turn.
 use crate::requests::{Ended, Work, refusals};
-use crate::rows::{Row, rows};
 use mbe::{DeclarativeMacro, MacroCallStyle};
 use mbe_text::lexer::{LexError, lex};
 use mbe_text::printing::print_tree;
 use mbe_tt::span::Edition;
 use mbe_tt::tt::TopSubtree;
 use std::alloc::{AllocError, Allocator, Global};
+use test_rows::Fields;
 
 /// The token trees of a text without fault.
 pub fn lexed<A: Allocator + Copy>(
@@ -119,30 +119,29 @@ const EVERY_FORM_AND_A_FAULT: &str =
     $(i)* $(k)and* $crate) => {$a $j [c] 1 + $($d $e);* $($g)? ${ignore($a)} ${index()} ${len(1)} ${count($d)} ${count($e, 1)} \
     ${concat(a, $a, 1)} $$ $crate $}; () => {}; ($x)";
 
-// What is read, and how many of its requests there are at least. Each list of ops and of elements, and that of the rules, is one.
-static READINGS: [(Reading, u64); 4] = [
-    (Reading::Arguments("$($x:ident),*", "$($x);*"), 2),
-    (Reading::Rules(EVERY_FORM), 12),
-    (Reading::Rules(EVERY_FORM_AND_A_FAULT), 2),
-    (Reading::Body(EVERY_FORM_AND_A_FAULT), 2),
-];
-
-fn is_refused(alloc: Global, (work, at_least): &(Reading, u64)) -> bool {
-    refusals(alloc, work).unwrap_or(0) >= *at_least
+// Whether so many of its requests are refused at least. Each list of ops and of elements, and that of the rules, is one.
+fn is_refused(alloc: Global, work: Reading, at_least: u64) -> Result<bool, AllocError> {
+    Ok(refusals(alloc, &work).unwrap_or(0) >= at_least)
 }
 
-// Both readings of a row's definition.
-fn are_refused(alloc: Global, &(definition, ..): &Row) -> bool {
-    is_refused(alloc, &(Reading::Rules(definition), 2))
-        && is_refused(alloc, &(Reading::Body(definition), 2))
+/// Whether each request of both readings of a row's definition is refused.
+pub fn are_refused(alloc: Global, [definition, ..]: Fields) -> Result<bool, AllocError> {
+    Ok(
+        is_refused(alloc, Reading::Rules(definition), 2)?
+            && is_refused(alloc, Reading::Body(definition), 2)?,
+    )
 }
 
-#[test]
-fn each_request_of_reading_refused(rt: HostRuntime) {
-    for row in rows() {
-        assert!(rt; are_refused(rt.alloc(), row), "{}", row.0);
-    }
-    for (row, reading) in READINGS.iter().enumerate() {
-        assert!(rt; is_refused(rt.alloc(), reading), "row {row}");
-    }
+/// The same of a `macro` with arguments.
+pub fn are_arguments_refused(alloc: Global) -> Result<bool, AllocError> {
+    is_refused(alloc, Reading::Arguments("$($x:ident),*", "$($x);*"), 2)
+}
+
+/// The same of definitions with every form.
+pub fn is_every_form_refused(alloc: Global) -> Result<bool, AllocError> {
+    Ok(
+        is_refused(alloc, Reading::Rules(EVERY_FORM), 12)?
+            && is_refused(alloc, Reading::Rules(EVERY_FORM_AND_A_FAULT), 2)?
+            && is_refused(alloc, Reading::Body(EVERY_FORM_AND_A_FAULT), 2)?,
+    )
 }

@@ -75,18 +75,19 @@ impl Work for Copied {
     }
 }
 
-static ERRORS: [Copied; 4] = [
-    Copied::Unexpected("so"),
-    Copied::Expected("expected ident"),
-    Copied::Binding("expected Expr"),
-    Copied::Unresolved("x"),
-];
+// Whether so many of its requests are refused at least.
+fn is_refused<W: Work>(alloc: Global, work: &W, at_least: u64) -> Result<bool, AllocError> {
+    Ok(refusals(alloc, work).unwrap_or(0) >= at_least)
+}
 
-#[test]
-fn errors_are_copied_or_refused(rt: HostRuntime) {
-    for (row, work) in ERRORS.iter().enumerate() {
-        assert!(rt; refusals(rt.alloc(), work).unwrap_or(0) > 0, "row {row}");
-    }
+/// Whether errors are copied or refused.
+pub fn are_errors_copied(alloc: Global) -> Result<bool, AllocError> {
+    Ok(
+        is_refused(alloc, &Copied::Unexpected("so"), 1)?
+            && is_refused(alloc, &Copied::Expected("expected ident"), 1)?
+            && is_refused(alloc, &Copied::Binding("expected Expr"), 1)?
+            && is_refused(alloc, &Copied::Unresolved("x"), 1)?,
+    )
 }
 
 /// A macro that is copied, of this definition.
@@ -112,10 +113,9 @@ const EVERY_FORM: &str =
     $(i)* $(k)and* $crate) => {$a $j [c] 1 + $($d $e);* $($g)? ${ignore($a)} ${index()} ${len(1)} ${count($d)} ${count($e, 1)} \
     ${concat(a, $a, 1)} $$ $crate $}; () => {}; x";
 
-#[test]
-fn macros_are_copied_or_refused(rt: HostRuntime) {
-    let count = refusals(rt.alloc(), &Rules(EVERY_FORM)).unwrap_or(0);
-    assert!(rt; count > 10, "only {count} requests");
+/// Whether macros are copied or refused.
+pub fn are_macros_copied(alloc: Global) -> Result<bool, AllocError> {
+    is_refused(alloc, &Rules(EVERY_FORM), 11)
 }
 
 /// A number whose clones ask for memory.
@@ -175,9 +175,7 @@ impl Work for Copying {
     }
 }
 
-#[test]
-fn results_are_copied_or_refused(rt: HostRuntime) {
-    for (row, work) in [Copying::Lent, Copying::Whole].iter().enumerate() {
-        assert!(rt; refusals(rt.alloc(), work) == Some(1), "row {row}");
-    }
+/// Whether results are copied or refused.
+pub fn are_results_copied(alloc: Global) -> bool {
+    refusals(alloc, &Copying::Lent) == Some(1) && refusals(alloc, &Copying::Whole) == Some(1)
 }

@@ -1,15 +1,16 @@
 // Definitions whose groups and repetitions are in one another as deep as may be, and one level deeper.
 use crate::reading::{lexed, parsed};
-use crate::rows::ran;
+use crate::runs::{EXPANDING, ran};
 use crate::texts::push_many;
 use mbe::DeclarativeMacro;
 use std::alloc::{AllocError, Global};
+use test_rows::{Fields, Rows, Wrong, all, rows};
 
 // How many levels docs/DECISIONS.md gives.
 const LIMIT: usize = 256;
 
 // What a definition says before and after its levels, what opens and closes each, and what is in the innermost.
-static NESTS: [Nest; 4] = [
+const NESTS: &str = rows![
     ("(", "(", "$x:ident", ")", ") => {}"),
     ("(", "$(", "$x:ident", ")+", ") => {}"),
     ("($($x:ident)*) => {", "(", "a", ")", "}"),
@@ -27,18 +28,10 @@ fn push_nested(
     push_many(whole, close, levels)
 }
 
-type Nest = (
-    &'static str,
-    &'static str,
-    &'static str,
-    &'static str,
-    &'static str,
-);
-
 // A definition with so many levels.
 fn push_nest(
     whole: &mut String,
-    &(before, open, text, close, after): &Nest,
+    [before, open, text, close, after, ..]: Fields,
     levels: usize,
 ) -> Result<(), AllocError> {
     whole.push_str(before)?;
@@ -46,35 +39,21 @@ fn push_nest(
     whole.push_str(after)
 }
 
-// The status of a run on a definition with so many levels, and no argument. Nothing where there is no memory for it.
-fn status(alloc: Global, nest: &Nest, levels: usize) -> Option<u8> {
+// The status of a run on a definition with so many levels, and no argument.
+fn status(alloc: Global, nest: Fields, levels: usize) -> Result<u8, AllocError> {
     let mut definition = String::new(alloc);
-    push_nest(&mut definition, nest, levels).ok()?;
+    push_nest(&mut definition, nest, levels)?;
     let mut out = Vec::new(alloc);
-    Some(ran(alloc, (definition.as_str(), ""), &mut out).status())
+    Ok(ran(alloc, (definition.as_str(), ""), EXPANDING, &mut out).status())
 }
 
 // Whether the limit's levels are read, and one more isn't.
-fn is_limited(alloc: Global, nest: &Nest) -> bool {
-    let within = status(alloc, nest, LIMIT).unwrap_or(9);
-    within <= 1 && status(alloc, nest, LIMIT + 1) == Some(5)
+fn is_limited(alloc: Global, nest: Fields) -> Result<bool, AllocError> {
+    Ok(status(alloc, nest, LIMIT)? <= 1 && status(alloc, nest, LIMIT + 1)? == 5)
 }
-
-#[test]
-fn definitions_nest_to_the_limit(rt: HostRuntime) {
-    for (row, nest) in NESTS.iter().enumerate() {
-        assert!(rt; is_limited(rt.alloc(), nest), "row {row}");
-    }
-}
-
-type Levels = (&'static str, &'static str, &'static str, &'static str);
 
 // What opens and closes each level of pattern and template, and of the argument.
-static RULES: [Levels; 2] = [("(", ")", "(", ")"), ("$(", ")+", "", "")];
-
-fn rules() -> &'static [Levels] {
-    &RULES
-}
+const RULES: &str = rows![("(", ")", "(", ")"), ("$(", ")+", "", "")];
 
 // A rule of as many levels as may be.
 fn push_rule(text: &mut String, open: &str, close: &str) -> Result<(), AllocError> {
@@ -88,7 +67,7 @@ fn push_rule(text: &mut String, open: &str, close: &str) -> Result<(), AllocErro
 // Whether the definition takes the argument, and writes its word.
 fn writes_word(alloc: Global, definition: &str, argument: &str) -> bool {
     let mut out = Vec::new(alloc);
-    if ran(alloc, (definition, argument), &mut out).status() != 0 {
+    if ran(alloc, (definition, argument), EXPANDING, &mut out).status() != 0 {
         return false;
     }
     match String::from_utf8(out) {
@@ -97,41 +76,53 @@ fn writes_word(alloc: Global, definition: &str, argument: &str) -> bool {
     }
 }
 
-fn is_written(alloc: Global, &(open, close, before, after): &Levels) -> bool {
+// Whether the deepest rule matches and writes.
+fn is_deepest(alloc: Global, [open, close, before, after, ..]: Fields) -> Result<bool, AllocError> {
     let mut definition = String::new(alloc);
     let mut argument = String::new(alloc);
-    push_rule(&mut definition, open, close).is_ok()
-        && push_nested(&mut argument, (before, "a", after), LIMIT).is_ok()
-        && writes_word(alloc, definition.as_str(), argument.as_str())
-}
-
-#[test]
-fn the_deepest_rules_match_and_write(rt: HostRuntime) {
-    for levels in rules() {
-        assert!(rt; is_written(rt.alloc(), levels), "{}", levels.0);
-    }
+    push_rule(&mut definition, open, close)?;
+    push_nested(&mut argument, (before, "a", after), LIMIT)?;
+    Ok(writes_word(alloc, definition.as_str(), argument.as_str()))
 }
 
 // The macro of the deepest rule.
-fn deepest(alloc: Global, open: &str, close: &str) -> Result<DeclarativeMacro, AllocError> {
+fn defined(alloc: Global, open: &str, close: &str) -> Result<DeclarativeMacro, AllocError> {
     let mut text = String::new(alloc);
     push_rule(&mut text, open, close)?;
     parsed(alloc, &lexed(alloc, 0, text.as_str())?)
 }
 
-fn is_copied(alloc: Global, &(open, close, _, _): &Levels) -> bool {
-    let Ok(read) = deepest(alloc, open, close) else {
-        return false;
-    };
-    match read.try_clone(alloc) {
-        Ok(copy) => copy == read && copy.num_rules() == 1,
-        Err(AllocError) => false,
+// Whether a copy of its macro is equal.
+fn is_copied(alloc: Global, [open, close, ..]: Fields) -> Result<bool, AllocError> {
+    let read = defined(alloc, open, close)?;
+    let copy = read.try_clone(alloc)?;
+    Ok(copy == read && copy.num_rules() == 1)
+}
+
+#[derive(Clone, Copy)]
+enum Nest {
+    Limited,
+    Deepest,
+    Copied,
+}
+
+impl Rows for Nest {
+    fn is_so(&self, alloc: Global, fields: Fields) -> Result<bool, AllocError> {
+        match self {
+            Nest::Limited => is_limited(alloc, fields),
+            Nest::Deepest => is_deepest(alloc, fields),
+            Nest::Copied => is_copied(alloc, fields),
+        }
     }
 }
 
+static TABLES: [(Nest, &str, usize); 3] = [
+    (Nest::Limited, NESTS, 4),
+    (Nest::Deepest, RULES, 2),
+    (Nest::Copied, RULES, 2),
+];
+
 #[test]
-fn the_deepest_rules_are_copied_and_compared(rt: HostRuntime) {
-    for levels in rules() {
-        assert!(rt; is_copied(rt.alloc(), levels), "{}", levels.0);
-    }
+fn what_is_deep_is_read_to_the_limit(rt: HostRuntime) -> Result<(), Wrong> {
+    all(rt.alloc(), &TABLES)
 }

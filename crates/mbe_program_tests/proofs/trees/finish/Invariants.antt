@@ -1,6 +1,6 @@
 use Rattle.std.specs.Bool.{⊤}
 use Rattle.std.proofs.Common.{length}
-use Rattle.mbe_hostile_tests.proofs.trees.finish.Given as goal
+use Rattle.mbe_program_tests.proofs.trees.finish.Given as goal
 
 abbrev pub invariant-groups : goal.invariant-groups
 invariant-groups g l = ⊤

@@ -4,7 +4,6 @@ ghost use Rattle.mbe.specs.MacroViews.{macro_of};
 
 use crate::reading::{defined, lexed, printed};
 use crate::requests::{Ended, Work, refusals};
-use crate::rows::{Row, rows};
 use mbe::{
     DeclarativeMacro, ExpandError, ExpandResult, MacroCallStyle, MatchedArmIndex, ParseError,
     Verdict, expect_fragment,
@@ -14,6 +13,7 @@ use mbe_tt::grammar::PrefixEntryPoint;
 use mbe_tt::span::DelimSpan;
 use mbe_tt::tt::TopSubtree;
 use std::alloc::{AllocError, Allocator, Global};
+use test_rows::Fields;
 
 type Expansion<A> = ExpandResult<(TopSubtree<A>, MatchedArmIndex), A>;
 
@@ -69,12 +69,12 @@ fn push_printed<A: Allocator>(
 }
 
 /// The expansion of a row. The macro and the argument equal copies made before, and expand once more as the row says.
-#[derive(Drop)]
-struct Expanding(&'static Row);
+#[derive(Clone, Copy)]
+struct Expanding(Fields);
 
 impl Work for Expanding {
     fn ended<A: Allocator + Copy>(&self, global: Global, alloc: A) -> Result<Ended, AllocError> {
-        let (definition, argument, _status, want) = *self.0;
+        let [definition, argument, _status, want, ..] = self.0;
         let rules = defined(alloc, definition)?;
         let argument = lexed(alloc, 1, argument)?;
         let (first, is_unchanged) = first_expanded(alloc, &rules, &argument)?;
@@ -113,17 +113,14 @@ fn expands<A: Allocator + Copy>(
     is_shown(global, &expansion, want)
 }
 
-#[test]
-fn each_request_of_an_expansion_refused(rt: HostRuntime) {
-    for row in rows() {
-        let count = refusals(rt.alloc(), &Expanding(row));
-        assert!(rt; count.unwrap_or(0) > 3, "{}", row.0);
-    }
+/// Whether each request of an expansion is refused.
+pub fn is_refused(alloc: Global, fields: Fields) -> Result<bool, AllocError> {
+    Ok(refusals(alloc, &Expanding(fields)).unwrap_or(0) > 3)
 }
 
 /// A fragment that the grammar refuses. The iterator is where it was, and is asked once more.
 #[derive(Drop)]
-struct Fragment;
+pub struct Fragment;
 
 impl Work for Fragment {
     fn ended<A: Allocator + Copy>(&self, _global: Global, alloc: A) -> Result<Ended, AllocError> {
@@ -146,11 +143,6 @@ impl Work for Fragment {
     }
 }
 
-#[test]
-fn each_request_of_a_fragment_refused(rt: HostRuntime) {
-    assert!(rt; refusals(rt.alloc(), &Fragment).unwrap_or(0) > 1);
-}
-
 // The verdict of each rule on the argument, in order.
 fn explained<A: Allocator + Copy>(
     alloc: A,
@@ -169,7 +161,7 @@ fn explained<A: Allocator + Copy>(
 
 /// The verdicts on an argument. The macro equals a copy made before, and has the verdicts once more.
 #[derive(Drop)]
-struct Explaining {
+pub struct Explaining {
     definition: &'static str,
     argument: &'static str,
     verdicts: &'static [Verdict],
@@ -201,13 +193,8 @@ fn explains<A: Allocator + Copy>(
 }
 
 // The first rule is ambiguous, the second fits. Each list of positions of a match is a request.
-static EXPLAINED: Explaining = Explaining {
+pub static EXPLAINED: Explaining = Explaining {
     definition: "($($x:ident),* as $y:ident) => {}; ($($x:ident)*) => {}",
     argument: "as u32",
     verdicts: &[Verdict::Ambiguous(0), Verdict::OneReading],
 };
-
-#[test]
-fn each_request_of_verdicts_refused(rt: HostRuntime) {
-    assert!(rt; refusals(rt.alloc(), &EXPLAINED).unwrap_or(0) > 2);
-}
