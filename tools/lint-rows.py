@@ -65,15 +65,9 @@ def linted():
         return it.read()
 
 
-def names():
-    """The unknown specifiers of the test, each with what is similar, or nothing."""
-    text = re.search(r'^const SIMILAR: &str = "(.*?)";', linted(), re.M | re.S).group(1)
-    return [(name, similar) for name, _, similar in (row.partition(" ") for row in text.replace("\\\n", "").split(", "))]
-
-
 def texts(name):
     """The strings of a table's rows in the test, by row."""
-    table = re.search(rf"^static {name}: .*?= \[\n(.*?)^\];", linted(), re.M | re.S).group(1)
+    table = re.search(rf"^pub\(crate\) const {name}: &str = rows!\[\n(.*?)^\];", linted(), re.M | re.S).group(1)
     pair = re.compile(r'\(\s*"((?:[^"\\]|\\.)*)",\s*"((?:[^"\\]|\\.)*)",?\s*\),', re.S)
     unescaped = lambda text: re.sub(r"\\\n\s*", "", text).encode().decode("unicode_escape")
     return [tuple(unescaped(part) for part in row.groups()) for row in pair.finditer(table)]
@@ -122,7 +116,7 @@ def differing_names(rustc, all_rows):
 def main():
     rustc = sys.argv[1] if len(sys.argv) > 1 else "rustc"
     differ = differing_rows(rustc)
-    for what, all_rows, found in (("files", texts("FIRST") + texts("SECOND"), differing_files), ("names", names(), differing_names)):
+    for what, all_rows, found in (("files", texts("DEFINITIONS"), differing_files), ("names", texts("SIMILAR"), differing_names)):
         lines = list(found(rustc, all_rows))
         print("".join(f"{line}\n" for line in lines) + f"{len(all_rows)} {what}, {len(lines)} differ")
         differ += len(lines) + (not all_rows)

@@ -68,54 +68,41 @@ pub fn rounds_of<A: Allocator>(bindings: &Bindings<'_, A>, name: &Symbol<A>) -> 
     }
 }
 
-mod tests {
+pub mod tests {
     use super::{bind_by_hand, bind_missing, bind_rounds, part_ways, rounds_of};
-    use crate::expansions::tests::holds;
     use mbe::BindingLog;
-    use mbe_text::lexer::{LexError, lex};
+    use mbe_text::lexer::lex;
     use mbe_tt::symbol::Symbol;
-    use std::alloc::{AllocError, Global};
+    use std::alloc::Global;
 
-    fn are_rounds_bound(alloc: Global, name: &Symbol) -> Result<bool, LexError> {
-        let tree = lex(alloc, "1 + 2", 1)?;
-        let bindings = bind_rounds(alloc, name, tree.view())?;
+    fn are_rounds_bound(alloc: Global, name: &Symbol) -> Option<bool> {
+        let tree = lex(alloc, "1 + 2", 1).ok()?;
+        let bindings = bind_rounds(alloc, name, tree.view()).ok()?;
         let counts = (bindings.len(), bindings.count());
-        Ok(rounds_of(&bindings, name) == Some(2) && counts == (1, 2))
+        Some(rounds_of(&bindings, name) == Some(2) && counts == (1, 2))
     }
 
-    fn do_copies_part(alloc: Global, name: &Symbol) -> Result<bool, AllocError> {
-        let (with_name, without) = part_ways(alloc, name)?;
+    fn is_bound_by_hand(alloc: Global, name: &Symbol) -> Option<bool> {
+        let tree = lex(alloc, "1", 1).ok()?;
+        let bindings = bind_by_hand(alloc, name, tree.view()).ok()?;
+        Some(rounds_of(&bindings, name).is_none() && bindings.len() == 1)
+    }
+
+    // Copies part, and what is missing is counted.
+    fn do_copies_part(alloc: Global, name: &Symbol) -> Option<bool> {
+        let (with_name, without) = part_ways(alloc, name).ok()?;
         let counts = (with_name.len(), without.len());
-        Ok(rounds_of(&with_name, name).is_none() && counts == (1, 0))
-    }
-
-    fn is_missing_counted(alloc: Global, name: &Symbol) -> Result<bool, AllocError> {
         let mut log = BindingLog::new(alloc);
-        Ok(bind_missing(&mut log, name)? == (1, 0))
+        let missing = bind_missing(&mut log, name).ok()?;
+        Some(rounds_of(&with_name, name).is_none() && counts == (1, 0) && missing == (1, 0))
     }
 
-    fn is_bound_by_hand(alloc: Global, name: &Symbol) -> Result<bool, LexError> {
-        let tree = lex(alloc, "1", 1)?;
-        let bindings = bind_by_hand(alloc, name, tree.view())?;
-        Ok(rounds_of(&bindings, name).is_none() && bindings.len() == 1)
-    }
-
-    fn is_bound_each_way(alloc: Global, name: &Symbol) -> bool {
-        are_rounds_bound(alloc, name).unwrap_or(false)
-            && is_bound_by_hand(alloc, name).unwrap_or(false)
-            && do_copies_part(alloc, name).unwrap_or(false)
-            && is_missing_counted(alloc, name).unwrap_or(false)
-    }
-
-    fn is_name_bound(alloc: Global, text: &str) -> bool {
-        match Symbol::intern(alloc, text) {
-            Ok(name) => is_bound_each_way(alloc, &name),
-            Err(_) => false,
-        }
-    }
-
-    #[test]
-    fn names_are_bound_by_a_log_and_by_hand(rt: HostRuntime) {
-        holds(&rt, is_name_bound(rt.alloc(), "x"));
+    pub fn is_bound_each_way(alloc: Global) -> Option<bool> {
+        let name = Symbol::intern(alloc, "x").ok()?;
+        Some(
+            are_rounds_bound(alloc, &name)?
+                && is_bound_by_hand(alloc, &name)?
+                && do_copies_part(alloc, &name)?,
+        )
     }
 }

@@ -47,17 +47,15 @@ pub fn has_style(defined: &DeclarativeMacro, style: MacroCallStyle) -> bool {
     defined.rule_styles().contains(MacroCallStyles::from(style))
 }
 
-mod tests {
+pub mod tests {
     use super::{describe, has_style, missing, read_macro};
-    use crate::expansions::tests::{holds, none};
     use bitflags::Flags;
     use mbe::{DeclarativeMacro, MacroCallStyle};
     use std::alloc::Global;
+    use test_rows::{number, rows};
 
     // Rules, how many are kept, the bits of their styles, and the fault.
-    type Row = (&'static str, usize, u8, &'static str);
-
-    static DESCRIBED: [Row; 5] = [
+    pub const DESCRIBED: &str = rows![
         ("($x:ident) => {$x}; () => {}", 2, 1, ""),
         ("attr() ($i:item) => {$i}", 1, 2, ""),
         ("() => {}; ($x) => {}", 1, 1, "missing fragment specifier"),
@@ -65,48 +63,33 @@ mod tests {
         ("", 0, 1, ""),
     ];
 
-    fn is_described(alloc: Global, &(rules, count, bits, fault): &Row) -> anyhow::Result<bool> {
+    /// Whether the rules are described so.
+    pub fn is_described(
+        alloc: Global,
+        rules: &str,
+        (count, bits): (&str, &str),
+        fault: &str,
+    ) -> Option<bool> {
         if rules.len() > 1_000_000 {
-            return Ok(false);
+            return None;
         }
-        let (kept, styles, text) = describe(alloc, rules)?;
-        Ok(kept == count && styles.bits() == bits && text.as_str() == fault)
-    }
-
-    // The first rules that are described otherwise.
-    fn first_other(alloc: Global) -> Option<&'static str> {
-        for row in &DESCRIBED {
-            if !is_described(alloc, row).unwrap_or(false) {
-                return Some(row.0);
-            }
-        }
-        None
-    }
-
-    #[test]
-    fn definitions_are_described(rt: HostRuntime) {
-        none(&rt, first_other(rt.alloc()));
+        let (kept, styles, text) = describe(alloc, rules).ok()?;
+        let counts = (kept, usize::from(styles.bits()));
+        Some(counts == (number(count), number(bits)) && text.as_str() == fault)
     }
 
     // Whether a copy is equal, and a macro whose definition wasn't found isn't.
-    fn is_copied(alloc: Global, defined: &DeclarativeMacro) -> anyhow::Result<bool> {
-        let copy = defined.try_clone(alloc)?;
-        Ok(copy == *defined && *defined != missing(alloc)?)
+    fn is_copied(alloc: Global, defined: &DeclarativeMacro) -> Option<bool> {
+        let copy = defined.try_clone(alloc).ok()?;
+        let missing = missing(alloc).ok()?;
+        Some(copy == *defined && *defined != missing)
     }
 
-    fn is_without_fault(defined: &DeclarativeMacro) -> bool {
-        defined.err().is_none()
-            && has_style(defined, MacroCallStyle::FnLike)
-            && !has_style(defined, MacroCallStyle::Attr)
-    }
-
-    fn is_read(alloc: Global) -> anyhow::Result<bool> {
-        let defined = read_macro(alloc, "$x:ident", "$x")?;
-        Ok(is_without_fault(&defined) && is_copied(alloc, &defined)?)
-    }
-
-    #[test]
-    fn a_macro_is_copied(rt: HostRuntime) {
-        holds(&rt, is_read(rt.alloc()).unwrap_or(false));
+    pub fn is_read(alloc: Global) -> Option<bool> {
+        let defined = read_macro(alloc, "$x:ident", "$x").ok()?;
+        let is_without_fault = defined.err().is_none()
+            && has_style(&defined, MacroCallStyle::FnLike)
+            && !has_style(&defined, MacroCallStyle::Attr);
+        Some(is_without_fault && is_copied(alloc, &defined)?)
     }
 }

@@ -1,9 +1,8 @@
 // The examples of docs/MACROS.md: errors of calls, each with its place.
-use crate::expansions::tests::{is_expanded, none};
-use std::alloc::Global;
+use test_rows::rows;
 
 // Rules, an argument, and the error with its span.
-static ERRORS: [(&str, &str, &str); 11] = [
+pub const ERRORS: &str = rows![
     ("(a b) => {}", "a c", "unexpected token in input at 1@2..3"),
     ("(a b) => {}", "a", "expected ident: `b` at 1@0..1"),
     ("(a (b)) => {}", "a ()", "expected ident: `b` at 1@0..4"),
@@ -32,19 +31,3 @@ static ERRORS: [(&str, &str, &str); 11] = [
         "Expand exceed limit at 1@0..1",
     ),
 ];
-
-// The first rules whose call has another error.
-fn first_other(alloc: Global) -> Option<&'static str> {
-    for &(rules, argument, want) in &ERRORS {
-        let row = (rules, argument, 0, want, "");
-        if !is_expanded(alloc, &row).unwrap_or(false) {
-            return Some(rules);
-        }
-    }
-    None
-}
-
-#[test]
-fn calls_have_these_errors(rt: HostRuntime) {
-    none(&rt, first_other(rt.alloc()));
-}

@@ -80,53 +80,42 @@ pub mod tests {
     use mbe_text::lexer::lex;
     use mbe_tt::span::{Span, SyntaxContext};
     use mbe_tt::tt::TopSubtree;
-    use std::alloc::{AllocError, Global};
-    use std::process::Abort;
+    use std::alloc::Global;
+    use test_rows::rows;
 
-    /// Rules, an argument, the index of the rule, the line of the error, and the printed tree without one.
-    pub type Row = (&'static str, &'static str, u32, &'static str, &'static str);
-
-    const RULES: &str = "($x:ident) => {let $x}; ($x:ident $y:ident) => {$y}";
-
-    static CALLS: [Row; 3] = [
+    // Rules, an argument, the index of the rule, the line of the error, and the printed tree without one.
+    pub const CALLS: &str = rows![
         (
-            RULES,
+            "($x:ident) => {let $x}; ($x:ident $y:ident) => {$y}",
             "a",
             0,
             "",
             "SUBTREE $$ 1@0..1 1@0..1\n  IDENT   let 0@15..18\n  IDENT   a 1@0..1\n",
         ),
         (
-            RULES,
+            "($x:ident) => {let $x}; ($x:ident $y:ident) => {$y}",
             "a b",
             1,
             "",
             "SUBTREE $$ 1@0..3 1@0..3\n  IDENT   b 1@2..3\n",
         ),
-        (RULES, "a 1", 1, "expected ident at 1@2..3", ""),
+        (
+            "($x:ident) => {let $x}; ($x:ident $y:ident) => {$y}",
+            "a 1",
+            1,
+            "expected ident at 1@2..3",
+            ""
+        ),
     ];
 
-    /// The expansion of a call by these rules.
-    pub fn expansion_of(
-        alloc: Global,
-        rules: &str,
-        argument: &str,
-    ) -> anyhow::Result<Option<Expansion<Global>>> {
+    /// The expansion of a call by these rules, where it can be expanded.
+    pub fn expansion_of(alloc: Global, rules: &str, argument: &str) -> Option<Expansion<Global>> {
         if rules.len() > 1_000_000 || argument.len() > 1_000_000 {
-            return Ok(None);
+            return None;
         }
-        let defined = read(alloc, rules)?;
-        let argument = lex(alloc, argument, 1)?;
-        Ok(expand_call(alloc, &defined, &argument)?)
-    }
-
-    /// Whether that line is on the expansion.
-    pub fn has_line(
-        alloc: Global,
-        expansion: &Expansion<Global>,
-        line: &str,
-    ) -> Result<bool, AllocError> {
-        Ok(error_line(alloc, expansion)?.as_str() == line)
+        let defined = read(alloc, rules).ok()?;
+        let argument = lex(alloc, argument, 1).ok()?;
+        expand_call(alloc, &defined, &argument).ok()?
     }
 
     // Whether that tree is printed; an error is in its place where it is empty.
@@ -140,44 +129,21 @@ pub mod tests {
     /// Whether the call makes that.
     pub fn is_expanded(
         alloc: Global,
-        &(rules, argument, rule, line, tree): &Row,
-    ) -> anyhow::Result<bool> {
-        let Some(expansion) = expansion_of(alloc, rules, argument)? else {
-            return Ok(false);
-        };
-        let is_so = expansion.value.1 == Some(rule) && has_line(alloc, &expansion, line)?;
-        Ok(is_so && line.is_empty() != tree.is_empty() && is_tree(alloc, expansion, tree))
+        (rules, argument): (&str, &str),
+        rule: &str,
+        (line, tree): (&str, &str),
+    ) -> Option<bool> {
+        let expansion = expansion_of(alloc, rules, argument)?;
+        let is_so = expansion.value.1 == rule.parse::<u32>().ok()
+            && error_line(alloc, &expansion).ok()?.as_str() == line
+            && line.is_empty() != tree.is_empty();
+        Some(is_so && is_tree(alloc, expansion, tree))
     }
 
-    /// The argument of the first row whose call makes something else.
-    pub fn first_wrong(alloc: Global, rows: &[Row]) -> Option<&'static str> {
-        for row in rows {
-            if !is_expanded(alloc, row).unwrap_or(false) {
-                return Some(row.1);
-            }
-        }
-        None
-    }
-
-    /// No row is otherwise. A failure shows the first that is.
-    pub fn none(rt: &impl Abort, wrong: Option<&'static str>) {
-        assert!(rt; wrong.is_none(), "{wrong:?}");
-    }
-
-    /// Something is so.
-    pub fn holds(rt: &impl Abort, is_so: bool) {
-        assert!(rt; is_so);
-    }
-
-    #[test]
-    fn calls_are_expanded(rt: HostRuntime) {
-        none(&rt, first_wrong(rt.alloc(), &CALLS));
-    }
-
-    #[test]
-    fn refused_patterns_expand_nothing(rt: HostRuntime) {
-        let expansion = expansion_of(rt.alloc(), "($()*) => {}", "a");
-        holds(&rt, matches!(expansion, Ok(None)));
+    pub fn expands_nothing(alloc: Global) -> Option<bool> {
+        let defined = read(alloc, "($()*) => {}").ok()?;
+        let argument = lex(alloc, "a", 1).ok()?;
+        Some(matches!(expand_call(alloc, &defined, &argument), Ok(None)))
     }
 
     // The spans of the first two trees.
@@ -189,28 +155,15 @@ pub mod tests {
     }
 
     // The word of the template has the context of the expansion, and the one of the argument keeps its own.
-    fn are_marked((word, taken): (Span, Span)) -> bool {
-        (word.file, word.start, word.ctx.0) == (0, 15, 5)
-            && (taken.file, taken.start, taken.ctx.0) == (1, 0, 0)
-    }
-
-    fn is_marked(alloc: Global) -> anyhow::Result<bool> {
-        let expansion = marked_expansion(alloc)?;
-        Ok(match first_spans(&expansion.value.0) {
-            Some(spans) => are_marked(spans),
-            None => false,
-        })
-    }
-
-    fn marked_expansion(alloc: Global) -> anyhow::Result<Expansion<Global>> {
-        let defined = read(alloc, RULES)?;
-        let argument = lex(alloc, "a", 1)?;
-        let style = MacroCallStyle::FnLike;
-        expand_marked(alloc, &defined, &argument, style, SyntaxContext(5))
-    }
-
-    #[test]
-    fn the_template_is_marked(rt: HostRuntime) {
-        holds(&rt, is_marked(rt.alloc()).unwrap_or(false));
+    pub fn is_marked(alloc: Global) -> Option<bool> {
+        let defined = read(alloc, "($x:ident) => {let $x}").ok()?;
+        let argument = lex(alloc, "a", 1).ok()?;
+        let (style, context) = (MacroCallStyle::FnLike, SyntaxContext(5));
+        let expansion = expand_marked(alloc, &defined, &argument, style, context).ok()?;
+        let (word, taken) = first_spans(&expansion.value.0)?;
+        Some(
+            (word.file, word.start, word.ctx.0) == (0, 15, 5)
+                && (taken.file, taken.start, taken.ctx.0) == (1, 0, 0),
+        )
     }
 }

@@ -33,11 +33,9 @@ pub fn write_verdicts<W: Write>(
     Ok(())
 }
 
-mod tests {
+pub mod tests {
     use super::write_verdicts;
     use crate::expansions::read;
-    use crate::expansions::tests::holds;
-    use mbe::DeclarativeMacro;
     use mbe_text::lexer::lex;
     use std::alloc::Global;
 
@@ -51,20 +49,11 @@ mod tests {
 ";
 
     // Whether those lines are written of the argument.
-    fn has_lines(alloc: Global, defined: &DeclarativeMacro) -> anyhow::Result<bool> {
-        let argument = lex(alloc, "a b", 1)?;
+    pub fn are_explained(alloc: Global) -> Option<bool> {
+        let defined = read(alloc, RULES).ok()?;
+        let argument = lex(alloc, "a b", 1).ok()?;
         let mut out = Vec::new(alloc);
-        write_verdicts(alloc, defined, &argument, &mut out)?;
-        Ok(out.as_slice() == LINES.as_bytes())
-    }
-
-    fn are_explained(alloc: Global) -> anyhow::Result<bool> {
-        let defined = read(alloc, RULES)?;
-        has_lines(alloc, &defined)
-    }
-
-    #[test]
-    fn each_rule_has_its_verdict(rt: HostRuntime) {
-        holds(&rt, are_explained(rt.alloc()).unwrap_or(false));
+        write_verdicts(alloc, &defined, &argument, &mut out).ok()?;
+        Some(out.as_slice() == LINES.as_bytes())
     }
 }

@@ -18,6 +18,8 @@ mod memory;
 #[cfg(test)]
 mod results;
 #[cfg(test)]
+mod rows;
+#[cfg(test)]
 mod rustc;
 #[cfg(test)]
 mod small;

@@ -27,17 +27,3 @@ pub fn count_requests(alloc: Global) -> Result<u64, AllocError> {
     }
     Err(AllocError)
 }
-
-mod tests {
-    use super::count_requests;
-    use crate::expansions::tests::holds;
-
-    // The two buffers, the rules, the two lists of ops, the symbols of the texts and the expansion's buffer at least.
-    #[test]
-    fn each_request_is_refused_in_turn(rt: HostRuntime) {
-        holds(
-            &rt,
-            matches!(count_requests(rt.alloc()), Ok(count) if count > 8),
-        );
-    }
-}

@@ -1,8 +1,8 @@
 // The examples of docs/MACROS.md where rustc says something else; tools/beside-rustc.py runs them on rustc.
-use crate::expansions::tests::{Row, first_wrong, none};
+use test_rows::rows;
 
 // Rules, an argument, the index of the rule, the error with its span, and the printed tree.
-static BESIDE_RUSTC: [Row; 9] = [
+pub const BESIDE_RUSTC: &str = rows![
     (
         "($($l:lifetime)? 'a) => {X}",
         "'b 'a",
@@ -73,8 +73,3 @@ static BESIDE_RUSTC: [Row; 9] = [
 ",
     ),
 ];
-
-#[test]
-fn calls_beside_rustc_are_expanded_so(rt: HostRuntime) {
-    none(&rt, first_wrong(rt.alloc(), &BESIDE_RUSTC));
-}

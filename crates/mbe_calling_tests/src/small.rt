@@ -57,51 +57,42 @@ pub fn bound_in<'a>(
     Ok(Some(bindings))
 }
 
-mod tests {
+pub mod tests {
     use super::{bound_in, failed, head, is_done, outside_bits, sides, takes_more, written};
-    use crate::expansions::tests::holds;
-    use mbe::{BindingLog, Handle};
-    use mbe_text::lexer::{LexError, lex};
+    use mbe::BindingLog;
+    use mbe_text::lexer::lex;
     use mbe_tt::span::Edition;
     use mbe_tt::tt::TtIter;
-    use std::alloc::{AllocError, Global};
+    use std::alloc::Global;
 
     // Whether there is one word, which is written so.
-    fn is_one_word(alloc: Global, mut iter: TtIter<'_>, word: &str) -> Result<bool, AllocError> {
-        let was_done = is_done(&iter)?;
-        let Ok(ident) = iter.expect_ident() else {
-            return Ok(false);
-        };
-        let is_only = !was_done && is_done(&iter)?;
-        Ok(is_only && written(alloc, ident)?.as_str() == word)
+    fn is_one_word(alloc: Global, mut iter: TtIter<'_>, word: &str) -> Option<bool> {
+        let was_done = is_done(&iter).ok()?;
+        let ident = iter.expect_ident().ok()?;
+        let is_only = !was_done && is_done(&iter).ok()?;
+        Some(is_only && written(alloc, ident).ok()?.as_str() == word)
     }
 
-    fn is_raw_word(alloc: Global) -> Result<bool, LexError> {
-        let tree = lex(alloc, "r#a", 7)?;
+    fn is_raw_word(alloc: Global) -> Option<bool> {
+        let tree = lex(alloc, "r#a", 7).ok()?;
         let is_at = sides(&tree).opening == head(7, 3);
-        Ok(is_at && is_one_word(alloc, tree.iter(), "r#a")?)
+        Some(is_at && is_one_word(alloc, tree.iter(), "r#a")?)
     }
 
-    #[test]
-    fn small_values_are_read(rt: HostRuntime) {
-        holds(&rt, takes_more(Edition::Edition2021) == (true, false));
-        holds(&rt, outside_bits() == 6 && failed(1) == Ok(0));
-        holds(&rt, is_raw_word(rt.alloc()).unwrap_or(false));
+    pub fn are_read(alloc: Global) -> Option<bool> {
+        Some(
+            takes_more(Edition::Edition2021) == (true, false)
+                && outside_bits() == 6
+                && failed(1) == Ok(0)
+                && is_raw_word(alloc)?,
+        )
     }
 
-    fn is_bound(log: &BindingLog<'_>, handle: &Handle) -> Result<bool, AllocError> {
-        Ok(bound_in(log, handle)?.is_some())
-    }
-
-    fn is_bound_in_one(alloc: Global) -> Result<bool, AllocError> {
+    pub fn is_bound_in_one(alloc: Global) -> Option<bool> {
         let mut log = BindingLog::new(alloc);
-        let handle = log.alloc()?;
+        let handle = log.alloc().ok()?;
         let other = BindingLog::new(alloc);
-        Ok(is_bound(&log, &handle)? && !is_bound(&other, &handle)?)
-    }
-
-    #[test]
-    fn a_handle_is_of_its_log(rt: HostRuntime) {
-        holds(&rt, is_bound_in_one(rt.alloc()).unwrap_or(false));
+        let is_bound = bound_in(&log, &handle).ok()?.is_some();
+        Some(is_bound && bound_in(&other, &handle).ok()?.is_none())
     }
 }

@@ -50,15 +50,9 @@ pub fn sum_of(alloc: Global, text: &str) -> Result<Option<usize>, LexError>
     Ok((!front.fault).then_some(front.count))
 }
 
-mod tests {
-    use super::sum_of;
-    use crate::expansions::tests::holds;
+pub mod tests {
+    use test_rows::rows;
 
-    #[test]
-    fn sums_are_taken(rt: HostRuntime) {
-        holds(&rt, sum_of(rt.alloc(), "a + b c") == Ok(Some(3)));
-        holds(&rt, sum_of(rt.alloc(), "a c") == Ok(Some(1)));
-        holds(&rt, sum_of(rt.alloc(), "a + ;") == Ok(None));
-        holds(&rt, sum_of(rt.alloc(), "let") == Ok(None));
-    }
+    // Texts, and how many tokens of each are a sum, where it begins with one.
+    pub const SUMS: &str = rows![("a + b c", 3), ("a c", 1), ("a + ;", ""), ("let", "")];
 }

@@ -54,15 +54,13 @@ pub fn end_of_second(text: &str) -> Result<u32, LexFault>
     Ok(scanner.offset())
 }
 
-mod tests {
+pub mod tests {
     use super::{end_of_second, fault_of, lines_of, trees_of};
-    use crate::expansions::tests::holds;
-    use mbe_text::lexer::LexError;
     use mbe_text::scanner::LexFault;
     use mbe_text::symbols::SymbolTable;
-    use mbe_text::wrong::Wrong;
+    use mbe_text::wrong;
     use mbe_tt::symbol::Symbol;
-    use std::alloc::{AllocError, Global};
+    use std::alloc::Global;
 
     // Each line has the token's span: file 7, and its bytes.
     const LINES: &str = "SUBTREE $$ 7@0..10 7@0..10
@@ -73,45 +71,30 @@ mod tests {
     LITERAL Integer 1u8 7@6..9
 ";
 
-    fn is_printed(alloc: Global) -> bool {
+    pub fn is_printed(alloc: Global) -> bool {
         match lines_of(alloc, "a += (1u8)") {
             Ok(lines) => lines.as_str() == LINES,
             Err(_) => false,
         }
     }
 
-    #[test]
-    fn a_text_is_printed_by_its_trees(rt: HostRuntime) {
-        holds(&rt, is_printed(rt.alloc()));
-    }
-
-    #[test]
-    fn faults_and_ends_are_counted_in_bytes(rt: HostRuntime) {
-        holds(&rt, fault_of(rt.alloc(), "a += (1u8]") == Some(9));
-        holds(&rt, fault_of(rt.alloc(), "a += (1u8)").is_none());
-        holds(&rt, end_of_second("a += (1u8)") == Ok(3));
-        holds(&rt, end_of_second("a é §") == Ok(4));
+    pub fn are_counted(alloc: Global) -> bool {
         let fault = LexFault {
             offset: 2,
-            wrong: Wrong::Start,
+            wrong: wrong::Wrong::Start,
         };
-        holds(&rt, end_of_second("a §") == Err(fault));
+        fault_of(alloc, "a += (1u8]") == Some(9)
+            && fault_of(alloc, "a += (1u8)").is_none()
+            && end_of_second("a += (1u8)") == Ok(3)
+            && end_of_second("a é §") == Ok(4)
+            && end_of_second("a §") == Err(fault)
     }
 
-    fn trees_differ(alloc: Global) -> Result<bool, LexError> {
-        let (one, two) = trees_of(alloc, "a + a", "a + b")?;
-        Ok(one != two)
-    }
-
-    fn is_kept(alloc: Global, text: &str) -> Result<bool, AllocError> {
+    // Trees differ, and a name of a table is the symbol of its text.
+    pub fn are_kept(alloc: Global) -> Option<bool> {
+        let (one, two) = trees_of(alloc, "a + a", "a + b").ok()?;
         let mut table = SymbolTable::new(alloc);
-        let name = table.intern(text)?;
-        Ok(name == Symbol::intern(table.alloc(), text)?)
-    }
-
-    #[test]
-    fn names_of_two_files_are_kept_once(rt: HostRuntime) {
-        holds(&rt, trees_differ(rt.alloc()).unwrap_or(false));
-        holds(&rt, is_kept(rt.alloc(), "a").unwrap_or(false));
+        let name = table.intern("a").ok()?;
+        Some(one != two && name == Symbol::intern(alloc, "a").ok()?)
     }
 }

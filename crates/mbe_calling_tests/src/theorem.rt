@@ -41,59 +41,32 @@ pub fn applied<A: Allocator + Copy, G: FragmentGrammar, M: Fn(Span) -> Span + Co
 pub mod tests {
     use super::applied;
     use crate::expansions::read;
-    use crate::expansions::tests::none;
     use mbe::CheckedMacro;
     use mbe_grammar::SampleGrammar;
-    use mbe_text::lexer::{LexError, lex};
+    use mbe_text::lexer::lex;
     use std::alloc::Global;
-
-    const RULES: &str = "($x:ident) => {let $x}; ($x:ident $y:ident) => {$y}";
+    use test_rows::rows;
 
     // Arguments, and how many flat tokens they become, if a rule applies.
-    static CALLS: [(&str, Option<usize>); 4] = [
-        ("a", Some(2)),
-        ("a b", Some(1)),
-        ("a 1", None),
-        ("a b c", None),
-    ];
+    pub const CALLS: &str = rows![("a", 2), ("a b", 1), ("a 1", "none"), ("a b c", "none")];
 
-    // Whether a call by these rules becomes so many flat tokens, or nothing.
-    fn becomes(
-        alloc: Global,
-        defined: &CheckedMacro,
-        (argument, count): (&str, Option<usize>),
-    ) -> Result<bool, LexError> {
+    // How many flat tokens a call by these rules becomes; nothing where no rule applies.
+    fn counted(alloc: Global, defined: &CheckedMacro, argument: &str) -> Option<Option<usize>> {
         if argument.len() > 1_000_000 {
-            return Ok(false);
+            return None;
         }
-        let argument = lex(alloc, argument, 1)?;
+        let argument = lex(alloc, argument, 1).ok()?;
         let call_site = argument.top_subtree().delimiter.opening;
-        match applied(alloc, &SampleGrammar, defined, &argument, |s| s, call_site)? {
-            Some(tree) => Ok(count == Some(tree.iter().remaining().flat_len())),
-            None => Ok(count.is_none()),
+        match applied(alloc, &SampleGrammar, defined, &argument, |s| s, call_site).ok()? {
+            Some(tree) => Some(Some(tree.iter().remaining().flat_len())),
+            None => Some(None),
         }
     }
 
-    // The first argument that becomes something else.
-    fn first_other(alloc: Global, defined: &CheckedMacro) -> Option<&'static str> {
-        for &row in &CALLS {
-            if !becomes(alloc, defined, row).unwrap_or(false) {
-                return Some(row.0);
-            }
-        }
-        None
-    }
-
-    // The same; the rules, where a pattern of them is refused.
-    fn first_other_of_rules(alloc: Global) -> anyhow::Result<Option<&'static str>> {
-        match read(alloc, RULES)?.checked() {
-            Ok(defined) => Ok(first_other(alloc, &defined)),
-            Err(_) => Ok(Some(RULES)),
-        }
-    }
-
-    #[test]
-    fn a_rule_that_applies_makes_the_tree(rt: HostRuntime) {
-        none(&rt, first_other_of_rules(rt.alloc()).unwrap_or(Some(RULES)));
+    /// Whether a call becomes so many flat tokens, or no number where no rule applies.
+    pub fn becomes(alloc: Global, argument: &str, count: &str) -> Option<bool> {
+        let rules = "($x:ident) => {let $x}; ($x:ident $y:ident) => {$y}";
+        let defined = read(alloc, rules).ok()?.checked().ok()?;
+        Some(counted(alloc, &defined, argument)? == count.parse::<usize>().ok())
     }
 }

@@ -29,11 +29,9 @@ pub fn fits_group<A: Allocator + Copy>(
     Ok(matches!(verdict, Verdict::OneReading))
 }
 
-mod tests {
+pub mod tests {
     use super::{expand_group, fits_group};
-    use crate::expansions::tests::holds;
     use crate::expansions::{read, tree_or_error};
-    use mbe::CheckedMacro;
     use mbe_text::lexer::lex;
     use mbe_tt::tt::{SubtreeView, TopSubtree};
     use std::alloc::Global;
@@ -50,25 +48,12 @@ mod tests {
         iter.next_as_view()?.try_into_subtree()
     }
 
-    fn is_expanded(alloc: Global, defined: &CheckedMacro) -> anyhow::Result<bool> {
-        let trees = lex(alloc, "m ! (a) b", 1)?;
-        let Some(group) = third(&trees) else {
-            return Ok(false);
-        };
-        let expansion = expand_group(alloc, defined, group)?;
-        let fits = fits_group(alloc, defined, group)?;
-        Ok(fits && tree_or_error(alloc, expansion)?.as_str() == TREE)
-    }
-
-    fn is_group_expanded(alloc: Global) -> anyhow::Result<bool> {
-        match read(alloc, RULES)?.checked() {
-            Ok(defined) => is_expanded(alloc, &defined),
-            Err(_) => Ok(false),
-        }
-    }
-
-    #[test]
-    fn a_group_is_an_argument(rt: HostRuntime) {
-        holds(&rt, is_group_expanded(rt.alloc()).unwrap_or(false));
+    pub fn is_group_expanded(alloc: Global) -> Option<bool> {
+        let defined = read(alloc, RULES).ok()?.checked().ok()?;
+        let trees = lex(alloc, "m ! (a) b", 1).ok()?;
+        let group = third(&trees)?;
+        let expansion = expand_group(alloc, &defined, group).ok()?;
+        let fits = fits_group(alloc, &defined, group).ok()?;
+        Some(fits && tree_or_error(alloc, expansion).ok()?.as_str() == TREE)
     }
 }

@@ -106,62 +106,45 @@ pub fn only_group<'a, A: Allocator>(trees: TokenTreesView<'a, A>) -> Option<Subt
     trees.strip_invisible().try_into_subtree()
 }
 
-mod tests {
+pub mod tests {
     use super::{
         assignment, count_leaves, expect_puncts, expect_several, expect_words, names, next_leaf,
         next_spans, only_group, suffix, view_of_next,
     };
-    use crate::expansions::tests::holds;
-    use mbe_text::lexer::{LexError, lex};
-    use mbe_tt::tt::{DelimiterKind, Leaf, TopSubtree, TtIter};
-    use std::alloc::{AllocError, Global};
+    use mbe_text::lexer::lex;
+    use mbe_tt::tt::{DelimiterKind, Leaf, TtIter};
+    use std::alloc::Global;
 
     // One assignment is read, of a name and a group of one tree; at the two trees that are left none is.
-    fn reads_one_assignment(mut iter: TtIter<'_>) -> bool {
-        match assignment(&mut iter) {
-            Some((name, value)) => {
-                name.sym.as_str() == "a"
-                    && (value.len(), value.flat_len()) == (1, 3)
-                    && assignment(&mut iter).is_none()
-                    && iter.remaining().len() == 2
-            }
-            None => false,
-        }
+    pub fn is_assignment_read(alloc: Global) -> Option<bool> {
+        let tree = lex(alloc, "a = (1); b 2", 0).ok()?;
+        let mut iter = tree.iter();
+        let (name, value) = assignment(&mut iter)?;
+        Some(
+            name.sym.as_str() == "a"
+                && (value.len(), value.flat_len()) == (1, 3)
+                && assignment(&mut iter).is_none()
+                && iter.remaining().len() == 2,
+        )
     }
 
-    fn is_assignment_read(alloc: Global) -> Result<bool, LexError> {
-        let tree = lex(alloc, "a = (1); b 2", 0)?;
-        Ok(reads_one_assignment(tree.iter()))
-    }
-
-    #[test]
-    fn assignments_are_read(rt: HostRuntime) {
-        holds(&rt, is_assignment_read(rt.alloc()).unwrap_or(false));
-    }
-
-    fn expects_each_once(mut iter: TtIter<'_>) -> bool {
-        expect_words(&mut iter).is_ok()
-            && expect_puncts(&mut iter).is_ok()
-            && expect_several(&mut iter) == Ok((3, 2))
-            && iter.is_empty()
-            && expect_words(&mut iter).is_err()
-    }
-
-    fn is_each_expected(alloc: Global) -> Result<bool, LexError> {
-        let tree = lex(alloc, "a _ 1 b + - $ , ! <<= (x y)", 0)?;
-        Ok(expects_each_once(tree.iter()))
-    }
-
-    #[test]
-    fn each_tree_is_expected(rt: HostRuntime) {
-        holds(&rt, is_each_expected(rt.alloc()).unwrap_or(false));
+    pub fn is_each_expected(alloc: Global) -> Option<bool> {
+        let tree = lex(alloc, "a _ 1 b + - $ , ! <<= (x y)", 0).ok()?;
+        let mut iter = tree.iter();
+        Some(
+            expect_words(&mut iter).is_ok()
+                && expect_puncts(&mut iter).is_ok()
+                && expect_several(&mut iter) == Ok((3, 2))
+                && iter.is_empty()
+                && expect_words(&mut iter).is_err(),
+        )
     }
 
     // The group comes first, then the literal, and neither call consumes what isn't for it.
-    fn consumes_the_group(iter: &mut TtIter<'_>) -> bool {
-        matches!(next_spans(iter), Some((one, two)) if (one.start, two.start) == (0, 4))
-            && next_leaf(iter).is_none()
-            && matches!(view_of_next(iter), Some(view) if view.flat_len() == 3)
+    fn consumes_the_group(iter: &mut TtIter<'_>) -> Option<bool> {
+        let (one, two) = next_spans(iter)?;
+        let is_before = (one.start, two.start) == (0, 4) && next_leaf(iter).is_none();
+        Some(is_before && view_of_next(iter)?.flat_len() == 3)
     }
 
     fn is_literal_next(mut iter: TtIter<'_>) -> bool {
@@ -171,54 +154,25 @@ mod tests {
         }
     }
 
-    fn consumes_the_leaf(iter: &mut TtIter<'_>) -> bool {
-        is_literal_next(iter.fork())
-            && matches!(next_leaf(iter), Some(view) if view.len() == 1)
-            && iter.remaining().len() == 1
-    }
-
-    fn are_consumed(alloc: Global) -> Result<bool, LexError> {
-        let tree = lex(alloc, "(a) 1u8 [", 0)?;
+    pub fn are_consumed(alloc: Global) -> Option<bool> {
+        let tree = lex(alloc, "(a) 1u8 [", 0).ok()?;
         let mut iter = tree.iter();
-        Ok(consumes_the_group(&mut iter) && consumes_the_leaf(&mut iter))
+        let is_so = consumes_the_group(&mut iter)? && is_literal_next(iter.fork());
+        Some(is_so && next_leaf(&mut iter)?.len() == 1 && iter.remaining().len() == 1)
     }
 
-    #[test]
-    fn trees_are_consumed(rt: HostRuntime) {
-        holds(&rt, are_consumed(rt.alloc()).unwrap_or(false));
+    pub fn are_counted(alloc: Global) -> Option<bool> {
+        let tree = lex(alloc, "a (b + c) d", 0).ok()?;
+        let are_names = names(alloc, &tree).ok()?.as_slice() == ["a", "d"].as_slice();
+        Some(are_names && count_leaves(tree.view()) == 5)
     }
 
-    fn are_names(alloc: Global, tree: &TopSubtree, want: &[&str]) -> Result<bool, AllocError> {
-        Ok(names(alloc, tree)?.as_slice() == want)
-    }
-
-    fn are_counted(alloc: Global) -> Result<bool, LexError> {
-        let tree = lex(alloc, "a (b + c) d", 0)?;
-        Ok(are_names(alloc, &tree, &["a", "d"])? && count_leaves(tree.view()) == 5)
-    }
-
-    #[test]
-    fn names_and_leaves_are_counted(rt: HostRuntime) {
-        holds(&rt, are_counted(rt.alloc()).unwrap_or(false));
-    }
-
-    fn is_bracket_of_two(tree: &TopSubtree) -> bool {
-        match only_group(tree.view()) {
-            Some(group) => {
-                group.top_subtree().delimiter.kind == DelimiterKind::Bracket
-                    && group.iter().remaining().len() == 2
-            }
-            None => false,
-        }
-    }
-
-    fn is_looked_into(alloc: Global) -> Result<bool, LexError> {
-        let tree = lex(alloc, "[a b]", 0)?;
-        Ok(is_bracket_of_two(&tree))
-    }
-
-    #[test]
-    fn a_group_is_looked_into(rt: HostRuntime) {
-        holds(&rt, is_looked_into(rt.alloc()).unwrap_or(false));
+    pub fn is_looked_into(alloc: Global) -> Option<bool> {
+        let tree = lex(alloc, "[a b]", 0).ok()?;
+        let group = only_group(tree.view())?;
+        Some(
+            group.top_subtree().delimiter.kind == DelimiterKind::Bracket
+                && group.iter().remaining().len() == 2,
+        )
     }
 }

@@ -75,19 +75,17 @@ pub fn build_nothing<A: Allocator>(alloc: A, span: Span) -> Result<TopSubtree<A>
     TopSubtree::empty(alloc, DelimSpan::from_single(span))
 }
 
-mod tests {
+pub mod tests {
     use super::{build_both_or_none, build_call, build_group, build_nothing, word};
-    use crate::expansions::tests::holds;
     use mbe_text::lexer::lex;
     use mbe_text::printing::print_tree;
     use mbe_tt::span::Span;
     use mbe_tt::tt::{TokenTreesView, TopSubtree};
-    use std::alloc::{AllocError, Global};
+    use std::alloc::Global;
 
-    fn is_printed(alloc: Global, tree: &TopSubtree, want: &str) -> anyhow::Result<bool> {
+    fn is_printed(alloc: Global, tree: &TopSubtree, want: &str) -> bool {
         let mut out = Vec::new(alloc);
-        print_tree(tree, &mut out)?;
-        Ok(out.as_slice() == want.as_bytes())
+        print_tree(tree, &mut out).is_ok() && out.as_slice() == want.as_bytes()
     }
 
     const CALL: &str = "SUBTREE $$ 0@0..0 0@0..0
@@ -99,9 +97,9 @@ mod tests {
     PUNCH   + [alone] 1@3..4
 ";
 
-    fn is_call_built(alloc: Global, content: TokenTreesView<'_>) -> anyhow::Result<bool> {
-        let call = build_call(alloc, "f", content, Span::default())?;
-        is_printed(alloc, &call, CALL)
+    fn is_call_built(alloc: Global, content: TokenTreesView<'_>) -> Option<bool> {
+        let call = build_call(alloc, "f", content, Span::default()).ok()?;
+        Some(is_printed(alloc, &call, CALL))
     }
 
     const BOTH: &str = "SUBTREE $$ 0@0..0 0@0..0
@@ -111,21 +109,16 @@ mod tests {
   IDENT   g 0@0..0
 ";
 
-    fn are_both_built(alloc: Global, trees: TokenTreesView<'_>) -> anyhow::Result<bool> {
-        let last = word(alloc, "g", Span::default())?;
-        let both = build_both_or_none(alloc, trees, last, Span::default())?;
-        is_printed(alloc, &both, BOTH)
+    fn are_both_built(alloc: Global, trees: TokenTreesView<'_>) -> Option<bool> {
+        let last = word(alloc, "g", Span::default()).ok()?;
+        let both = build_both_or_none(alloc, trees, last, Span::default()).ok()?;
+        Some(is_printed(alloc, &both, BOTH))
     }
 
-    fn are_built(alloc: Global) -> anyhow::Result<bool> {
-        let argument = lex(alloc, "1 ++", 1)?;
+    pub fn are_built(alloc: Global) -> Option<bool> {
+        let argument = lex(alloc, "1 ++", 1).ok()?;
         let content = argument.iter().remaining();
-        Ok(is_call_built(alloc, content)? && are_both_built(alloc, content)?)
-    }
-
-    #[test]
-    fn trees_are_built(rt: HostRuntime) {
-        holds(&rt, are_built(rt.alloc()).unwrap_or(false));
+        Some(is_call_built(alloc, content)? && are_both_built(alloc, content)?)
     }
 
     const GROUP: &str = "SUBTREE $$ 0@0..0 0@0..0
@@ -134,26 +127,18 @@ mod tests {
   LITERAL Integer 1 1@0..1
 ";
 
-    fn group_of_a_word(alloc: Global, more: &TopSubtree) -> Result<TopSubtree, AllocError> {
+    fn group_of_a_word(alloc: Global) -> Option<TopSubtree> {
+        let more = lex(alloc, "1", 1).ok()?;
         let mut leaves = Vec::new(alloc);
-        leaves.push(word(alloc, "g", Span::default())?)?;
-        build_group(alloc, leaves, more, Span::default())
+        leaves.push(word(alloc, "g", Span::default()).ok()?).ok()?;
+        build_group(alloc, leaves, &more, Span::default()).ok()
     }
 
-    // Whether a copy is equal, and a group with nothing in it isn't.
-    fn is_copied(alloc: Global, group: &TopSubtree) -> Result<bool, AllocError> {
-        let nothing = build_nothing(alloc, Span::default())?;
-        Ok(group.try_clone()? == *group && nothing.iter().is_empty() && nothing != *group)
-    }
-
-    fn is_group_built(alloc: Global) -> anyhow::Result<bool> {
-        let more = lex(alloc, "1", 1)?;
-        let group = group_of_a_word(alloc, &more)?;
-        Ok(is_printed(alloc, &group, GROUP)? && is_copied(alloc, &group)?)
-    }
-
-    #[test]
-    fn groups_are_built(rt: HostRuntime) {
-        holds(&rt, is_group_built(rt.alloc()).unwrap_or(false));
+    // Whether it is printed so, a copy is equal, and a group with nothing in it isn't.
+    pub fn is_group_built(alloc: Global) -> Option<bool> {
+        let group = group_of_a_word(alloc)?;
+        let nothing = build_nothing(alloc, Span::default()).ok()?;
+        let is_so = is_printed(alloc, &group, GROUP) && nothing.iter().is_empty();
+        Some(is_so && nothing != group && group.try_clone().ok()? == group)
     }
 }

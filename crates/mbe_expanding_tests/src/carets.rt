@@ -2,10 +2,10 @@
 use mbe_diagnostics::diagnostic::{Diagnostic, Level, Point};
 use mbe_diagnostics::text::rendered;
 use std::alloc::{AllocError, Global};
-use test_rows::{Fields, Rows, Wrong, each, none, rows};
+use test_rows::{Fields, Rows, rows};
 
 // What the line has before the part, the part, and what is after it; how the line is shown; and what is below it.
-const ROWS: &str = rows![
+pub const ROWS: &str = rows![
     ("", "x", "", "x", "^"),
     ("ab ", "=>", " y", "ab => y", "   ^^"),
     ("ab", "", "", "ab", "  ^"),
@@ -48,7 +48,7 @@ fn said<'t>(
 
 // Lines of that number, which is as wide as the space.
 #[derive(Clone, Copy)]
-struct Carets(usize, &'static str);
+pub struct Carets(pub usize, pub &'static str);
 
 impl Rows for Carets {
     fn is_so(
@@ -66,30 +66,26 @@ impl Rows for Carets {
     }
 }
 
-#[test]
-fn the_carets_are_below_the_part(rt: HostRuntime) -> Result<(), Wrong> {
-    each(rt.alloc(), &Carets(7, " "), ROWS, 8)?;
-    each(rt.alloc(), &Carets(1024, "    "), ROWS, 8)
-}
-
-static LEVELS: [(Level, &str); 4] = [
-    (Level::Error, "\u{1b}[1;31merror"),
-    (Level::Warning, "\u{1b}[1;33mwarning"),
-    (Level::Note, "\u{1b}[1;32mnote"),
-    (Level::Help, "\u{1b}[1;36mhelp"),
+// The first letter of a level, and how it begins its line.
+pub const LEVELS: &str = rows![
+    ("e", "\u{1b}[1;31merror"),
+    ("w", "\u{1b}[1;33mwarning"),
+    ("n", "\u{1b}[1;32mnote"),
+    ("h", "\u{1b}[1;36mhelp"),
 ];
 
-fn is_coloured(alloc: Global, level: Level, word: &str) -> Result<bool, AllocError> {
-    let said = said(1, "x", "", "x", level);
-    let want = format!(in alloc; "{word}\u{1b}[0m: here\n --> a.rs:1:3\n  |\n1 | x\n  | ^\n")?;
-    Ok(rendered(alloc, &said, true)?.as_str() == want.as_str())
+fn level_of(letter: &str) -> Level {
+    match letter.as_bytes().first() {
+        Some(b'e') => Level::Error,
+        Some(b'w') => Level::Warning,
+        Some(b'n') => Level::Note,
+        _ => Level::Help,
+    }
 }
 
-#[test]
-fn the_level_has_a_colour(rt: HostRuntime) -> Result<(), Wrong> {
-    for &(level, word) in &LEVELS {
-        let is_so = is_coloured(rt.alloc(), level, word).unwrap_or(false);
-        none((!is_so).then_some(word))?;
-    }
-    Ok(())
+/// Whether the level has its colour.
+pub fn is_coloured(alloc: Global, letter: &str, word: &str) -> Result<bool, AllocError> {
+    let said = said(1, "x", "", "x", level_of(letter));
+    let want = format!(in alloc; "{word}\u{1b}[0m: here\n --> a.rs:1:3\n  |\n1 | x\n  | ^\n")?;
+    Ok(rendered(alloc, &said, true)?.as_str() == want.as_str())
 }

@@ -6,7 +6,7 @@ use mbe_cfg::predicate::Verdict;
 use mbe_cfg::settings::{Cfg, Settings};
 use mbe_cfg::targets::Target;
 use std::alloc::{AllocError, Global};
-use test_rows::{Fields, Rows, Wrong, each, holds, rows, spelled};
+use test_rows::{Fields, Rows, rows, spelled};
 
 static GIVEN: [Cfg<'static>; 2] = [
     Cfg {
@@ -22,7 +22,7 @@ static GIVEN: [Cfg<'static>; 2] = [
 static FEATURES: [&str; 1] = ["std"];
 
 // Attributes that are in order.
-const HOLD: &str = rows![
+pub const HOLD: &str = rows![
     ("", true),
     ("#[inline]", true),
     ("#[cfg(yes)]", true),
@@ -78,7 +78,7 @@ const HOLD: &str = rows![
 ];
 
 // Attributes that have a fault, the byte where it is, and what it is.
-const FAULTS: &str = rows![
+pub const FAULTS: &str = rows![
     ("#[cfg]", 2, "Malformed"),
     ("#[cfg = \"a\"]", 2, "Malformed"),
     ("#[cfg[yes]]", 2, "Malformed"),
@@ -133,7 +133,7 @@ fn is_verdict(alloc: Global, text: &str, want: &str) -> Result<bool, AllocError>
 }
 
 #[derive(Clone, Copy)]
-struct Holding;
+pub struct Holding;
 
 impl Rows for Holding {
     fn is_so(&self, alloc: Global, [text, holds, ..]: Fields) -> Result<bool, AllocError> {
@@ -142,13 +142,8 @@ impl Rows for Holding {
     }
 }
 
-#[test]
-fn attributes_hold_or_not(rt: HostRuntime) -> Result<(), Wrong> {
-    each(rt.alloc(), &Holding, HOLD, 46)
-}
-
 #[derive(Clone, Copy)]
-struct Faulted;
+pub struct Faulted;
 
 impl Rows for Faulted {
     fn is_so(&self, alloc: Global, [text, at, wrong, ..]: Fields) -> Result<bool, AllocError> {
@@ -157,20 +152,14 @@ impl Rows for Faulted {
     }
 }
 
-#[test]
-fn faults_have_places(rt: HostRuntime) -> Result<(), Wrong> {
-    each(rt.alloc(), &Faulted, FAULTS, 35)
-}
-
-// `not` in one another.
 fn is_deep(alloc: Global, text: &str, want: &str) -> Result<bool, AllocError> {
     is_verdict(alloc, spelled(alloc, text)?.as_str(), want)
 }
 
-#[test]
-fn predicates_are_so_deep_at_most(rt: HostRuntime) -> Result<(), Wrong> {
-    let deep = is_deep(rt.alloc(), "#[cfg(«126 not(»yes«126 )»)]", "true 0");
-    holds(deep)?;
-    let deeper = is_deep(rt.alloc(), "#[cfg(«128 not(»yes«128 )»)]", "518 TooDeep");
-    holds(deeper)
+/// Whether predicates are so deep at most, as `not` in one another.
+pub fn are_deep(alloc: Global) -> Result<bool, AllocError> {
+    Ok(
+        is_deep(alloc, "#[cfg(«126 not(»yes«126 )»)]", "true 0")?
+            && is_deep(alloc, "#[cfg(«128 not(»yes«128 )»)]", "518 TooDeep")?,
+    )
 }

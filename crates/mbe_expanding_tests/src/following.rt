@@ -5,11 +5,11 @@ use mbe_following::taking::{File, Wrong};
 use mbe_modules::places::Place;
 use mbe_tt::tt::TopSubtree;
 use std::alloc::{AllocError, Global};
-use test_rows::{Fields, Rows, Wrong as Failed, each, rows};
+use test_rows::{Fields, Rows, rows};
 
 // The files of a crate, of which the first is its root, each `PATH: TEXT` and a `|` after it; what the root's trees become; and
 // the modules in them without their files.
-const ROWS: &str = rows![
+pub const ROWS: &str = rows![
     ("src/lib.rs: fn f() {}", "fn f() {}", ""),
     (
         "src/lib.rs: mod a;|src/a.rs: fn f() {}",
@@ -199,9 +199,4 @@ impl Rows for Crates {
         let want = unspaced(alloc, &rust(alloc, want)?)?;
         Ok(unspaced(alloc, &tree)? == want && is_said(unfound.as_slice(), wrong))
     }
-}
-
-#[test]
-fn modules_are_followed(rt: HostRuntime) -> Result<(), Failed> {
-    each(rt.alloc(), &Crates, ROWS, 24)
 }

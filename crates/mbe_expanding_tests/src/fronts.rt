@@ -3,7 +3,7 @@ use crate::texts::read;
 use mbe_calls::calls::{Form, Front, attribute_at, binds, front_of, is_standard};
 use mbe_text::dialect::Dialect;
 use std::alloc::{AllocError, Global};
-use test_rows::{Fields, Rows, Wrong, each, holds, rows};
+use test_rows::{Fields, Rows, rows};
 
 // What is at the front: a word for it, the macro's name and the number of flat tokens after it.
 fn shown(alloc: Global, front: Front<'_>) -> Result<String, AllocError> {
@@ -30,7 +30,7 @@ fn shown(alloc: Global, front: Front<'_>) -> Result<String, AllocError> {
 }
 
 // A text, and what is at its front, as the Rust Reference says ("Macro Invocation", "Macros By Example").
-const ROWS: &str = rows![
+pub const ROWS: &str = rows![
     ("", "end"),
     ("a b", "tree 1"),
     ("a!(b c) d", "call a 2 1"),
@@ -58,7 +58,7 @@ const ROWS: &str = rows![
 ];
 
 #[derive(Clone, Copy)]
-struct Fronts;
+pub struct Fronts;
 
 impl Rows for Fronts {
     fn is_so(&self, alloc: Global, [text, want, ..]: Fields) -> Result<bool, AllocError> {
@@ -67,13 +67,8 @@ impl Rows for Fronts {
     }
 }
 
-#[test]
-fn what_is_at_the_front(rt: HostRuntime) -> Result<(), Wrong> {
-    each(rt.alloc(), &Fronts, ROWS, 24)
-}
-
 // A text, the name of the attribute at its front, and whether an operator is there.
-const BESIDE: &str = rows![
+pub const BESIDE: &str = rows![
     ("#[macro_use] mod a", "macro_use", false),
     ("#[derive(A)]", "derive", false),
     ("#![macro_use]", "", false),
@@ -87,7 +82,7 @@ const BESIDE: &str = rows![
 ];
 
 #[derive(Clone, Copy)]
-struct Beside;
+pub struct Beside;
 
 impl Rows for Beside {
     fn is_so(
@@ -102,13 +97,7 @@ impl Rows for Beside {
     }
 }
 
-#[test]
-fn attributes_and_operators(rt: HostRuntime) -> Result<(), Wrong> {
-    each(rt.alloc(), &Beside, BESIDE, 10)
-}
-
-#[test]
-fn standard_macros(rt: HostRuntime) -> Result<(), Wrong> {
-    holds(Ok(is_standard("vec") && is_standard("assert_eq")))?;
-    holds(Ok(!is_standard("stringify") && !is_standard("")))
+/// Whether the standard library's macros are known by name.
+pub fn are_standard() -> bool {
+    is_standard("vec") && is_standard("assert_eq") && !is_standard("stringify") && !is_standard("")
 }

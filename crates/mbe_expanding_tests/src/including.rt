@@ -1,10 +1,9 @@
 // Crates of a few files: what the trees of their root become, where files are included and paths are added.
-use crate::following::Crates;
-use test_rows::{Wrong, each, rows};
+use test_rows::rows;
 
 // The files of a crate, of which the first is its root, each `PATH: TEXT` and a `|` after it; what the root's trees become; and
 // what is in them without its file.
-const ROWS: &str = rows![
+pub const ROWS: &str = rows![
     (
         "src/lib.rs: a include!(\"b.rs\"); c|src/b.rs: d",
         "a include!(\"b.rs\"); c",
@@ -96,8 +95,3 @@ const ROWS: &str = rows![
         "",
     ),
 ];
-
-#[test]
-fn files_are_included(rt: HostRuntime) -> Result<(), Wrong> {
-    each(rt.alloc(), &Crates, ROWS, 18)
-}

@@ -23,6 +23,8 @@ mod splicing;
 #[cfg(test)]
 mod stripping;
 #[cfg(test)]
+mod tables;
+#[cfg(test)]
 mod targets;
 #[cfg(test)]
 mod texts;

@@ -3,11 +3,11 @@ use mbe_modules::choice::{Choice, chosen};
 use mbe_modules::paths::join;
 use mbe_modules::places::{Candidates, Place};
 use std::alloc::{AllocError, Global};
-use test_rows::{Fields, Rows, Wrong, each, holds, rows};
+use test_rows::{Fields, Rows, rows};
 
 // A folder, a file's own name or nothing, the inline modules around, each `name` or `name=path`, and the module, in the
 // same way; then the candidates.
-const ROWS: &str = rows![
+pub const ROWS: &str = rows![
     ("src", "", "", "a", "src/a.rs src/a/mod.rs"),
     ("", "", "", "a", "a.rs a/mod.rs"),
     ("/", "", "", "a", "/a.rs /a/mod.rs"),
@@ -33,7 +33,7 @@ const ROWS: &str = rows![
 ];
 
 // The same in files that modules of files are in, each after a `>`.
-const IN_FILES: &str = rows![
+pub const IN_FILES: &str = rows![
     ("src", "", ">a", "b", "src/a/b.rs src/a/b/mod.rs"),
     ("src", "", ">a >b", "c", "src/a/b/c.rs src/a/b/c/mod.rs"),
     ("src", "", ">a >b", "c=d.rs", "src/a/d.rs"),
@@ -85,7 +85,7 @@ fn is_shown(alloc: Global, place: &Place, module: &str, want: &str) -> Result<bo
 }
 
 #[derive(Clone, Copy)]
-struct Modules;
+pub struct Modules;
 
 impl Rows for Modules {
     fn is_so(
@@ -101,14 +101,8 @@ impl Rows for Modules {
     }
 }
 
-#[test]
-fn modules_have_files(rt: HostRuntime) -> Result<(), Wrong> {
-    each(rt.alloc(), &Modules, ROWS, 16)?;
-    each(rt.alloc(), &Modules, IN_FILES, 4)
-}
-
 // A file that modules are in, the file's own name or nothing, and the candidates of `mod a;` in it.
-const FILES: &str = rows![
+pub const FILES: &str = rows![
     ("src/lib.rs", "", "src/a.rs src/a/mod.rs"),
     ("src/b.rs", "b", "src/b/a.rs src/b/a/mod.rs"),
     ("src/b/mod.rs", "", "src/b/a.rs src/b/a/mod.rs"),
@@ -118,7 +112,7 @@ const FILES: &str = rows![
 ];
 
 #[derive(Clone, Copy)]
-struct Files;
+pub struct Files;
 
 impl Rows for Files {
     fn is_so(&self, alloc: Global, [path, own, want, ..]: Fields) -> Result<bool, AllocError> {
@@ -127,20 +121,14 @@ impl Rows for Files {
     }
 }
 
-#[test]
-fn files_have_modules(rt: HostRuntime) -> Result<(), Wrong> {
-    each(rt.alloc(), &Files, FILES, 6)
-}
-
-fn is_joined(alloc: Global) -> Result<bool, AllocError> {
-    Ok(join(alloc, "a/", "b")?.as_str() == "a/b")
-}
-
-#[test]
-fn one_of_two_is_taken(rt: HostRuntime) -> Result<(), Wrong> {
-    holds(Ok(chosen(true, false) == Choice::Beside))?;
-    holds(Ok(chosen(false, true) == Choice::Nested))?;
-    holds(Ok(chosen(true, true) == Choice::Both))?;
-    holds(Ok(chosen(false, false) == Choice::Missing))?;
-    holds(is_joined(rt.alloc()))
+/// Whether one of two files is taken, and paths are joined.
+pub fn are_chosen(alloc: Global) -> Result<bool, AllocError> {
+    let is_joined = join(alloc, "a/", "b")?.as_str() == "a/b";
+    Ok(
+        is_joined
+            && chosen(true, false) == Choice::Beside
+            && chosen(false, true) == Choice::Nested
+            && chosen(true, true) == Choice::Both
+            && chosen(false, false) == Choice::Missing,
+    )
 }

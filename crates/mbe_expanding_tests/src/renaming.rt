@@ -7,10 +7,10 @@ use mbe_tt::span::{Span, SyntaxContext};
 use mbe_tt::symbol::Symbol;
 use mbe_tt::tt::{Ident, Leaf, Literal, TopSubtree, TopSubtreeBuilder, TtElement};
 use std::alloc::{AllocError, Global};
-use test_rows::{Fields, Rows, Wrong, each, number, rows};
+use test_rows::{Fields, Rows, number, rows};
 
 // A text, what it becomes, and how many places aren't decided. Around the text is the name `outside`.
-const ROWS: &str = rows![
+pub const ROWS: &str = rows![
     // A `let` of a template beside the caller's name.
     ("{ let a = 1; a__0 + a }", "{ let a_1 = 1; a + a_1 }", 0),
     // No other token has the name.
@@ -409,7 +409,7 @@ fn renamed(alloc: Global, text: &str) -> Result<Renamed, AllocError> {
 }
 
 #[derive(Clone, Copy)]
-struct Renaming;
+pub struct Renaming;
 
 impl Rows for Renaming {
     fn is_so(
@@ -420,9 +420,4 @@ impl Rows for Renaming {
         let got = renamed(alloc, text)?;
         Ok(got.undecided.len() == number(undecided) && is_written(alloc, &got.tree, want)?)
     }
-}
-
-#[test]
-fn names_are_kept_apart(rt: HostRuntime) -> Result<(), Wrong> {
-    each(rt.alloc(), &Renaming, ROWS, 65)
 }

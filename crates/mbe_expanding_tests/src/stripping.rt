@@ -8,7 +8,7 @@ use mbe_stripping::stripping::strip;
 use mbe_tt::span::Edition;
 use mbe_tt::tt::TopSubtree;
 use std::alloc::{AllocError, Global};
-use test_rows::{Fields, Rows, Wrong as Failed, each, holds, rows};
+use test_rows::{Fields, Rows, rows};
 
 static GIVEN: [Cfg<'static>; 1] = [Cfg {
     name: "yes",
@@ -16,7 +16,7 @@ static GIVEN: [Cfg<'static>; 1] = [Cfg {
 }];
 
 // A text, and what stays of it.
-const ROWS: &str = rows![
+pub const ROWS: &str = rows![
     ("#[cfg(yes)] fn f() {} m!();", "#[cfg(yes)] fn f() {} m!();"),
     ("#[cfg(no)] fn f() { a!(); } m!();", "m!();"),
     ("#[cfg(no)] use a::{b, c}; m!();", "m!();"),
@@ -121,7 +121,7 @@ fn stripped(alloc: Global, tree: &TopSubtree) -> Result<(TopSubtree, Vec<Fault>)
 
 // Whether that stays of a text, and nothing is wrong in it.
 #[derive(Clone, Copy)]
-struct Stays;
+pub struct Stays;
 
 impl Rows for Stays {
     fn is_so(&self, alloc: Global, [text, want, ..]: Fields) -> Result<bool, AllocError> {
@@ -130,12 +130,9 @@ impl Rows for Stays {
     }
 }
 
-#[test]
-fn what_is_off_is_left_out(rt: HostRuntime) -> Result<(), Failed> {
-    each(rt.alloc(), &Stays, ROWS, 38)
-}
-
-fn are_left(alloc: Global, text: &str) -> Result<bool, AllocError> {
+/// Whether faults leave what they are on.
+pub fn are_left(alloc: Global) -> Result<bool, AllocError> {
+    let text = "#[inline] #[cfg(a b)] fn f() {} #[cfg(a(b))] m!();";
     let tree = rust(alloc, text)?;
     let (stays, faults) = stripped(alloc, &tree)?;
     let is_so = match faults.as_slice() {
@@ -143,10 +140,4 @@ fn are_left(alloc: Global, text: &str) -> Result<bool, AllocError> {
         _ => false,
     };
     Ok(is_so && stays == tree)
-}
-
-#[test]
-fn faults_leave_what_they_are_on(rt: HostRuntime) -> Result<(), Failed> {
-    let text = "#[inline] #[cfg(a b)] fn f() {} #[cfg(a(b))] m!();";
-    holds(are_left(rt.alloc(), text))
 }

@@ -3,13 +3,14 @@ use crate::texts::{RUST, read, written};
 use mbe_rust_text::writing::Writer;
 use mbe_text::dialect::Dialect;
 use mbe_text::scanner::file_span;
+use mbe_tt::span::Span;
 use mbe_tt::symbol::Symbol;
 use mbe_tt::tt::{
     Delimiter, DelimiterKind, Ident, IdentIsRaw, Leaf, LitKind, Literal, Punct, Spacing,
     TopSubtree, TopSubtreeBuilder,
 };
 use std::alloc::{AllocError, Global};
-use test_rows::{Fields, Rows, Wrong, each, holds, rows, spelled};
+use test_rows::{Fields, Rows, rows, spelled};
 
 // Writes the trees of these texts, with a `~` between two, each as one of a file of its own.
 fn write(
@@ -30,7 +31,7 @@ fn write(
 
 // Texts of several files, with a `~` between two, and what their trees are as one text. Tokens that are side by side in a file are so
 // here; any other two that would be read as one, or as others, are kept apart.
-const ROWS: &str = rows![
+pub const ROWS: &str = rows![
     ("", ""),
     ("a::b(c)[0].d!", "a::b(c)[0].d!"),
     ("a~b", "a b"),
@@ -67,7 +68,7 @@ const ROWS: &str = rows![
 
 // Doc comments stay, those of several lines as blocks; an attribute that somebody wrote is one, and a block's text that is of one line is
 // written in one.
-const COMMENTS: &str = rows![
+pub const COMMENTS: &str = rows![
     ("/// a", "/// a\n"),
     ("///\nb", "///\nb"),
     ("/// a\nb", "/// a\nb"),
@@ -109,7 +110,7 @@ const COMMENTS: &str = rows![
 ];
 
 // Dots beside numbers and other literals, where a number could go on, and lifetimes beside puncts. In 2021.
-const DOTS: &str = rows![
+pub const DOTS: &str = rows![
     ("1 .a", "1 .a"),
     ("1. a", "1. a"),
     ("1..2", "1..2"),
@@ -145,7 +146,7 @@ fn is_text(
 }
 
 #[derive(Clone, Copy)]
-struct Written(Dialect);
+pub struct Written(pub Dialect);
 
 impl Rows for Written {
     fn is_so(&self, alloc: Global, [texts, want, ..]: Fields) -> Result<bool, AllocError> {
@@ -153,18 +154,8 @@ impl Rows for Written {
     }
 }
 
-#[test]
-fn tokens_are_kept_apart(rt: HostRuntime) -> Result<(), Wrong> {
-    each(rt.alloc(), &Written(Dialect::Sample), ROWS, 32)
-}
-
-#[test]
-fn comments_are_comments(rt: HostRuntime) -> Result<(), Wrong> {
-    each(rt.alloc(), &Written(RUST), COMMENTS, 32)
-}
-
 // Texts with a `"` before many `#`; no raw string holds so many as the last two.
-const HASHES: &str = rows![
+pub const HASHES: &str = rows![
     ("/*! \"\n*/\n/** a \"\n */\n/// \"\nb"),
     ("/*! \"#\n*/\n/** a \"#\n */\n/// \"#\nb"),
     ("/*! \"«254 #»\n*/\n/** a \"«254 #»\n */\n/// \"«254 #»\nb"),
@@ -173,7 +164,7 @@ const HASHES: &str = rows![
 ];
 
 #[derive(Clone, Copy)]
-struct Same;
+pub struct Same;
 
 impl Rows for Same {
     fn is_so(&self, alloc: Global, [text, ..]: Fields) -> Result<bool, AllocError> {
@@ -182,14 +173,8 @@ impl Rows for Same {
     }
 }
 
-// What is written is the text that was lexed.
-#[test]
-fn a_comment_has_any_text(rt: HostRuntime) -> Result<(), Wrong> {
-    each(rt.alloc(), &Same, HASHES, 5)
-}
-
 // Texts of which the lexer makes no doc comment of several lines, but for the first two.
-const TEXTS: &str = rows![
+pub const TEXTS: &str = rows![
     ("a\n", "/**a\n*/\n"),
     ("a\n*", "/**a\n**/\n"),
     ("a\n*/", "#[doc = r\"a\n*/\"]"),
@@ -202,39 +187,49 @@ const TEXTS: &str = rows![
     ("a\r\n", "#[doc = r\"a\r\n\"]"),
 ];
 
-// Trees as the lexer makes them of a doc comment, with one place.
-fn doc_of(alloc: Global, text: &str) -> Result<TopSubtree, AllocError> {
-    let span = file_span(0, 0, 9);
-    let spacing = Spacing::Alone;
-    let mut builder = TopSubtreeBuilder::new(alloc, Delimiter::invisible_spanned(span))?;
+fn place() -> Span {
+    file_span(0, 0, 9)
+}
+
+fn push_punct(builder: &mut TopSubtreeBuilder, char: char) -> Result<(), AllocError> {
     builder.push(Leaf::Punct(Punct {
-        char: '#',
-        spacing,
-        span,
-    }))?;
-    builder.open(DelimiterKind::Bracket, span)?;
+        char,
+        spacing: Spacing::Alone,
+        span: place(),
+    }))
+}
+
+fn push_word(builder: &mut TopSubtreeBuilder, alloc: Global, word: &str) -> Result<(), AllocError> {
     builder.push(Leaf::Ident(Ident {
-        sym: Symbol::intern(alloc, "doc")?,
+        sym: Symbol::intern(alloc, word)?,
         is_raw: IdentIsRaw::No,
-        span,
-    }))?;
-    builder.push(Leaf::Punct(Punct {
-        char: '=',
-        spacing,
-        span,
-    }))?;
+        span: place(),
+    }))
+}
+
+fn push_text(builder: &mut TopSubtreeBuilder, alloc: Global, text: &str) -> Result<(), AllocError> {
     builder.push(Leaf::Literal(Literal {
         text_and_suffix: Symbol::intern(alloc, text)?,
         suffix_len: 0,
         kind: LitKind::StrRaw(0),
-        span,
-    }))?;
-    builder.close(span);
+        span: place(),
+    }))
+}
+
+// Trees as the lexer makes them of a doc comment, with one place.
+fn doc_of(alloc: Global, text: &str) -> Result<TopSubtree, AllocError> {
+    let mut builder = TopSubtreeBuilder::new(alloc, Delimiter::invisible_spanned(place()))?;
+    push_punct(&mut builder, '#')?;
+    builder.open(DelimiterKind::Bracket, place())?;
+    push_word(&mut builder, alloc, "doc")?;
+    push_punct(&mut builder, '=')?;
+    push_text(&mut builder, alloc, text)?;
+    builder.close(place());
     Ok(builder.build())
 }
 
 #[derive(Clone, Copy)]
-struct Docs;
+pub struct Docs;
 
 impl Rows for Docs {
     fn is_so(&self, alloc: Global, [text, want, ..]: Fields) -> Result<bool, AllocError> {
@@ -242,18 +237,9 @@ impl Rows for Docs {
     }
 }
 
-#[test]
-fn a_text_of_no_comment_is_an_attribute(rt: HostRuntime) -> Result<(), Wrong> {
-    each(rt.alloc(), &Docs, TEXTS, 10)
-}
-
-#[test]
-fn dots_stay(rt: HostRuntime) -> Result<(), Wrong> {
-    each(rt.alloc(), &Written(RUST), DOTS, 20)
-}
-
-// `1.a` is three tokens, of which the first two, before a group of another file, would be the number `1.`.
-fn is_number_and_dot(alloc: Global) -> Result<bool, AllocError> {
+/// Whether a number is kept from a dot: `1.a` is three tokens, of which the first two, before a group of another file, would be the
+/// number `1.`.
+pub fn is_number_and_dot(alloc: Global) -> Result<bool, AllocError> {
     let tree = read(alloc, Dialect::Sample, "1.a", 0)?;
     let mut writer = Writer::new(alloc, 0);
     let mut iter = tree.iter();
@@ -266,13 +252,8 @@ fn is_number_and_dot(alloc: Global) -> Result<bool, AllocError> {
     Ok(writer.into_text().as_str() == "1 .(2)")
 }
 
-#[test]
-fn a_number_before_a_dot(rt: HostRuntime) -> Result<(), Wrong> {
-    holds(is_number_and_dot(rt.alloc()))
-}
-
-#[test]
-fn lines_are_indented(rt: HostRuntime) -> Result<(), Wrong> {
+/// Whether lines are indented.
+pub fn are_indented(alloc: Global) -> Result<bool, AllocError> {
     let want = "a;\n    {\n        b;\n        c\n    }";
-    holds(is_text(rt.alloc(), (Dialect::Sample, 1), "a;~{b; c}", want))
+    is_text(alloc, (Dialect::Sample, 1), "a;~{b; c}", want)
 }

@@ -1,10 +1,9 @@
 // Calls beside operators, groups and statements: what an expansion is put in so that the text means what the call meant. Worked out by
 // hand, by the precedences of the Rust Reference.
-use crate::runs::none;
-use crate::texts::{Row, first_unlike};
+use test_rows::rows;
 
 // A definition, what follows it, and what that becomes.
-static ROWS: [Row; 17] = [
+pub(crate) const ROWS: &str = rows![
     (
         "m { ($x:expr) => { |y| y + $x } }",
         "f = m!(1)(2);",
@@ -91,12 +90,3 @@ static ROWS: [Row; 17] = [
         "let x: V<u8> = y; [V<u8>; 2]",
     ),
 ];
-
-fn rows() -> &'static [Row] {
-    &ROWS
-}
-
-#[test]
-fn operands_stay_whole(rt: HostRuntime) {
-    none(&rt, first_unlike(rt.alloc(), rows()));
-}

@@ -1,10 +1,8 @@
 // Names that hygiene keeps apart. Which ones these are was worked out by the rules of hygiene.
-use crate::runs::none;
-use crate::texts::{Row, becomes, defined, first_unlike, noted};
-use std::alloc::{AllocError, Global};
+use test_rows::rows;
 
 // A definition, a call of it, and the notes: each with the byte of the call's line, or of the definition's (from 0), where it is.
-static ROWS: [Row; 13] = [
+pub(crate) const ROWS: &str = rows![
     (
         "m { ($x:ident) => { let $x = 1; a + $x } }",
         "m!(a);",
@@ -49,32 +47,9 @@ static ROWS: [Row; 13] = [
     ("m { ($x:expr) => { fn f(a: u8) { a } $x } }", "m!(a);", ""),
 ];
 
-fn rows() -> &'static [Row] {
-    &ROWS
-}
-
-fn is_noted(alloc: Global, &(rules, call, want): &Row) -> Result<bool, AllocError> {
-    let text = defined(alloc, rules, call)?;
-    Ok(noted(alloc, text.as_str())?.as_str() == want)
-}
-
-fn first_other(alloc: Global, rows: &[Row]) -> Result<Option<&'static str>, AllocError> {
-    for row in rows {
-        if !is_noted(alloc, row)? {
-            return Ok(Some(row.0));
-        }
-    }
-    Ok(None)
-}
-
-#[test]
-fn captures_are_noted(rt: HostRuntime) {
-    none(&rt, first_other(rt.alloc(), rows()));
-}
-
 // A definition, what follows it, and what that becomes: locals and labels of the macro have names of their own where others have
 // theirs. Where the text has white space is the writer's choice.
-static RENAMED: [Row; 16] = [
+pub(crate) const RENAMED: &str = rows![
     (
         "m { ($x:expr) => {{ let a = 1; a + $x }} }",
         "y = m!(a);",
@@ -157,22 +132,14 @@ static RENAMED: [Row; 16] = [
     ),
 ];
 
-fn renamed() -> &'static [Row] {
-    &RENAMED
-}
-
-#[test]
-fn locals_are_told_apart(rt: HostRuntime) {
-    none(&rt, first_unlike(rt.alloc(), renamed()));
-}
-
-// The example of docs/EXPANDM.md.
-static SWAP_SUM: &str = "\
+// The example of docs/EXPANDM.md: a text, and what it becomes.
+pub(crate) const EXAMPLES: &str = rows![(
+    "\
 macro_rules! swap_sum { ($x:expr, $y:expr) => {{ let a = $x; let b = $y; b - a }}; }
 fn f(a: i32) -> i32 { swap_sum!(a, swap_sum!(1, 2)) }
-";
-
-static SWAPPED: &str = "\
+",
+    "\
+macro_rules! swap_sum { ($x:expr, $y:expr) => {{ let a = $x; let b = $y; b - a }}; }
 fn f(a: i32) -> i32 { {
     let a_1 = a;
     let b_1 = ({
@@ -182,16 +149,5 @@ fn f(a: i32) -> i32 { {
     });
     b_1 - a_1
 } }
-";
-
-fn unswapped(alloc: Global) -> Result<Option<&'static str>, AllocError> {
-    let (rules, _) = SWAP_SUM.split_once('\n').unwrap_or(("", ""));
-    let want = format!(in alloc; "{rules}\n{SWAPPED}")?;
-    let is_so = becomes(alloc, "--depth 9", SWAP_SUM, (want.as_str(), 0))?;
-    Ok((!is_so).then_some(SWAP_SUM))
-}
-
-#[test]
-fn the_example_is_expanded(rt: HostRuntime) {
-    none(&rt, unswapped(rt.alloc()));
-}
+",
+)];

@@ -1,14 +1,14 @@
 // What is reported of calls beside errors: what rules say of them, steps, and where tokens are from. Where each rule stops, what it
 // wants there, what its variables took, and where each token is from was worked out by hand.
-use crate::reports::{notes_of, number_at, text_at};
-use crate::runs::{holds, none, reported};
-use crate::texts::{Row, defined};
+use crate::reports::{notes_of, objects_of};
+use crate::runs::reported;
+use crate::texts::defined;
 use mbe_expandm::saying::Form;
-use serde_json::Value;
 use std::alloc::{AllocError, Global};
+use test_rows::rows;
 
 // A definition, a call of it in the next line, and what its rules say: each note with its line and column.
-static ROWS: [Row; 18] = [
+pub(crate) const ROWS: &str = rows![
     (
         "m { ($($x:expr),*) => {} }",
         "m!(1, 2,);",
@@ -115,39 +115,27 @@ static ROWS: [Row; 18] = [
     ),
 ];
 
-fn rows() -> &'static [Row] {
-    &ROWS
-}
-
 // The notes on a definition and a call of it, by these words.
-fn notes_on(alloc: Global, words: &str, (rules, call): (&str, &str)) -> Result<String, AllocError> {
+fn notes_on(alloc: Global, words: &str, rules: &str, call: &str) -> Result<String, AllocError> {
     let text = defined(alloc, rules, call)?;
     let reports = reported(alloc, words, text.as_str(), Form::Text)?;
     notes_of(alloc, reports.as_str())
 }
 
-fn is_said(alloc: Global, &(rules, call, want): &Row) -> Result<bool, AllocError> {
-    let notes = notes_on(alloc, "--explain 2:1", (rules, call))?;
+/// Whether the rules say that of a call.
+pub(crate) fn is_said(
+    alloc: Global,
+    rules: &str,
+    call: &str,
+    want: &str,
+) -> Result<bool, AllocError> {
+    let notes = notes_on(alloc, "--explain 2:1 a.rs", rules, call)?;
     Ok(notes.as_str() == want)
-}
-
-fn first_unsaid(alloc: Global, rows: &[Row]) -> Result<Option<&'static str>, AllocError> {
-    for row in rows {
-        if !is_said(alloc, row)? {
-            return Ok(Some(row.0));
-        }
-    }
-    Ok(None)
-}
-
-#[test]
-fn rules_say_what_they_want(rt: HostRuntime) {
-    none(&rt, first_unsaid(rt.alloc(), rows()));
 }
 
 // A definition, a call of it in the next line, and where each token of each expansion is from, in the order of the steps; a group is
 // where it opens. An expression with operators is in parentheses, which are where its variable is.
-static ORIGINS: [Row; 4] = [
+pub(crate) const ORIGINS: &str = rows![
     (
         "m { ($x:ident) => { fn $x() {} } }",
         "m!(a);",
@@ -166,10 +154,6 @@ static ORIGINS: [Row; 4] = [
     ("m { ($($x:ident)*) => { $(struct $x;)* } }", "m!();", ""),
 ];
 
-fn origins() -> &'static [Row] {
-    &ORIGINS
-}
-
 // A note is `PLACE MESSAGE`; of one on a token, the place and the token.
 fn push_token(note: &str, found: &mut String) -> Result<(), AllocError> {
     match note.split_once(" in the expansion of `m!`") {
@@ -186,27 +170,19 @@ fn tokens_of(alloc: Global, notes: &str) -> Result<String, AllocError> {
     Ok(found)
 }
 
-fn are_from(alloc: Global, &(rules, call, want): &Row) -> Result<bool, AllocError> {
-    let notes = notes_on(alloc, "--origin", (rules, call))?;
+/// Whether the tokens of a call's expansion are from there.
+pub(crate) fn are_from(
+    alloc: Global,
+    rules: &str,
+    call: &str,
+    want: &str,
+) -> Result<bool, AllocError> {
+    let notes = notes_on(alloc, "--origin a.rs", rules, call)?;
     Ok(tokens_of(alloc, notes.as_str())?.as_str() == want)
 }
 
-fn first_elsewhere(alloc: Global, rows: &[Row]) -> Result<Option<&'static str>, AllocError> {
-    for row in rows {
-        if !are_from(alloc, row)? {
-            return Ok(Some(row.0));
-        }
-    }
-    Ok(None)
-}
-
-#[test]
-fn tokens_say_where_they_are_from(rt: HostRuntime) {
-    none(&rt, first_elsewhere(rt.alloc(), origins()));
-}
-
 // A definition, a call of it in the next line, and what rustc 1.95 notes of it under `trace_macros`, but for line breaks, each at its call.
-static STEPS: [Row; 3] = [
+pub(crate) const STEPS: &str = rows![
     (
         "m { ($x:ident) => { fn $x() {} } }",
         "m!(a);",
@@ -225,10 +201,6 @@ static STEPS: [Row; 3] = [
     ),
 ];
 
-fn steps() -> &'static [Row] {
-    &STEPS
-}
-
 // How tokens are spaced is no matter of theirs.
 fn without_spaces(alloc: Global, text: &str) -> Result<String, AllocError> {
     text.replace(alloc, " ", "")
@@ -239,32 +211,27 @@ fn are_equal_but_for_spaces(alloc: Global, one: &str, other: &str) -> Result<boo
     Ok(without_spaces(alloc, other)?.as_str() == one.as_str())
 }
 
-fn are_steps(alloc: Global, &(rules, call, want): &Row) -> Result<bool, AllocError> {
-    let notes = notes_on(alloc, "--trace", (rules, call))?;
+/// Whether these are the steps of a call.
+pub(crate) fn are_steps(
+    alloc: Global,
+    rules: &str,
+    call: &str,
+    want: &str,
+) -> Result<bool, AllocError> {
+    let notes = notes_on(alloc, "--trace a.rs", rules, call)?;
     are_equal_but_for_spaces(alloc, notes.as_str(), want)
 }
 
-fn first_in_other_words(alloc: Global, rows: &[Row]) -> Result<Option<&'static str>, AllocError> {
-    for row in rows {
-        if !are_steps(alloc, row)? {
-            return Ok(Some(row.0));
-        }
-    }
-    Ok(None)
-}
-
-#[test]
-fn steps_are_in_the_words_of_rustc(rt: HostRuntime) {
-    none(&rt, first_in_other_words(rt.alloc(), steps()));
-}
-
-// The example of docs/EXPANDM.md.
-static PAIR: &str = "\
+// Words, a file, and what is reported of it: the example of docs/EXPANDM.md, and wide characters, which take two columns, where tabs
+// take four.
+pub(crate) const REPORTS: &str = rows![
+    (
+        "--explain 2:13 a.rs",
+        "\
 macro_rules! pair { ($k:ident => $v:expr) => {}; ($k:ident = $v:expr) => {}; }
 fn main() { pair!(a -> 1); pair!(b = 2 + 3); }
-";
-
-static FIRST: &str = "\
+",
+        "\
 error: expected punct: `=>` in the call of `pair!`
  --> a.rs:2:21
   |
@@ -290,96 +257,83 @@ note: `=` in rule 2 of `pair!`
   |
 1 | macro_rules! pair { ($k:ident => $v:expr) => {}; ($k:ident = $v:expr) => {}; }
   |                                                            ^
-";
-
-static SECOND: &str = "\
-2:36 rule 1 of `pair!` doesn't go on here: it wants `=>`; 1:31 `=>` in rule 1 of `pair!`; \
-2:43 rule 2 of `pair!` fits; 1:52 `$k:ident` in rule 2 of `pair!` took `b`; \
-1:63 `$v:expr` in rule 2 of `pair!` took `2 + 3`; ";
-
-// Whether that is reported of a text by these words.
-fn is_reported(alloc: Global, words: &str, text: &str, want: &str) -> Result<bool, AllocError> {
-    Ok(reported(alloc, words, text, Form::Text)?.as_str() == want)
-}
-
-// Whether these are the notes on the example by these words.
-fn has_notes(alloc: Global, words: &str, want: &str) -> Result<bool, AllocError> {
-    let reports = reported(alloc, words, PAIR, Form::Text)?;
-    Ok(notes_of(alloc, reports.as_str())?.as_str() == want)
-}
-
-#[test]
-fn the_documented_call_is_explained(rt: HostRuntime) {
-    holds(&rt, is_reported(rt.alloc(), "--explain 2:13", PAIR, FIRST));
-    holds(&rt, has_notes(rt.alloc(), "--explain 3", ""));
-    holds(&rt, has_notes(rt.alloc(), "--explain 2:28", SECOND));
-}
-
-// Wide characters take two columns, tabs four.
-static WIDE: &str = "\
+",
+    ),
+    (
+        "--explain 9 a.rs",
+        "macro_rules! m { (a) => {} }\n\tx(\"\u{6f22}\", m!(b));",
+        "\
 error: unexpected token in input in the call of `m!`
  --> a.rs:2:12
   |
 2 |     x(\"\u{6f22}\", m!(b));
   |                ^
-";
-
-#[test]
-fn carets_are_below_the_token(rt: HostRuntime) {
-    let text = "macro_rules! m { (a) => {} }\n\tx(\"\u{6f22}\", m!(b));";
-    holds(&rt, is_reported(rt.alloc(), "--explain 9", text, WIDE));
-}
-
-// A file whose lines end with carriage returns, too: bytes are those of the file as it is.
-type Object = (&'static str, (u64, u64, u64, u64));
-
-static OBJECTS: [Object; 3] = [
-    (
-        "unexpected token in input in the call of `m!`",
-        (2, 4, 33, 34),
+",
     ),
-    (
-        "rule 1 of `m!` doesn't go on here: it wants `a`",
-        (2, 4, 33, 34),
-    ),
-    ("`a` in rule 1 of `m!`", (1, 19, 18, 19)),
 ];
 
-// The lines and columns of an object's place, and its bytes.
-fn place_in(object: &Value) -> (u64, u64, u64, u64) {
+// Words, the file of the example, and the notes on it.
+pub(crate) const NOTES: &str = rows![
     (
-        number_at(object, "/spans/0/line_start"),
-        number_at(object, "/spans/0/column_start"),
-        number_at(object, "/spans/0/byte_start"),
-        number_at(object, "/spans/0/byte_end"),
-    )
+        "--explain 3 a.rs",
+        "\
+macro_rules! pair { ($k:ident => $v:expr) => {}; ($k:ident = $v:expr) => {}; }
+fn main() { pair!(a -> 1); pair!(b = 2 + 3); }
+",
+        "",
+    ),
+    (
+        "--explain 2:28 a.rs",
+        "\
+macro_rules! pair { ($k:ident => $v:expr) => {}; ($k:ident = $v:expr) => {}; }
+fn main() { pair!(a -> 1); pair!(b = 2 + 3); }
+",
+        "\
+2:36 rule 1 of `pair!` doesn't go on here: it wants `=>`; 1:31 `=>` in rule 1 of `pair!`; \
+2:43 rule 2 of `pair!` fits; 1:52 `$k:ident` in rule 2 of `pair!` took `b`; \
+1:63 `$v:expr` in rule 2 of `pair!` took `2 + 3`; ",
+    ),
+];
+
+// Words, a file, and its objects. Where its lines end with carriage returns, too, bytes are those of the file as it is.
+pub(crate) const OBJECTS: &str = rows![(
+    "--explain 2 a.rs",
+    "macro_rules! m { (a) => {} }\r\nm!(b);",
+    "\
+2:4 33..34 error: unexpected token in input in the call of `m!`
+2:4 33..34 note: rule 1 of `m!` doesn't go on here: it wants `a`
+1:19 18..19 note: `a` in rule 1 of `m!`
+",
+)];
+
+/// Whether that is reported of a file by these words.
+pub(crate) fn is_reported(
+    alloc: Global,
+    words: &str,
+    text: &str,
+    want: &str,
+) -> Result<bool, AllocError> {
+    Ok(reported(alloc, words, text, Form::Text)?.as_str() == want)
 }
 
-// Whether an object says that, at that line, that column, and from that byte to that one.
-fn says(alloc: Global, object: &str, &(message, place): &Object) -> bool {
-    match Value::from_str(alloc, object) {
-        Ok(value) => text_at(&value, "/message") == message && place_in(&value) == place,
-        Err(_) => false,
-    }
+/// Whether these are the notes on a file by these words.
+pub(crate) fn has_notes(
+    alloc: Global,
+    words: &str,
+    text: &str,
+    want: &str,
+) -> Result<bool, AllocError> {
+    let reports = reported(alloc, words, text, Form::Text)?;
+    Ok(notes_of(alloc, reports.as_str())?.as_str() == want)
 }
 
-fn are_objects(alloc: Global, reports: &str) -> bool {
-    let mut objects = reports.lines();
-    for object in &OBJECTS {
-        if !says(alloc, objects.next().unwrap_or(""), object) {
-            return false;
-        }
-    }
-    objects.next().is_none()
-}
-
-fn is_in_json(alloc: Global) -> Result<bool, AllocError> {
-    let text = "macro_rules! m { (a) => {} }\r\nm!(b);";
-    let reports = reported(alloc, "--explain 2", text, Form::Json)?;
-    Ok(are_objects(alloc, reports.as_str()))
-}
-
-#[test]
-fn reports_are_objects(rt: HostRuntime) {
-    holds(&rt, is_in_json(rt.alloc()));
+/// Whether these are the objects that are reported of a file by these words.
+pub(crate) fn has_objects(
+    alloc: Global,
+    words: &str,
+    text: &str,
+    want: &str,
+) -> Result<bool, AllocError> {
+    let reports = reported(alloc, words, text, Form::Json)?;
+    Ok(objects_of(alloc, reports.as_str())?.as_str() == want)
 }

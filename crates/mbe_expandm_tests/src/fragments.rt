@@ -1,11 +1,10 @@
 // What a fragment is to rustc, which keeps it whole, and calls of macros that are built in. Worked out by hand, and by what rustc 1.95
 // makes of such calls: `u8 < 1` after `as` begins generic arguments, `stringify!` shows no parentheses that the argument doesn't have,
 // `concat!` takes none, and `line!()` and `column!()` are the place of the outermost call.
-use crate::runs::none;
-use crate::texts::{Row, first_unlike};
+use test_rows::rows;
 
 // A definition, what follows it, and what that becomes.
-static TYPES: [Row; 6] = [
+pub(crate) const TYPES: &str = rows![
     (
         "m { ($x:expr, $t:ty) => { $x as $t << 1 } }",
         "x = m!(y, u32);",
@@ -39,16 +38,7 @@ static TYPES: [Row; 6] = [
     ),
 ];
 
-fn types() -> &'static [Row] {
-    &TYPES
-}
-
-#[test]
-fn types_stay_whole(rt: HostRuntime) {
-    none(&rt, first_unlike(rt.alloc(), types()));
-}
-
-static BUILTINS: [Row; 6] = [
+pub(crate) const BUILTINS: &str = rows![
     (
         "m { ($x:expr) => { stringify!(a($x + 1), $x) } }",
         "x = m!(1 + 2); x = m!((1));",
@@ -81,12 +71,3 @@ static BUILTINS: [Row; 6] = [
         "x = stringify!(line!());",
     ),
 ];
-
-fn builtins() -> &'static [Row] {
-    &BUILTINS
-}
-
-#[test]
-fn builtin_macros_are_called_there(rt: HostRuntime) {
-    none(&rt, first_unlike(rt.alloc(), builtins()));
-}

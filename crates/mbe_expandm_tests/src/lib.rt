@@ -12,6 +12,8 @@ mod explained;
 #[cfg(test)]
 mod fragments;
 #[cfg(test)]
+mod kinds;
+#[cfg(test)]
 mod linted;
 #[cfg(test)]
 mod modules;

@@ -1,15 +1,15 @@
 // What is said of definitions alone. Where a row's messages are errors, rustc 1.95 reports them with these words at these places, but
 // for its `is followed by`; the specifiers that are similar are those that it names for fields of these names. The rest was worked
 // out by hand.
-use crate::reports::{messages_of, text_at};
-use crate::runs::{holds, none, one_text, words_of_one};
+use crate::reports::{messages_of, objects_of};
+use crate::runs::{one_text, words_of};
 use mbe_expandm::arguments::{Asked, read_words};
 use mbe_expandm::linting::{Linted, lint};
 use mbe_expandm::saying::{Form, add_lints};
 use mbe_expandm::sessions::Named;
 use mbe_lints::nearest::nearest;
-use serde_json::Value;
 use std::alloc::{AllocError, Global};
+use test_rows::rows;
 
 fn linted<'f>(
     alloc: Global,
@@ -31,15 +31,13 @@ fn reports_of(alloc: Global, form: Form, of: &Linted<'_>) -> Result<(String, u8)
 // What is reported of a file, and the status.
 fn reported(alloc: Global, text: &str, form: Form) -> Result<(String, u8), AllocError> {
     let texts = one_text(alloc, text)?;
-    let words = words_of_one(alloc, "--edition 2021 --lint")?;
+    let words = words_of(alloc, "--edition 2021 --lint a.rs")?;
     let linted = linted(alloc, &words, &texts)?;
     reports_of(alloc, form, &linted)
 }
 
 // A file, and what is said of its definitions.
-type Row = (&'static str, &'static str);
-
-static FIRST: [Row; 15] = [
+pub(crate) const DEFINITIONS: &str = rows![
     ("", ""),
     (
         "#[cfg(windows)] macro_rules! m { ($x:ident $x:ident) => { $x } }",
@@ -100,13 +98,6 @@ static FIRST: [Row; 15] = [
         "1:26 error: `$v:vis` may be followed by `+`, which is not allowed for `vis` fragments; \
             1:19 note: allowed there are: `,`, an ident or a type; ",
     ),
-];
-
-fn first() -> &'static [Row] {
-    &FIRST
-}
-
-static SECOND: [Row; 11] = [
     (
         "macro_rules! m { ($($x:ident)*) => { $x } }",
         "1:38 error: variable `x` is still repeating at this depth; \
@@ -164,38 +155,20 @@ static SECOND: [Row; 11] = [
     ),
 ];
 
-fn second() -> &'static [Row] {
-    &SECOND
-}
-
 // The messages on a file, and the status.
 fn messages_on(alloc: Global, text: &str) -> Result<(String, u8), AllocError> {
     let (reports, status) = reported(alloc, text, Form::Text)?;
     Ok((messages_of(alloc, reports.as_str())?, status))
 }
 
-fn is_reported_on(alloc: Global, &(text, want): &Row) -> Result<bool, AllocError> {
+/// Whether that is said of a file, with the status of errors where anything is.
+pub(crate) fn is_reported_on(alloc: Global, text: &str, want: &str) -> Result<bool, AllocError> {
     let (messages, status) = messages_on(alloc, text)?;
     Ok(messages.as_str() == want && (status == 0) == want.is_empty())
 }
 
-fn first_other(alloc: Global, rows: &[Row]) -> Result<Option<&'static str>, AllocError> {
-    for row in rows {
-        if !is_reported_on(alloc, row)? {
-            return Ok(Some(row.0));
-        }
-    }
-    Ok(None)
-}
-
-#[test]
-fn definitions_are_reported_on(rt: HostRuntime) {
-    none(&rt, first_other(rt.alloc(), first()));
-    none(&rt, first_other(rt.alloc(), second()));
-}
-
 // A definition of `m!`, and which of its rules no call reaches, each with its place and the earlier rule that takes what it takes.
-static UNREACHED: [Row; 15] = [
+pub(crate) const UNREACHED: &str = rows![
     (
         "macro_rules! m { (a $x:ty) => { $x }; (a $y:ty) => { $y } }",
         "1:39 by 1; ",
@@ -252,10 +225,6 @@ static UNREACHED: [Row; 15] = [
     ("macro_rules! m { attr() (a) => {}; (a) => {} }", ""),
 ];
 
-fn unreached() -> &'static [Row] {
-    &UNREACHED
-}
-
 // Of a message that no call reaches a rule, where the rule is, and the number of the earlier one.
 fn earlier(message: &str) -> Option<(&str, &str)> {
     let (place, rest) = message.split_once(" warning: no call reaches this rule: rule ")?;
@@ -279,60 +248,68 @@ fn unreached_of(alloc: Global, messages: &str) -> Result<String, AllocError> {
     Ok(found)
 }
 
-fn is_unreached(alloc: Global, &(text, want): &Row) -> Result<bool, AllocError> {
+/// Whether just those rules of a file's definition are reached by no call.
+pub(crate) fn is_unreached(alloc: Global, text: &str, want: &str) -> Result<bool, AllocError> {
     let (messages, _) = messages_on(alloc, text)?;
     Ok(unreached_of(alloc, messages.as_str())?.as_str() == want)
 }
 
-fn first_reached(alloc: Global, rows: &[Row]) -> Result<Option<&'static str>, AllocError> {
-    for row in rows {
-        if !is_unreached(alloc, row)? {
-            return Ok(Some(row.0));
-        }
-    }
-    Ok(None)
-}
-
-#[test]
-fn rules_beyond_reach_are_found(rt: HostRuntime) {
-    none(&rt, first_reached(rt.alloc(), unreached()));
-}
-
 // An unknown specifier, and the field that rustc 1.95 names for it, if it does, where a struct has the specifiers as its fields, in its
-// order; of a table the proof costs much more than of a text.
-const SIMILAR: &str = "\
-exp expr, ide, tokentree, t ty, type, pat_ pat, pattern, itm item, vs vis, viz vis, lit, \
-lifetme lifetime, lifetimes lifetime, blok block, EXPR expr, Ident ident, literl literal, \
-pathh path, met meta, stm stmt, expr_20 expr_2021, pat_parm pat_param, x, ti ty, \
-expression, tts tt, identifier, tpe, epxr expr, idnet ident, vsi vis, expr2021 expr_2021, \
-patparam pat_param, statement, atem item, TT tt, expr_2024 expr_2021, pa pat, visibility, \
-paht pat";
+// order.
+pub(crate) const SIMILAR: &str = rows![
+    ("exp", "expr"),
+    ("ide", ""),
+    ("tokentree", ""),
+    ("t", "ty"),
+    ("type", ""),
+    ("pat_", "pat"),
+    ("pattern", ""),
+    ("itm", "item"),
+    ("vs", "vis"),
+    ("viz", "vis"),
+    ("lit", ""),
+    ("lifetme", "lifetime"),
+    ("lifetimes", "lifetime"),
+    ("blok", "block"),
+    ("EXPR", "expr"),
+    ("Ident", "ident"),
+    ("literl", "literal"),
+    ("pathh", "path"),
+    ("met", "meta"),
+    ("stm", "stmt"),
+    ("expr_20", "expr_2021"),
+    ("pat_parm", "pat_param"),
+    ("x", ""),
+    ("ti", "ty"),
+    ("expression", ""),
+    ("tts", "tt"),
+    ("identifier", ""),
+    ("tpe", ""),
+    ("epxr", "expr"),
+    ("idnet", "ident"),
+    ("vsi", "vis"),
+    ("expr2021", "expr_2021"),
+    ("patparam", "pat_param"),
+    ("statement", ""),
+    ("atem", "item"),
+    ("TT", "tt"),
+    ("expr_2024", "expr_2021"),
+    ("pa", "pat"),
+    ("visibility", ""),
+    ("paht", "pat"),
+];
 
-fn is_similar(alloc: Global, name: &str, want: &str) -> Result<bool, AllocError> {
+/// Whether that is the specifier with a similar name.
+pub(crate) fn is_similar(alloc: Global, name: &str, want: &str) -> Result<bool, AllocError> {
     Ok(nearest(alloc, name)?.unwrap_or("") == want)
 }
 
-fn first_unsimilar(alloc: Global) -> Result<Option<&'static str>, AllocError> {
-    for row in SIMILAR.split(", ") {
-        let (name, want) = row.split_once(' ').unwrap_or((row, ""));
-        if !is_similar(alloc, name, want)? {
-            return Ok(Some(row));
-        }
-    }
-    Ok(None)
-}
-
-#[test]
-fn similar_specifiers_are_those_of_rustc(rt: HostRuntime) {
-    none(&rt, first_unsimilar(rt.alloc()));
-}
-
-// The example of docs/EXPANDM.md.
-static DOCUMENTED: &str = "\
+// The example of docs/EXPANDM.md: a file, what is reported of it, and the objects of the same reports.
+pub(crate) const EXAMPLES: &str = rows![(
+    "\
 macro_rules! each { ($($x:exp),* $y:ident) => { $x }; }
-";
-
-static REPORTED: &str = "\
+",
+    "\
 error: invalid fragment specifier `exp`
  --> a.rs:1:24
   |
@@ -368,44 +345,28 @@ note: bound at depth 1, and used at depth 0
   |
 1 | macro_rules! each { ($($x:exp),* $y:ident) => { $x }; }
   |                        ^^^^^^
-";
+",
+    "\
+1:24 23..29 error: invalid fragment specifier `exp`
+1:27 26..29 help: a fragment specifier with a similar name exists: `expr`
+1:27 26..29 help: valid fragment specifiers are `ident`, `block`, `stmt`, `expr`, `pat`, `ty`, `lifetime`, `literal`, \
+`path`, `meta`, `tt`, `item` and `vis`, along with `expr_2021` and `pat_param` for edition compatibility
+1:34 33..41 warning: unused macro variable: `$y`
+1:34 33..41 help: if this is intentional, prefix it with an underscore: `$_y`
+1:49 48..50 error: variable `x` is still repeating at this depth
+1:24 23..29 note: bound at depth 1, and used at depth 0
+",
+)];
 
-fn is_documented(alloc: Global) -> Result<bool, AllocError> {
-    let (reports, status) = reported(alloc, DOCUMENTED, Form::Text)?;
-    Ok(reports.as_str() == REPORTED && status == 1)
-}
-
-#[test]
-fn the_documented_definition_is_reported_on(rt: HostRuntime) {
-    holds(&rt, is_documented(rt.alloc()));
-}
-
-// The levels of the objects of the same reports.
-static LEVELS: [&str; 7] = ["error", "help", "help", "warning", "help", "error", "note"];
-
-fn has_level(alloc: Global, object: &str, level: &str) -> bool {
-    match Value::from_str(alloc, object) {
-        Ok(value) => text_at(&value, "/level") == level,
-        Err(_) => false,
-    }
-}
-
-fn have_levels(alloc: Global, reports: &str) -> bool {
-    let mut objects = reports.lines();
-    for level in LEVELS {
-        if !has_level(alloc, objects.next().unwrap_or(""), level) {
-            return false;
-        }
-    }
-    objects.next().is_none()
-}
-
-fn is_in_json(alloc: Global) -> Result<bool, AllocError> {
-    let (reports, _) = reported(alloc, DOCUMENTED, Form::Json)?;
-    Ok(have_levels(alloc, reports.as_str()))
-}
-
-#[test]
-fn reports_of_definitions_are_objects(rt: HostRuntime) {
-    holds(&rt, is_in_json(rt.alloc()));
+/// Whether that is reported of a file with errors, and the objects are those.
+pub(crate) fn is_documented(
+    alloc: Global,
+    text: &str,
+    want: &str,
+    objects: &str,
+) -> Result<bool, AllocError> {
+    let (reports, status) = reported(alloc, text, Form::Text)?;
+    let is_so = reports.as_str() == want && status == 1;
+    let (reports, _) = reported(alloc, text, Form::Json)?;
+    Ok(is_so && objects_of(alloc, reports.as_str())?.as_str() == objects)
 }

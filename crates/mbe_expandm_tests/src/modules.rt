@@ -1,13 +1,12 @@
 // What the files of crates become whose modules are in files.
-use crate::runs::{none, notes_len, texts_of, words_of, written};
+use crate::runs::{notes_len, texts_of, words_of, written};
 use mbe_expandm::targets::relative;
 use std::alloc::{AllocError, Global};
+use test_rows::{number, rows};
 
 // Words, of which the last is a crate's root; files, that one first, each `PATH: TEXT` and a `|` after it; what they become, a `|` after
 // each; and how many notes there are.
-type Row = (&'static str, &'static str, &'static str, usize);
-
-static ROWS: [Row; 19] = [
+pub(crate) const ROWS: &str = rows![
     (
         "src/lib.rs",
         "src/lib.rs: macro_rules! m { () => { 1 } } mod a; x = m!();|src/a.rs: y = m!();",
@@ -124,10 +123,6 @@ static ROWS: [Row; 19] = [
     ),
 ];
 
-fn rows() -> &'static [Row] {
-    &ROWS
-}
-
 // The texts, with a `|` after each.
 fn joined(alloc: Global, texts: &[String]) -> Result<String, AllocError> {
     let mut all = String::new(alloc);
@@ -138,32 +133,22 @@ fn joined(alloc: Global, texts: &[String]) -> Result<String, AllocError> {
     Ok(all)
 }
 
-fn is_crate(alloc: Global, &(words, row, want, notes): &Row) -> Result<bool, AllocError> {
+/// Whether the files become those by these words, with so many notes.
+pub(crate) fn is_crate(
+    alloc: Global,
+    words: &str,
+    row: &str,
+    (want, notes): (&str, &str),
+) -> Result<bool, AllocError> {
     let words = words_of(alloc, words)?;
     let texts = texts_of(alloc, row)?;
     let (session, texts) = written(alloc, &words, &texts)?;
-    let is_counted = notes_len(&session) == notes;
+    let is_counted = notes_len(&session) == number(notes);
     Ok(joined(alloc, &texts)?.as_str() == want && is_counted)
 }
 
-fn first_other(alloc: Global, rows: &[Row]) -> Result<Option<&'static str>, AllocError> {
-    for row in rows {
-        if !is_crate(alloc, row)? {
-            return Ok(Some(row.1));
-        }
-    }
-    Ok(None)
-}
-
-#[test]
-fn crates_are_expanded(rt: HostRuntime) {
-    none(&rt, first_other(rt.alloc(), rows()));
-}
-
 // A folder, the path of a file, and the path from the folder on; `none` if the file isn't below it.
-type Target = (&'static str, &'static str, &'static str);
-
-static TARGETS: [Target; 12] = [
+pub(crate) const TARGETS: &str = rows![
     ("src", "src/a.rs", "a.rs"),
     ("src", "src/a/b/mod.rs", "a/b/mod.rs"),
     ("", "a/b.rs", "a/b.rs"),
@@ -178,27 +163,15 @@ static TARGETS: [Target; 12] = [
     ("", "/b.rs", "none"),
 ];
 
-fn targets() -> &'static [Target] {
-    &TARGETS
-}
-
-fn is_target(alloc: Global, &(folder, path, want): &Target) -> Result<bool, AllocError> {
+/// Whether the path of the file from the folder on is that.
+pub(crate) fn is_target(
+    alloc: Global,
+    folder: &str,
+    path: &str,
+    want: &str,
+) -> Result<bool, AllocError> {
     match relative(alloc, folder, path)? {
         Some(target) => Ok(target.as_str() == want),
         None => Ok(want == "none"),
     }
-}
-
-fn first_elsewhere(alloc: Global, rows: &[Target]) -> Result<Option<&'static str>, AllocError> {
-    for row in rows {
-        if !is_target(alloc, row)? {
-            return Ok(Some(row.1));
-        }
-    }
-    Ok(None)
-}
-
-#[test]
-fn files_are_written_below_a_folder(rt: HostRuntime) {
-    none(&rt, first_elsewhere(rt.alloc(), targets()));
 }

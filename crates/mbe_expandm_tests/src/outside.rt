@@ -1,13 +1,12 @@
 // What calls of macros of other crates become.
-use crate::runs::{none, notes_len, texts_of, words_of, written};
+use crate::runs::{notes_len, texts_of, words_of, written};
 use mbe_expandm::sessions::Named;
 use std::alloc::{AllocError, Global};
+use test_rows::{number, rows};
 
 // Words; files, each `PATH: TEXT` with a `|` between them, the one that the words name first, and then the roots of other crates; what
 // the first file becomes; and how many notes there are.
-type Row = (&'static str, &'static str, &'static str, usize);
-
-static ROWS: [Row; 25] = [
+pub(crate) const ROWS: &str = rows![
     (
         "--extern maths=maths.rs a.rs",
         "a.rs: use maths::squares;
@@ -164,10 +163,6 @@ const A: [u32; 2] = [::maths::square(3), ::maths::square(4)];",
     ),
 ];
 
-fn rows() -> &'static [Row] {
-    &ROWS
-}
-
 // Whether the first of these texts is that one, and the others are as they were.
 fn are_texts(texts: &[String], files: &[Named], want: &str) -> bool {
     match (texts, files) {
@@ -182,24 +177,16 @@ fn are_texts(texts: &[String], files: &[Named], want: &str) -> bool {
     }
 }
 
-fn is_expanded(alloc: Global, &(words, row, want, notes): &Row) -> Result<bool, AllocError> {
+/// Whether the first file becomes that by these words, the others stay, and there are so many notes.
+pub(crate) fn is_expanded(
+    alloc: Global,
+    words: &str,
+    row: &str,
+    (want, notes): (&str, &str),
+) -> Result<bool, AllocError> {
     let words = words_of(alloc, words)?;
     let files = texts_of(alloc, row)?;
     let (session, texts) = written(alloc, &words, &files)?;
-    let is_counted = notes_len(&session) == notes;
+    let is_counted = notes_len(&session) == number(notes);
     Ok(are_texts(texts.as_slice(), files.as_slice(), want) && is_counted)
-}
-
-fn first_other(alloc: Global, rows: &[Row]) -> Result<Option<&'static str>, AllocError> {
-    for row in rows {
-        if !is_expanded(alloc, row)? {
-            return Ok(Some(row.1));
-        }
-    }
-    Ok(None)
-}
-
-#[test]
-fn macros_of_other_crates_are_expanded(rt: HostRuntime) {
-    none(&rt, first_other(rt.alloc(), rows()));
 }

@@ -1,12 +1,10 @@
 // Lines and columns of a text's bytes.
-use crate::runs::none;
 use mbe_expandm::lines::Lines;
 use std::alloc::{AllocError, Global};
+use test_rows::{number, rows};
 
 // A text, a byte of it, the line and the column of that, and the line's text.
-type Row = (&'static str, usize, usize, usize, &'static str);
-
-static ROWS: [Row; 14] = [
+pub(crate) const ROWS: &str = rows![
     ("", 0, 1, 1, ""),
     ("", 9, 1, 1, ""),
     ("abc", 0, 1, 1, "abc"),
@@ -23,26 +21,14 @@ static ROWS: [Row; 14] = [
     ("a\r\nb\r\n", 2, 2, 1, "b"),
 ];
 
-fn rows() -> &'static [Row] {
-    &ROWS
-}
-
-fn is_place(alloc: Global, &(text, offset, line, column, shown): &Row) -> Result<bool, AllocError> {
+/// Whether the byte of the text has that line and column, and the line that text.
+pub(crate) fn is_place(
+    alloc: Global,
+    (text, offset): (&str, &str),
+    (line, column): (&str, &str),
+    shown: &str,
+) -> Result<bool, AllocError> {
     let lines = Lines::of(alloc, text)?;
-    let place = lines.place_of(offset);
-    Ok((place.line, place.column) == (line, column) && place.text == shown)
-}
-
-fn first_other(alloc: Global, rows: &[Row]) -> Result<Option<&'static str>, AllocError> {
-    for row in rows {
-        if !is_place(alloc, row)? {
-            return Ok(Some(row.0));
-        }
-    }
-    Ok(None)
-}
-
-#[test]
-fn bytes_have_places(rt: HostRuntime) {
-    none(&rt, first_other(rt.alloc(), rows()));
+    let place = lines.place_of(number(offset));
+    Ok((place.line, place.column) == (number(line), number(column)) && place.text == shown)
 }

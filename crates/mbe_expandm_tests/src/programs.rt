@@ -1,10 +1,9 @@
 // Programs with each kind of fragment, with repetitions, and with calls in calls. What they become was worked out by hand, by the
 // rules of macros; where the text has white space is the writer's choice.
-use crate::runs::none;
-use crate::texts::{Row, first_unlike};
+use test_rows::rows;
 
 // A definition, what follows it, and what that becomes.
-static ROWS: [Row; 20] = [
+pub(crate) const ROWS: &str = rows![
     (
         "m { ($b:block) => { $b }; }",
         "fn f() -> u8 m!({ 1 })",
@@ -102,12 +101,3 @@ static ROWS: [Row; 20] = [
         "a\r\n\u{e9} /* m!(1) */ 2\r\n",
     ),
 ];
-
-fn rows() -> &'static [Row] {
-    &ROWS
-}
-
-#[test]
-fn programs_are_expanded(rt: HostRuntime) {
-    none(&rt, first_unlike(rt.alloc(), rows()));
-}

@@ -74,15 +74,41 @@ pub(crate) fn messages_of(alloc: Global, reports: &str) -> Result<String, AllocE
     Ok(said)
 }
 
-/// The text at a path in an object, or `none`.
-pub(crate) fn text_at<'v>(value: &'v Value, path: &str) -> &'v str {
+// The text at a path in an object, or `none`.
+fn text_at<'v>(value: &'v Value, path: &str) -> &'v str {
     value
         .pointer(path)
         .and_then(Value::as_str)
         .unwrap_or("none")
 }
 
-/// The number at a path in an object, or 999.
-pub(crate) fn number_at(value: &Value, path: &str) -> u64 {
+// The number at a path in an object, or 999.
+fn number_at(value: &Value, path: &str) -> u64 {
     value.pointer(path).and_then(Value::as_u64).unwrap_or(999)
+}
+
+// Adds the level and the message of an object, its line and column, and its bytes.
+fn push_object(value: &Value, said: &mut String) -> Result<(), AllocError> {
+    let (line, column) = (
+        number_at(value, "/spans/0/line_start"),
+        number_at(value, "/spans/0/column_start"),
+    );
+    let (start, end) = (
+        number_at(value, "/spans/0/byte_start"),
+        number_at(value, "/spans/0/byte_end"),
+    );
+    let (level, message) = (text_at(value, "/level"), text_at(value, "/message"));
+    writeln!(said, "{line}:{column} {start}..{end} {level}: {message}")
+}
+
+/// The objects of reports, one in each line.
+pub(crate) fn objects_of(alloc: Global, reports: &str) -> Result<String, AllocError> {
+    let mut said = String::new(alloc);
+    for object in reports.lines() {
+        match Value::from_str(alloc, object) {
+            Ok(value) => push_object(&value, &mut said)?,
+            Err(_) => said.push_str("no object\n")?,
+        }
+    }
+    Ok(said)
 }

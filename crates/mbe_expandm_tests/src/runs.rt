@@ -4,17 +4,6 @@ use mbe_expandm::expansions::{Wanted, root_text};
 use mbe_expandm::saying::{Form, add_reports};
 use mbe_expandm::sessions::{Named, Session, write};
 use std::alloc::{AllocError, Global};
-use std::process::Abort;
-
-/// No row is otherwise. A failure shows the first that is.
-pub(crate) fn none(rt: &impl Abort, wrong: Result<Option<&'static str>, AllocError>) {
-    assert!(rt; matches!(wrong, Ok(None)), "{wrong:?}");
-}
-
-/// Something is so.
-pub(crate) fn holds(rt: &impl Abort, is_so: Result<bool, AllocError>) {
-    assert!(rt; matches!(is_so, Ok(true)), "{is_so:?}");
-}
 
 /// The words of a text, with white space between them.
 pub(crate) fn words_of(alloc: Global, text: &str) -> Result<Vec<String>, AllocError> {
@@ -22,13 +11,6 @@ pub(crate) fn words_of(alloc: Global, text: &str) -> Result<Vec<String>, AllocEr
     for word in text.split_whitespace() {
         words.push(String::from_str(alloc, word)?)?;
     }
-    Ok(words)
-}
-
-/// These words, and the file `a.rs`.
-pub(crate) fn words_of_one(alloc: Global, text: &str) -> Result<Vec<String>, AllocError> {
-    let mut words = words_of(alloc, text)?;
-    words.push(String::from_str(alloc, "a.rs")?)?;
     Ok(words)
 }
 
@@ -97,7 +79,7 @@ pub(crate) fn ran<'f>(
     words: &str,
     texts: &'f [Named],
 ) -> Result<(Session<'f>, String), AllocError> {
-    let words = words_of_one(alloc, words)?;
+    let words = words_of(alloc, words)?;
     let mut session = begun(alloc, &words, texts)?;
     let text = root_of(alloc, &mut session)?;
     Ok((session, text))

@@ -1,11 +1,9 @@
 // What a file's text becomes.
-use crate::runs::{none, notes_len, one_text, ran};
+use crate::runs::{notes_len, one_text, ran};
 use mbe_expanding::notes::Note;
 use mbe_expandm::sessions::Session;
 use std::alloc::{AllocError, Global};
-
-/// A definition, what follows it, and what comes of both.
-pub(crate) type Row = (&'static str, &'static str, &'static str);
+use test_rows::{number, rows};
 
 /// The text of a definition and what follows it in the next line.
 pub(crate) fn defined(alloc: Global, rules: &str, rest: &str) -> Result<String, AllocError> {
@@ -38,11 +36,22 @@ fn notes_in(alloc: Global, text: &str, of: &Session<'_>) -> Result<String, Alloc
     Ok(said)
 }
 
-/// The notes on a text's expansions.
-pub(crate) fn noted(alloc: Global, text: &str) -> Result<String, AllocError> {
+// The notes on a text's expansions.
+fn noted(alloc: Global, text: &str) -> Result<String, AllocError> {
     let texts = one_text(alloc, text)?;
-    let (session, _) = ran(alloc, "--depth 9", &texts)?;
+    let (session, _) = ran(alloc, "--depth 9 a.rs", &texts)?;
     notes_in(alloc, text, &session)
+}
+
+/// Whether these are the notes on a definition and a call of it.
+pub(crate) fn is_noted(
+    alloc: Global,
+    rules: &str,
+    call: &str,
+    want: &str,
+) -> Result<bool, AllocError> {
+    let text = defined(alloc, rules, call)?;
+    Ok(noted(alloc, text.as_str())?.as_str() == want)
 }
 
 /// Whether a text becomes that by these words, with so many notes.
@@ -57,75 +66,54 @@ pub(crate) fn becomes(
     Ok(found.as_str() == want && notes_len(&session) == notes)
 }
 
-fn is_like(alloc: Global, &(rules, rest, want): &Row) -> Result<bool, AllocError> {
+/// Whether a definition and what follows it become what the row says, and nothing is noted.
+pub(crate) fn is_like(
+    alloc: Global,
+    rules: &str,
+    rest: &str,
+    want: &str,
+) -> Result<bool, AllocError> {
     let text = defined(alloc, rules, rest)?;
     let want = defined(alloc, rules, want)?;
-    becomes(alloc, "--depth 9", text.as_str(), (want.as_str(), 0))
-}
-
-/// The first definition that, with what follows it, doesn't become what the row says, or on which something is noted.
-pub(crate) fn first_unlike(
-    alloc: Global,
-    rows: &[Row],
-) -> Result<Option<&'static str>, AllocError> {
-    for row in rows {
-        if !is_like(alloc, row)? {
-            return Ok(Some(row.1));
-        }
-    }
-    Ok(None)
+    becomes(alloc, "--depth 9 a.rs", text.as_str(), (want.as_str(), 0))
 }
 
 const M: &str = "macro_rules! m { () => { m!(1) }; (1) => { 1 } }\n";
 
 // What follows the definition of `m`, the words that say how deep its calls are expanded, what it becomes, and how many notes there are.
-type Counted = (&'static str, &'static str, &'static str, usize);
-
-static ROWS: [Counted; 12] = [
-    ("", "--depth 9", "", 0),
-    ("f(m);  // m!()", "--depth 9", "f(m);  // m!()", 0),
-    ("x = m!();", "--depth 9", "x = 1;", 0),
-    ("x = m!();", "--depth 1", "x = m!(1);", 0),
-    ("x = m!() ; y = m![1]", "--depth 9", "x = 1 ; y = 1", 0),
-    ("x = m!(2);", "--depth 9", "x = m!(2);", 1),
-    ("x = n!(m!());", "--depth 9", "x = n!(m!());", 0),
-    ("x = vec![m!(), 2];", "--depth 9", "x = vec![1, 2];", 0),
-    ("x = a::m!();", "--depth 9", "x = a::m!();", 0),
+pub(crate) const ROWS: &str = rows![
+    ("", "--depth 9 a.rs", "", 0),
+    ("f(m);  // m!()", "--depth 9 a.rs", "f(m);  // m!()", 0),
+    ("x = m!();", "--depth 9 a.rs", "x = 1;", 0),
+    ("x = m!();", "--depth 1 a.rs", "x = m!(1);", 0),
+    ("x = m!() ; y = m![1]", "--depth 9 a.rs", "x = 1 ; y = 1", 0),
+    ("x = m!(2);", "--depth 9 a.rs", "x = m!(2);", 1),
+    ("x = n!(m!());", "--depth 9 a.rs", "x = n!(m!());", 0),
+    ("x = vec![m!(), 2];", "--depth 9 a.rs", "x = vec![1, 2];", 0),
+    ("x = a::m!();", "--depth 9 a.rs", "x = a::m!();", 0),
     (
         "{ macro_rules! n { () => { 2 } } n!() } n!()",
-        "--depth 9",
+        "--depth 9 a.rs",
         "{ macro_rules! n { () => { 2 } } 2 } n!()",
         0,
     ),
     (
         "macro_rules! d { () => { d!() } } d!()",
-        "--depth 3",
+        "--depth 3 a.rs",
         "macro_rules! d { () => { d!() } } d!()",
         1,
     ),
-    ("\"", "--depth 9", "\"", 1),
+    ("\"", "--depth 9 a.rs", "\"", 1),
 ];
 
-fn rows() -> &'static [Counted] {
-    &ROWS
-}
-
-fn is_expanded(alloc: Global, &(rest, words, want, notes): &Counted) -> Result<bool, AllocError> {
+/// Whether that becomes of what follows the definition of `m`, with so many notes.
+pub(crate) fn is_expanded(
+    alloc: Global,
+    rest: &str,
+    words: &str,
+    (want, notes): (&str, &str),
+) -> Result<bool, AllocError> {
     let text = format!(in alloc; "{M}{rest}")?;
     let want = format!(in alloc; "{M}{want}")?;
-    becomes(alloc, words, text.as_str(), (want.as_str(), notes))
-}
-
-fn first_other(alloc: Global, rows: &[Counted]) -> Result<Option<&'static str>, AllocError> {
-    for row in rows {
-        if !is_expanded(alloc, row)? {
-            return Ok(Some(row.0));
-        }
-    }
-    Ok(None)
-}
-
-#[test]
-fn texts_are_expanded(rt: HostRuntime) {
-    none(&rt, first_other(rt.alloc(), rows()));
+    becomes(alloc, words, text.as_str(), (want.as_str(), number(notes)))
 }

@@ -4,11 +4,11 @@ use mbe_errors::error::SyntaxFault;
 use mbe_faults::rules::{PartFault, Refusal, RulesFault, read_one_rule, read_rules};
 use mbe_tt::span::Edition;
 use std::alloc::{AllocError, Global};
-use test_rows::{Fields, Rows, Wrong, each, holds, rows};
+use test_rows::{Fields, Rows, rows};
 
 // Rules that `;` separates; the fault, the number of the rules before it, and the number of flat tokens before it.
 // A punct, an opening and a closing are a flat token each, so `=>` is two.
-const FAULTS: &str = rows![
+pub const FAULTS: &str = rows![
     // The trees of a rule.
     ("a", "ExpectedSubtree", 0, 0),
     ("()", "ExpectedEquals", 0, 2),
@@ -60,7 +60,7 @@ const FAULTS: &str = rows![
 ];
 
 // A repetition that can read nothing and has no separator; its group's place.
-const EMPTY: &str = rows![
+pub const EMPTY: &str = rows![
     ("($()*) => {}", "EmptyRepetition", 0, 2),
     ("(a $($x:vis)*) => {}", "EmptyRepetition", 0, 3),
     ("($($()*)*) => {}", "EmptyRepetition", 0, 2),
@@ -78,7 +78,7 @@ const EMPTY: &str = rows![
     ),
 ];
 
-const READ: &str = rows![
+pub const READ: &str = rows![
     (""),
     ("() => {}"),
     ("() => {};"),
@@ -110,7 +110,7 @@ fn named(alloc: Global, refusal: Refusal) -> Result<String, AllocError> {
 
 // A text without a fault has no other field.
 #[derive(Clone, Copy)]
-struct Faults;
+pub struct Faults;
 
 impl Rows for Faults {
     fn is_so(
@@ -128,22 +128,11 @@ impl Rows for Faults {
     }
 }
 
-#[test]
-fn faults_are_placed(rt: HostRuntime) -> Result<(), Wrong> {
-    each(rt.alloc(), &Faults, FAULTS, 29)
-}
+// Rules with a fault between two.
+pub const ONE: &str = rows![("() => {}, () => {} a")];
 
-#[test]
-fn empty_repetitions_are_placed(rt: HostRuntime) -> Result<(), Wrong> {
-    each(rt.alloc(), &Faults, EMPTY, 10)
-}
-
-#[test]
-fn what_is_read_has_no_fault(rt: HostRuntime) -> Result<(), Wrong> {
-    each(rt.alloc(), &Faults, READ, 7)
-}
-
-fn is_between_rules(alloc: Global, text: &str) -> Result<bool, AllocError> {
+/// Whether a fault between rules depends on the separators.
+pub fn is_between_rules(alloc: Global, text: &str) -> Result<bool, AllocError> {
     let found = fault(alloc, text, &[';', ','], SyntaxFault::ExpectedSeparator)?;
     let want = RulesFault {
         fault: Refusal::Syntax(SyntaxFault::ExpectedSeparator),
@@ -153,13 +142,8 @@ fn is_between_rules(alloc: Global, text: &str) -> Result<bool, AllocError> {
     Ok(found == Some(want))
 }
 
-#[test]
-fn a_fault_between_rules_depends_on_the_separators(rt: HostRuntime) -> Result<(), Wrong> {
-    holds(is_between_rules(rt.alloc(), "() => {}, () => {} a"))
-}
-
 // The arguments and the body of a `macro`; the fault, where it is, and the number of flat tokens before it there.
-const PARTS: &str = rows![
+pub const PARTS: &str = rows![
     ("$x:tt, $y", "$x", "MissingSpecifier", "Pattern", 5,),
     ("$x:tt", "a {$x $-}", "ExpectedIdent", "Template", 4,),
     ("$$", "${x}", "DollarInPattern", "Pattern", 0),
@@ -177,7 +161,7 @@ fn part_fault(alloc: Global, arguments: &str, body: &str) -> Result<Option<PartF
 }
 
 #[derive(Clone, Copy)]
-struct Parts;
+pub struct Parts;
 
 impl Rows for Parts {
     fn is_so(
@@ -193,9 +177,4 @@ impl Rows for Parts {
         let found = format!(in alloc; "{} {:?} {}", name.as_str(), found.part, found.place)?;
         Ok(found.as_str() == want.as_str())
     }
-}
-
-#[test]
-fn faults_of_one_rule_are_placed(rt: HostRuntime) -> Result<(), Wrong> {
-    each(rt.alloc(), &Parts, PARTS, 5)
 }

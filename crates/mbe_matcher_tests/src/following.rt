@@ -1,9 +1,8 @@
 // What may follow a fragment, and names that are bound twice or have an unknown specifier: rustc 1.95 refuses each of these
 // definitions at the second place of each line, or the only one, and nowhere else.
-use crate::found::Found;
-use test_rows::{Wrong, each, rows};
+use test_rows::rows;
 
-const ROWS: &str = rows![
+pub const ROWS: &str = rows![
     ("($_e:expr =>) => {}", ""),
     ("($_e:expr ,) => {}", ""),
     ("($_e:expr ;) => {}", ""),
@@ -154,8 +153,3 @@ const ROWS: &str = rows![
     ),
     ("($x:foo priv) => {$x}", "unknown x 2;"),
 ];
-
-#[test]
-fn what_rustc_forbids_is_found(rt: HostRuntime) -> Result<(), Wrong> {
-    each(rt.alloc(), &Found, ROWS, 134)
-}

@@ -15,8 +15,8 @@ mod matches;
 #[cfg(test)]
 mod parting;
 #[cfg(test)]
-mod quotes;
-#[cfg(test)]
 mod rows;
+#[cfg(test)]
+mod tables;
 #[cfg(test)]
 mod variables;

@@ -6,10 +6,10 @@ use mbe_matcher::wanting::Wanted;
 use mbe_ops::ops::Op;
 use mbe_parting::parting::first_parting;
 use std::alloc::{AllocError, Allocator};
-use test_rows::{AnyRows, Fields, Wrong, each_of_any, each_refused, rows};
+use test_rows::{AnyRows, Fields, rows};
 
 #[derive(Clone, Copy)]
-struct Partings;
+pub struct Partings;
 
 impl AnyRows for Partings {
     fn is_so<A: Allocator + Copy>(
@@ -38,7 +38,7 @@ fn name_of<A: Allocator>(wanted: Wanted<'_, A>) -> &str {
 }
 
 #[derive(Clone, Copy)]
-struct Ways;
+pub struct Ways;
 
 impl AnyRows for Ways {
     fn is_so<A: Allocator + Copy>(
@@ -57,7 +57,7 @@ impl AnyRows for Ways {
 }
 
 // Into the first repetition, or past it.
-const BEFORE_A_REPETITION: &str = rows![
+pub const BEFORE_A_REPETITION: &str = rows![
     ("$(a)* $(a)*", "a a", 0),
     ("a $(b)? $(b)?", "a b", 1),
     ("=> $(a)? $(a)?", "=> a", 2),
@@ -68,37 +68,22 @@ const BEFORE_A_REPETITION: &str = rows![
     ("$($($();*);+);*", ";;", 0),
 ];
 
-#[test]
-fn readings_part_before_a_repetition(rt: HostRuntime) -> Result<(), Wrong> {
-    each_of_any(rt.alloc(), &Partings, BEFORE_A_REPETITION, 8)
-}
-
 // Into another round, or out.
-const AFTER_A_ROUND: &str = rows![
+pub const AFTER_A_ROUND: &str = rows![
     ("$(a),* $(, a)*", "a, a", 1),
     ("$(a)+ $(a)*", "a a a", 1),
     ("$(a b)+ $(a b)?", "a b a b", 2),
     ("[ $($x:ident);+ $(; $y:tt)? ]", "[a; b]", 2),
 ];
 
-#[test]
-fn readings_part_after_a_round(rt: HostRuntime) -> Result<(), Wrong> {
-    each_of_any(rt.alloc(), &Partings, AFTER_A_ROUND, 4)
-}
-
 // A way that fits for some tokens, and leads to no reading, is none. In the first row only the place of `d` has two.
-const DEAD_ENDS: &str = rows![
+pub const DEAD_ENDS: &str = rows![
     ("$(a b)* $(a c)* $(d)* $(d)*", "a c d", 2),
     ("$(a b)? $(a c)?", "a c", "none"),
     ("$(a)* $(a)* b", "a a", "none"),
 ];
 
-#[test]
-fn no_reading_goes_by_a_dead_end(rt: HostRuntime) -> Result<(), Wrong> {
-    each_of_any(rt.alloc(), &Partings, DEAD_ENDS, 3)
-}
-
-const ONE_READING: &str = rows![
+pub const ONE_READING: &str = rows![
     ("", "", "none"),
     ("$(a)* $(b)*", "a b", "none"),
     ("$($x:ident),* $(,)?", "a, b,", "none"),
@@ -106,13 +91,8 @@ const ONE_READING: &str = rows![
     ("$(a)?", "b", "none"),
 ];
 
-#[test]
-fn one_reading_parts_nowhere(rt: HostRuntime) -> Result<(), Wrong> {
-    each_of_any(rt.alloc(), &Partings, ONE_READING, 5)
-}
-
 // A pattern, an argument, and what two readings go on by where they part: into a repetition and past it, into another round and out.
-const WAYS: &str = rows![
+pub const WAYS: &str = rows![
     ("$($x:ident)? $($y:ident)?", "a", "x", "y"),
     ("$($x:ident)+ $($y:tt)*", "a b", "x", "y"),
     ("$($x:tt),* $(b)? $(, c)*", "a, c", "another", "separator"),
@@ -120,13 +100,3 @@ const WAYS: &str = rows![
     ("$($($x:ident)*);*", "", "end", "end"),
     ("[$($(a)*);*] $x:tt", "[] a", "closing", "closing"),
 ];
-
-#[test]
-fn readings_go_on_by_what_is_next(rt: HostRuntime) -> Result<(), Wrong> {
-    each_of_any(rt.alloc(), &Ways, WAYS, 6)
-}
-
-#[test]
-fn each_request_of_a_parting_refused(rt: HostRuntime) -> Result<(), Wrong> {
-    each_refused(rt.alloc(), &Partings, (DEAD_ENDS, 3), (0, true))
-}

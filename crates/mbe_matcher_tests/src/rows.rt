@@ -2,11 +2,11 @@
 use crate::matches::{comes_to, matched_texts};
 use mbe_matcher::matching::Verdict;
 use std::alloc::{AllocError, Allocator};
-use test_rows::{AnyRows, Fields, Wrong, each_of_any, each_refused, number, rows};
+use test_rows::{AnyRows, Fields, number, rows};
 
 // The verdict, and how many trees are left where the match stops.
 #[derive(Clone, Copy)]
-struct Stops;
+pub struct Stops;
 
 impl AnyRows for Stops {
     fn is_so<A: Allocator + Copy>(
@@ -21,7 +21,7 @@ impl AnyRows for Stops {
 // A name that is bound, and to what. Where there is one reading, how many names are bound; nothing where there is no only reading, and
 // this is what is reported.
 #[derive(Clone, Copy)]
-struct Binds;
+pub struct Binds;
 
 impl AnyRows for Binds {
     fn is_so<A: Allocator + Copy>(
@@ -42,7 +42,7 @@ impl AnyRows for Binds {
     }
 }
 
-const REPETITIONS: &str = rows![
+pub const REPETITIONS: &str = rows![
     ("$( b $(x)? )x*", "b x b", "one", 0),
     ("$(a)+*", "a *", "one", 0),
     ("$(a),?", "a", "one", 0),
@@ -58,24 +58,14 @@ const REPETITIONS: &str = rows![
     ("($(a)*) b", "(a a) c", "stuck 4", 1),
 ];
 
-#[test]
-fn repetitions_have_the_readings_of_their_definition(rt: HostRuntime) -> Result<(), Wrong> {
-    each_of_any(rt.alloc(), &Stops, REPETITIONS, 13)
-}
-
-const AMBIGUITIES: &str = rows![
+pub const AMBIGUITIES: &str = rows![
     ("$($t:ident),* as $ty:ident", "as u32", "ambiguous 0", 2),
     ("$($a:ident)* $b:ident", "x", "ambiguous 0", 1),
 ];
 
-#[test]
-fn two_ways_to_go_on_by_a_fragment_are_ambiguous(rt: HostRuntime) -> Result<(), Wrong> {
-    each_of_any(rt.alloc(), &Stops, AMBIGUITIES, 2)
-}
-
 // Three positions or more meet before each of the repetitions. At the pattern's end the first of
 // them is reported, and where `a` fails the last.
-const REPORTS: &str = rows![
+pub const REPORTS: &str = rows![
     ("$(a)* $(a $(: $x:ident)?)* c", "a a a a c d", "x", "[----]"),
     ("$(a)* $(a $(: $x:ident)?)* c", "a a a", "x", "[--]"),
     (
@@ -87,12 +77,7 @@ const REPORTS: &str = rows![
     ("$(a $(: $x:ident)?)* $(a)* c", "a a a", "x", "[-]"),
 ];
 
-#[test]
-fn where_positions_meet_the_first_or_the_last_is_reported(rt: HostRuntime) -> Result<(), Wrong> {
-    each_of_any(rt.alloc(), &Binds, REPORTS, 4)
-}
-
-const BINDINGS: &str = rows![
+pub const BINDINGS: &str = rows![
     ("$($x:ident),* ; $y:tt", "a, b ; c", "y", "c", 2),
     ("$($x:ident),* ; $y:tt", "a, b ; c", "x", "[ab]", 2),
     ("$x:ident $($x:ident)*", "a b c", "x", "a", 1),
@@ -103,24 +88,13 @@ const BINDINGS: &str = rows![
     ("$($($x:tt),*);*", "a, b; c", "x", "[[ab][c]]", 1),
 ];
 
-#[test]
-fn rounds_bind_in_order(rt: HostRuntime) -> Result<(), Wrong> {
-    each_of_any(rt.alloc(), &Binds, BINDINGS, 8)
-}
-
-const REFUSED: &str = rows![
+pub const REFUSED: &str = rows![
     ("$( b $(x)? )x*", "b x b", "one", 0),
     ("$(a)? $(a)?", "a", "many", 0),
     ("$($a:ident)* $b:ident", "x", "ambiguous 0", 1),
 ];
 
-const REFUSED_BINDINGS: &str = rows![
+pub const REFUSED_BINDINGS: &str = rows![
     ("$($x:ident),* ; $y:tt", "a, b ; c", "x", "[ab]", 2),
     ("$($x:ident),* ; $($x:ident),*", "; b", "x", "-", 1),
 ];
-
-#[test]
-fn each_request_for_memory_refused(rt: HostRuntime) -> Result<(), Wrong> {
-    each_refused(rt.alloc(), &Stops, (REFUSED, 3), (10, false))?;
-    each_refused(rt.alloc(), &Binds, (REFUSED_BINDINGS, 2), (10, false))
-}

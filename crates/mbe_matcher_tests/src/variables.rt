@@ -1,8 +1,7 @@
 // Variables that a template doesn't name, and those that still repeat where it does. Worked out by hand.
-use crate::found::Found;
-use test_rows::{Wrong, each, rows};
+use test_rows::rows;
 
-const ROWS: &str = rows![
+pub const ROWS: &str = rows![
     ("() => {}", ""),
     ("($x:ident) => {$x}", ""),
     ("($x:ident) => {}", "unused x 2;"),
@@ -27,8 +26,3 @@ const ROWS: &str = rows![
         "unused x 2;unused y 20;",
     ),
 ];
-
-#[test]
-fn variables_of_no_use_are_found(rt: HostRuntime) -> Result<(), Wrong> {
-    each(rt.alloc(), &Found, ROWS, 20)
-}

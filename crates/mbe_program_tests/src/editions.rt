@@ -1,7 +1,7 @@
 // What the edition decides: `pat` takes alternatives from 2021 on, and `expr` takes `_` and `const` blocks from 2024 on.
-use crate::rows::{Table, all};
+use crate::rows::Worked;
 use mbe_tt::span::Edition;
-use test_rows::{Wrong, rows};
+use test_rows::{Wrong, all, rows};
 
 const BEFORE_2021: &str = rows![
     (
@@ -89,19 +89,19 @@ const ALWAYS: &str = rows![
     ),
 ];
 
-static BY_EDITION: [Table; 12] = [
-    (Edition::Edition2015, BEFORE_2021, 2),
-    (Edition::Edition2015, BEFORE_2024, 2),
-    (Edition::Edition2015, ALWAYS, 2),
-    (Edition::Edition2018, BEFORE_2021, 2),
-    (Edition::Edition2018, BEFORE_2024, 2),
-    (Edition::Edition2018, ALWAYS, 2),
-    (Edition::Edition2021, SINCE_2021, 2),
-    (Edition::Edition2021, BEFORE_2024, 2),
-    (Edition::Edition2021, ALWAYS, 2),
-    (Edition::Edition2024, SINCE_2021, 2),
-    (Edition::Edition2024, SINCE_2024, 2),
-    (Edition::Edition2024, ALWAYS, 2),
+static BY_EDITION: [(Worked, &str, usize); 12] = [
+    (Worked(Edition::Edition2015), BEFORE_2021, 2),
+    (Worked(Edition::Edition2015), BEFORE_2024, 2),
+    (Worked(Edition::Edition2015), ALWAYS, 2),
+    (Worked(Edition::Edition2018), BEFORE_2021, 2),
+    (Worked(Edition::Edition2018), BEFORE_2024, 2),
+    (Worked(Edition::Edition2018), ALWAYS, 2),
+    (Worked(Edition::Edition2021), SINCE_2021, 2),
+    (Worked(Edition::Edition2021), BEFORE_2024, 2),
+    (Worked(Edition::Edition2021), ALWAYS, 2),
+    (Worked(Edition::Edition2024), SINCE_2021, 2),
+    (Worked(Edition::Edition2024), SINCE_2024, 2),
+    (Worked(Edition::Edition2024), ALWAYS, 2),
 ];
 
 #[test]

@@ -3,10 +3,10 @@ use crate::memory::first_unneeded;
 use crate::runs::{first_unwritten, prints};
 use mbe_tt::span::Edition;
 use std::alloc::{AllocError, Global};
-use test_rows::{Fields, Rows, Wrong, each, number, rows};
+use test_rows::{Fields, Rows, number, rows};
 
 // A definition and an argument, and the lines.
-const LINTS: &str = rows![
+pub const LINTS: &str = rows![
     // A further name and the word `as` both go on at the start.
     (
         "($($t:ident),* as $ty:ident) => {}", "as u32",
@@ -62,7 +62,7 @@ const LINTS: &str = rows![
 
 // Each request of a run is refused once, and each write fails once.
 #[derive(Clone, Copy)]
-struct Lints;
+pub struct Lints;
 
 impl Rows for Lints {
     fn is_so(&self, alloc: Global, [def, arg, want, ..]: Fields) -> Result<bool, AllocError> {
@@ -74,13 +74,8 @@ impl Rows for Lints {
     }
 }
 
-#[test]
-fn lints_are_printed(rt: HostRuntime) -> Result<(), Wrong> {
-    each(rt.alloc(), &Lints, LINTS, 14)
-}
-
 // Texts that come to no verdicts, and the status.
-const FAILURES: &str = rows![
+pub const FAILURES: &str = rows![
     ("() => {} x", "", 2),
     ("($()*) => {}", "", 2),
     ("(a ` b) => {}", "'", 4),
@@ -88,7 +83,7 @@ const FAILURES: &str = rows![
 ];
 
 #[derive(Clone, Copy)]
-struct Refused;
+pub struct Refused;
 
 impl Rows for Refused {
     fn is_so(&self, alloc: Global, [def, arg, status, ..]: Fields) -> Result<bool, AllocError> {
@@ -99,9 +94,4 @@ impl Rows for Refused {
 
 fn status_of(field: &str) -> u8 {
     u8::try_from(number(field)).unwrap_or(u8::MAX)
-}
-
-#[test]
-fn what_is_refused_has_no_lines(rt: HostRuntime) -> Result<(), Wrong> {
-    each(rt.alloc(), &Refused, FAILURES, 4)
 }

@@ -1,11 +1,10 @@
 // What is done where a request for memory is refused.
 use crate::rows::printed;
 use crate::runs::ran;
-use crate::{reports, rows};
 use mbe_tt::span::Edition;
 use refusing::Refusing;
 use std::alloc::{AllocError, Global};
-use test_rows::{Fields, Rows, Wrong, each};
+use test_rows::{Fields, Rows};
 
 /// The number of the first request that a run doesn't make, if each other one, refused alone, ends it out of memory with
 /// nothing printed, and the run without a refusal prints that with that status.
@@ -32,7 +31,7 @@ pub fn first_unneeded(
 
 // That is so of each row, after ten requests at least.
 #[derive(Clone, Copy)]
-struct Unneeded;
+pub struct Unneeded;
 
 impl Rows for Unneeded {
     fn is_so(
@@ -44,11 +43,4 @@ impl Rows for Unneeded {
         let number = first_unneeded(alloc, (def, arg), false, (want.as_str(), status));
         Ok(number.unwrap_or(0) > 10)
     }
-}
-
-#[test]
-fn a_refused_request_is_out_of_memory(rt: HostRuntime) -> Result<(), Wrong> {
-    each(rt.alloc(), &Unneeded, rows::WORKED, 13)?;
-    each(rt.alloc(), &Unneeded, rows::RECOVERED, 10)?;
-    each(rt.alloc(), &Unneeded, reports::RECOVERED, 4)
 }

@@ -1,8 +1,8 @@
 // What a match that fails reports: its first error, and what is bound where it ends.
-use crate::rows::{Table, all, is_row};
+use crate::rows::{Worked, is_row};
 use mbe_tt::span::Edition;
 use std::alloc::{AllocError, Global};
-use test_rows::{Fields, Rows, Wrong, each, rows};
+use test_rows::{Fields, Rows, Wrong, all, rows};
 
 pub const RECOVERED: &str = rows![
     (
@@ -245,13 +245,13 @@ const MISSING: &str = rows![
     ),
 ];
 
-static TABLES: [Table; 6] = [
-    (Edition::Edition2024, RECOVERED, 4),
-    (Edition::Edition2021, RECOVERED_BEFORE_2024, 2),
-    (Edition::Edition2024, CLOSEST, 6),
-    (Edition::Edition2024, ERRORS, 14),
-    (Edition::Edition2024, REPORTED, 3),
-    (Edition::Edition2024, MISSING, 3),
+static TABLES: [(Worked, &str, usize); 6] = [
+    (Worked(Edition::Edition2024), RECOVERED, 4),
+    (Worked(Edition::Edition2021), RECOVERED_BEFORE_2024, 2),
+    (Worked(Edition::Edition2024), CLOSEST, 6),
+    (Worked(Edition::Edition2024), ERRORS, 14),
+    (Worked(Edition::Edition2024), REPORTED, 3),
+    (Worked(Edition::Edition2024), MISSING, 3),
 ];
 
 #[test]
@@ -261,7 +261,7 @@ fn a_failed_match_reports_its_first_error(rt: HostRuntime) -> Result<(), Wrong> 
 
 // A specifier, what its variable asks for, and what is written for a fragment that is missing, at each place of the variable's name as
 // `@`.
-const DEFAULTS: &str = rows![
+pub const DEFAULTS: &str = rows![
     ("path", "Path", "    IDENT   missing @\n"),
     ("ty", "Ty", "    IDENT   missing @\n"),
     ("pat", "PatTop", "    IDENT   missing @\n"),
@@ -283,7 +283,7 @@ const DEFAULTS: &str = rows![
 ];
 
 #[derive(Clone, Copy)]
-struct Defaults;
+pub struct Defaults;
 
 impl Rows for Defaults {
     fn is_so(
@@ -306,9 +306,4 @@ fn trees(alloc: Global, open: usize, default: &str) -> Result<String, AllocError
     let place = format!(in alloc; "0@{name}..{close}")?;
     let lines = default.replace(alloc, "@", place.as_str())?;
     format!(in alloc; "  SUBTREE [] 0@{open}..{inner} 0@{close}..{end}\n{lines}")
-}
-
-#[test]
-fn a_missing_fragment_has_a_default(rt: HostRuntime) -> Result<(), Wrong> {
-    each(rt.alloc(), &Defaults, DEFAULTS, 14)
 }

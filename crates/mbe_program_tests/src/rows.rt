@@ -2,7 +2,7 @@
 use crate::runs::prints;
 use mbe_tt::span::Edition;
 use std::alloc::{AllocError, Global};
-use test_rows::{Fields, Rows, Wrong, each, rows, spelled};
+use test_rows::{Fields, Rows, Wrong, all, rows, spelled};
 
 /// Rows of a definition and an argument, the error with its place, if there is one, the arm, and the trees of the expansion.
 #[derive(Clone, Copy)]
@@ -45,17 +45,6 @@ pub fn is_row(
 ) -> Result<bool, AllocError> {
     let (want, status) = printed(alloc, texts.1, want)?;
     Ok(prints(alloc, texts, (edition, false), (want.as_str(), status)))
-}
-
-/// A table of such rows, how many they are, and their edition.
-pub type Table = (Edition, &'static str, usize);
-
-/// Each row of the tables is as it says.
-pub fn all(alloc: Global, tables: &[Table]) -> Result<(), Wrong> {
-    for &(edition, rows, count) in tables {
-        each(alloc, &Worked(edition), rows, count)?;
-    }
-    Ok(())
 }
 
 pub const WORKED: &str = rows![
@@ -705,15 +694,15 @@ const FAULTS: &str = rows![
     ),
 ];
 
-static TABLES: [Table; 8] = [
-    (Edition::Edition2024, WORKED, 13),
-    (Edition::Edition2024, LENGTHS, 6),
-    (Edition::Edition2024, ROUNDS, 14),
-    (Edition::Edition2024, REPEATED_NAMES, 6),
-    (Edition::Edition2024, RECOVERED, 10),
-    (Edition::Edition2024, CLOSEST, 9),
-    (Edition::Edition2024, STOPS, 10),
-    (Edition::Edition2024, FAULTS, 12),
+static TABLES: [(Worked, &str, usize); 8] = [
+    (Worked(Edition::Edition2024), WORKED, 13),
+    (Worked(Edition::Edition2024), LENGTHS, 6),
+    (Worked(Edition::Edition2024), ROUNDS, 14),
+    (Worked(Edition::Edition2024), REPEATED_NAMES, 6),
+    (Worked(Edition::Edition2024), RECOVERED, 10),
+    (Worked(Edition::Edition2024), CLOSEST, 9),
+    (Worked(Edition::Edition2024), STOPS, 10),
+    (Worked(Edition::Edition2024), FAULTS, 12),
 ];
 
 #[test]

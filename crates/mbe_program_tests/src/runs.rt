@@ -8,44 +8,7 @@ use mbe_tt::span::Edition;
 use std::alloc::{AllocError, Allocator, Global};
 use std::io;
 use std::io::Write;
-use test_rows::{Fields, Rows, Wrong, each, holds, none, number, rows};
-
-const PAIR: (&str, &str) = ("($x:ident = $t:tt;) => { pair ($t) $x }", "a = 1;");
-
-const PAIR_OUTPUT: &str = "arm 0
-SUBTREE $$ 1@0..6 1@0..6
-  IDENT   pair 0@25..29
-  SUBTREE () 0@30..31 0@33..34
-    LITERAL Integer 1 1@4..5
-  IDENT   a 1@0..1
-";
-
-const STRUCT: (&str, &str) = (
-    "\n( struct $ident:ident ) => {\n    struct $ident {\n        map: ::std::collections::HashSet<()>,\n    }\n};\n",
-    "\nstruct MyTraitMap2\n",
-);
-
-const STRUCT_OUTPUT: &str = "arm 0
-SUBTREE $$ 1@0..20 1@0..20
-  IDENT   struct 0@34..40
-  IDENT   MyTraitMap2 1@8..19
-  SUBTREE {} 0@48..49 0@100..101
-    IDENT   map 0@58..61
-    PUNCH   : [alone] 0@61..62
-    PUNCH   : [joint] 0@63..64
-    PUNCH   : [alone] 0@64..65
-    IDENT   std 0@65..68
-    PUNCH   : [joint] 0@68..69
-    PUNCH   : [alone] 0@69..70
-    IDENT   collections 0@70..81
-    PUNCH   : [joint] 0@81..82
-    PUNCH   : [alone] 0@82..83
-    IDENT   HashSet 0@83..90
-    PUNCH   < [alone] 0@90..91
-    SUBTREE () 0@91..92 0@92..93
-    PUNCH   > [joint] 0@93..94
-    PUNCH   , [alone] 0@94..95
-";
+use test_rows::{Fields, Rows, Wrong, none, number, rows};
 
 /// The run of texts shorter than 2^32 bytes, of an edition, which lints or expands.
 pub fn ran<A: Allocator + Copy, W: Write>(
@@ -72,74 +35,72 @@ pub fn prints(
     outcome.status() == status && out.as_slice() == want.as_bytes()
 }
 
-const EXPANDING: (Edition, bool) = (Edition::Edition2024, false);
+pub const EXPANDING: (Edition, bool) = (Edition::Edition2024, false);
 
-// A definition and an argument, and what is written of them.
-static EXPANDED: [((&str, &str), &str); 9] = [
-    (PAIR, PAIR_OUTPUT),
-    (STRUCT, STRUCT_OUTPUT),
+// A definition and an argument, the status, and what is written of them.
+pub const EXPANDED: &str = rows![
+    ("($x:ident = $t:tt;) => { pair ($t) $x }", "a = 1;", 0, "arm 0
+SUBTREE $$ 1@0..6 1@0..6
+  IDENT   pair 0@25..29
+  SUBTREE () 0@30..31 0@33..34
+    LITERAL Integer 1 1@4..5
+  IDENT   a 1@0..1
+"),
+    ("\n( struct $ident:ident ) => {\n    struct $ident {\n        map: ::std::collections::HashSet<()>,\n    }\n};\n",
+    "\nstruct MyTraitMap2\n", 0, "arm 0
+SUBTREE $$ 1@0..20 1@0..20
+  IDENT   struct 0@34..40
+  IDENT   MyTraitMap2 1@8..19
+  SUBTREE {} 0@48..49 0@100..101
+    IDENT   map 0@58..61
+    PUNCH   : [alone] 0@61..62
+    PUNCH   : [joint] 0@63..64
+    PUNCH   : [alone] 0@64..65
+    IDENT   std 0@65..68
+    PUNCH   : [joint] 0@68..69
+    PUNCH   : [alone] 0@69..70
+    IDENT   collections 0@70..81
+    PUNCH   : [joint] 0@81..82
+    PUNCH   : [alone] 0@82..83
+    IDENT   HashSet 0@83..90
+    PUNCH   < [alone] 0@90..91
+    SUBTREE () 0@91..92 0@92..93
+    PUNCH   > [joint] 0@93..94
+    PUNCH   , [alone] 0@94..95
+"),
     // Groups that are open end with the text.
-    (
-        ("\n() => { { }\n", ""),
-        "arm 0\nSUBTREE $$ 1@0..0 1@0..0\n  SUBTREE {} 0@9..10 0@11..12\n",
-    ),
+    ("\n() => { { }\n", "", 0, "arm 0\nSUBTREE $$ 1@0..0 1@0..0\n  SUBTREE {} 0@9..10 0@11..12\n"),
     // Leaves fit by their texts.
-    (("(1) => {}", "\"1\""), "arm 0\nSUBTREE $$ 1@0..3 1@0..3\n"),
-    (
-        ("(foo) => {}", "r#foo"),
-        "arm 0\nSUBTREE $$ 1@0..5 1@0..5\n",
-    ),
+    ("(1) => {}", "\"1\"", 0, "arm 0\nSUBTREE $$ 1@0..3 1@0..3\n"),
+    ("(foo) => {}", "r#foo", 0, "arm 0\nSUBTREE $$ 1@0..5 1@0..5\n"),
     // An unbound name is written back.
-    (
-        ("() => {$y}", ""),
-        "arm 0\nSUBTREE $$ 1@0..0 1@0..0\n  PUNCH   $ [alone] 0@8..9\n  IDENT   y 0@8..9\n",
-    ),
+    ("() => {$y}", "", 0, "arm 0\nSUBTREE $$ 1@0..0 1@0..0\n  PUNCH   $ [alone] 0@8..9\n  IDENT   y 0@8..9\n"),
     // The last binding of a name is written.
-    (
-        ("($x:ident $x:ident) => {$x}", "a b"),
-        "arm 0\nSUBTREE $$ 1@0..3 1@0..3\n  IDENT   b 1@2..3\n",
-    ),
+    ("($x:ident $x:ident) => {$x}", "a b", 0, "arm 0\nSUBTREE $$ 1@0..3 1@0..3\n  IDENT   b 1@2..3\n"),
     // The last punct of a fragment is alone.
-    (
-        ("($a:tt $b:tt) => {$a $b}", ";+"),
-        "arm 0
+    ("($a:tt $b:tt) => {$a $b}", ";+", 0, "arm 0
 SUBTREE $$ 1@0..2 1@0..2
   PUNCH   ; [alone] 1@0..1
   PUNCH   + [alone] 1@1..2
-",
-    ),
+"),
     // A variable of unknown kind never fits.
-    (
-        ("($x:foo) => {}; (a) => {}", "a"),
-        "arm 1\nSUBTREE $$ 1@0..1 1@0..1\n",
-    ),
+    ("($x:foo) => {}; (a) => {}", "a", 0, "arm 1\nSUBTREE $$ 1@0..1 1@0..1\n"),
+    // No rule is of the style of the call.
+    ("", "c", 1, "error: no rule matches input tokens at 1@0..1\narm none\nSUBTREE $$ 1@0..1 1@0..1\n"),
+    ("attr() (c) => {b}", "c", 1, "error: no rule matches input tokens at 1@0..1\narm none\nSUBTREE $$ 1@0..1 1@0..1\n"),
+    ("derive() (c) => {b}; attr() (c) => {b}", "c", 1, "error: no rule matches input tokens at 1@0..1\narm none\nSUBTREE $$ 1@0..1 1@0..1\n"),
 ];
 
-#[test]
-fn expansions_are_printed(rt: HostRuntime) -> Result<(), Wrong> {
-    for &(texts, want) in &EXPANDED {
-        let is_so = prints(rt.alloc(), texts, EXPANDING, (want, 0));
-        none((!is_so).then_some(want))?;
-    }
-    Ok(())
-}
-
-// Definitions without a rule of the style of the call.
-static NO_RULES: [&str; 3] = [
-    "",
-    "attr() (c) => {b}",
-    "derive() (c) => {b}; attr() (c) => {b}",
-];
-
-#[test]
-fn no_rule_is_of_the_style(rt: HostRuntime) -> Result<(), Wrong> {
-    let want =
-        "error: no rule matches input tokens at 1@0..1\narm none\nSUBTREE $$ 1@0..1 1@0..1\n";
-    for &def in &NO_RULES {
-        let is_so = prints(rt.alloc(), (def, "c"), EXPANDING, (want, 1));
-        none((!is_so).then_some(def))?;
-    }
-    Ok(())
+/// Whether that is printed of the texts, with that status.
+pub fn is_printed(
+    alloc: Global,
+    texts: (&str, &str),
+    status: &str,
+    want: &str,
+) -> Result<bool, AllocError> {
+    let mut out = Vec::new(alloc);
+    let outcome = ran(alloc, texts, EXPANDING, &mut out);
+    Ok(usize::from(outcome.status()) == number(status) && out.as_slice() == want.as_bytes())
 }
 
 const NAMES: Options<'static> = Options {
@@ -159,7 +120,7 @@ fn says(alloc: Global, report: Option<Report<'_, Global>>, want: &str) -> Result
 }
 
 // A definition and an argument, the status, and the line on standard error.
-const FAILURES: &str = rows![
+pub const FAILURES: &str = rows![
     ("() => {}", "", 0, ""),
     ("(a) => {}", "", 1, ""),
     ("() => {} x", "", 2, "definition refused: expected `;`"),
@@ -183,7 +144,7 @@ const FAILURES: &str = rows![
 
 // A run ends with that status and line, and writes something only where there is an expansion.
 #[derive(Clone, Copy)]
-struct Failures;
+pub struct Failures;
 
 impl Rows for Failures {
     fn is_so(
@@ -196,11 +157,6 @@ impl Rows for Failures {
         let is_written = !out.is_empty() == (number(status) < 2);
         Ok(is_written && ends_in(alloc, outcome, number(status), line)?)
     }
-}
-
-#[test]
-fn failures_have_a_status_and_a_line(rt: HostRuntime) -> Result<(), Wrong> {
-    each(rt.alloc(), &Failures, FAILURES, 9)
 }
 
 // Whether the status of a report is 3, with that line.
@@ -219,17 +175,18 @@ fn ends_in(
     Ok(says(alloc, outcome.report(&NAMES), line)? && is_status)
 }
 
-#[test]
-fn other_failures_have_a_line(rt: HostRuntime) -> Result<(), Wrong> {
+/// Whether other failures have a line.
+pub fn have_lines(alloc: Global) -> Result<bool, AllocError> {
     let usage = "usage: mbex [--lint] DEF-FILE ARG-FILE [EDITION]";
-    let unread = Report::CannotRead("a.b");
-    holds(has_line(rt.alloc(), Report::Usage, usage))?;
-    holds(has_line(rt.alloc(), unread, "cannot read a.b"))?;
-    holds(ends_in(rt.alloc(), Outcome::CannotWrite, 3, "cannot write"))?;
-    holds(ends_in(rt.alloc(), Outcome::OutOfMemory, 5, "out of memory"))
+    Ok(
+        has_line(alloc, Report::Usage, usage)?
+            && has_line(alloc, Report::CannotRead("a.b"), "cannot read a.b")?
+            && ends_in(alloc, Outcome::CannotWrite, 3, "cannot write")?
+            && ends_in(alloc, Outcome::OutOfMemory, 5, "out of memory")?,
+    )
 }
 
-const WORDS: &str = rows![
+pub const WORDS: &str = rows![
     ("", "usage"),
     ("d", "usage"),
     ("d a", false, 2024),
@@ -274,7 +231,7 @@ fn edition(year: &str) -> Option<Edition> {
 
 // Whether a run lints, and its edition; no edition where the words are wrong.
 #[derive(Clone, Copy)]
-struct Named;
+pub struct Named;
 
 impl Rows for Named {
     fn is_so(&self, alloc: Global, [text, lint, year, ..]: Fields) -> Result<bool, AllocError> {
@@ -290,11 +247,6 @@ impl Rows for Named {
         };
         Ok(options(words.as_slice()) == want)
     }
-}
-
-#[test]
-fn words_name_files_and_an_edition(rt: HostRuntime) -> Result<(), Wrong> {
-    each(rt.alloc(), &Named, WORDS, 15)
 }
 
 // The words, and the status. The running program's own file isn't UTF-8.
@@ -367,11 +319,23 @@ pub fn first_unwritten(alloc: Global, texts: (&str, &str), lint: bool, want: &st
     None
 }
 
-// One for each of the six lines, and the flush.
-#[test]
-fn a_failed_write_is_reported(rt: HostRuntime) -> Result<(), Wrong> {
-    let number = first_unwritten(rt.alloc(), PAIR, false, PAIR_OUTPUT);
-    holds(Ok(number.unwrap_or(0) > 7))
+// One run of these.
+pub const PAIR: &str = rows![(
+    "($x:ident = $t:tt;) => { pair ($t) $x }",
+    "a = 1;",
+    0,
+    "arm 0
+SUBTREE $$ 1@0..6 1@0..6
+  IDENT   pair 0@25..29
+  SUBTREE () 0@30..31 0@33..34
+    LITERAL Integer 1 1@4..5
+  IDENT   a 1@0..1
+",
+)];
+
+/// Whether a failed write is reported of a run: there is one for each of the six lines, and the flush.
+pub fn is_unwritten(alloc: Global, [def, arg, _, want, ..]: Fields) -> bool {
+    first_unwritten(alloc, (def, arg), false, want).unwrap_or(0) > 7
 }
 
 /// Whether a run of any texts ends as runs do.
@@ -393,7 +357,7 @@ pub fn ends(alloc: Global, def: &str, arg: &str) -> bool {
 
 // Whether each prefix of one of the texts, with the other text, makes a run that ends so.
 #[derive(Clone, Copy)]
-struct Prefixes;
+pub struct Prefixes;
 
 impl Rows for Prefixes {
     fn is_so(&self, alloc: Global, [def, arg, ..]: Fields) -> Result<bool, AllocError> {
@@ -409,7 +373,7 @@ impl Rows for Prefixes {
     }
 }
 
-const TEXTS: &str = rows![
+pub const TEXTS: &str = rows![
     ("($x:ident = $t:tt;) => { pair ($t) $x }", "a = 1;"),
     (
         "\n( struct $ident:ident ) => {\n    struct $ident {\n        map: ::std::collections::HashSet<()>,\n    }\n};\n",
@@ -417,8 +381,3 @@ const TEXTS: &str = rows![
     ),
     ("(é \"a\\\"b\"s) => {r#c /* d */}", "é \"a\\\"b\"s"),
 ];
-
-#[test]
-fn every_prefix_of_a_text_ends(rt: HostRuntime) -> Result<(), Wrong> {
-    each(rt.alloc(), &Prefixes, TEXTS, 3)
-}

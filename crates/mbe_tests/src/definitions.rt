@@ -1,5 +1,5 @@
 // Faults of definitions: how many rules are kept, and the error.
-use crate::runs::{defined, none};
+use crate::runs::defined;
 use crate::trees::lexed;
 use mbe::{DeclarativeMacro, ParseError};
 use mbe_tt::span::Edition;
@@ -193,48 +193,35 @@ pub const FOURTH: &str = rows![
     ("() => {};; ($x) => {}", 1, "expected", "expected subtree"),
 ];
 
-static EDITIONS: [Edition; 4] = [
-    Edition::Edition2015,
-    Edition::Edition2018,
-    Edition::Edition2021,
-    Edition::Edition2024,
+pub const SPECIFIERS: &str = rows![
+    ("path"),
+    ("ty"),
+    ("pat"),
+    ("pat_param"),
+    ("stmt"),
+    ("block"),
+    ("meta"),
+    ("item"),
+    ("vis"),
+    ("expr"),
+    ("expr_2021"),
+    ("ident"),
+    ("tt"),
+    ("lifetime"),
+    ("literal"),
 ];
 
-static SPECIFIERS: [&str; 15] = [
-    "path",
-    "ty",
-    "pat",
-    "pat_param",
-    "stmt",
-    "block",
-    "meta",
-    "item",
-    "vis",
-    "expr",
-    "expr_2021",
-    "ident",
-    "tt",
-    "lifetime",
-    "literal",
-];
+/// Specifiers that have no fault in an edition.
+#[derive(Clone, Copy)]
+pub struct Specifiers(pub Edition);
 
-// The first specifier of which a rule, read in an edition, is refused.
-fn first_refused(alloc: Global, edition: Edition) -> Result<Option<&'static str>, AllocError> {
-    for &specifier in &SPECIFIERS {
+impl Rows for Specifiers {
+    fn is_so(&self, alloc: Global, [specifier, ..]: Fields) -> Result<bool, AllocError> {
+        let edition = self.0;
         let definition = format!(in alloc; "($x:{specifier} {specifier}) => {{$x}}")?;
         let tree = lexed(alloc, 0, definition.as_str())?;
         let rules = DeclarativeMacro::parse_macro_rules(alloc, &tree, |_context| edition)?;
-        if !is_read(alloc, &rules, (1, Reported::Nothing))? {
-            return Ok(Some(specifier));
-        }
-    }
-    Ok(None)
-}
-
-#[test]
-fn specifiers_have_no_fault_in_any_edition(rt: HostRuntime) {
-    for &edition in &EDITIONS {
-        none(&rt, first_refused(rt.alloc(), edition));
+        is_read(alloc, &rules, (1, Reported::Nothing))
     }
 }
 

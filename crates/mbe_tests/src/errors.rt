@@ -1,118 +1,123 @@
 // Copies of errors, and their texts.
-use crate::definitions::Reported;
-use crate::runs::none;
+use crate::definitions::reported_as;
 use crate::tokens::at;
 use mbe::{CountError, ExpandError, ExpandErrorKind, ParseError};
 use std::alloc::{AllocError, Global};
 use std::fmt::Display;
 use std::rc::Rc;
+use test_rows::rows;
 
-fn is_shown<T: Display>(alloc: Global, shown: &T, want: &str) -> Result<bool, AllocError> {
+/// Whether that is shown of it.
+pub fn is_shown<T: Display>(alloc: Global, shown: &T, want: &str) -> Result<bool, AllocError> {
     let text = format!(in alloc; "{shown}")?;
     Ok(text.as_str() == want)
 }
 
-static FAULT_TEXTS: [(Reported, &str); 4] = [
-    (Reported::Unexpected("so"), "so"),
-    (Reported::Expected("expected `;`"), "expected `;`"),
-    (Reported::InvalidRepeat, "invalid repeat"),
-    (Reported::EmptyRepetition, "empty token tree in repetition"),
+// A fault by its sort and its text.
+fn fault(alloc: Global, sort: &str, text: &'static str) -> Result<ParseError, AllocError> {
+    reported_as(sort, text).error(alloc)?.ok_or(AllocError)
+}
+
+// The sort and the text of a fault, and what is shown of it.
+pub const FAULTS: &str = rows![
+    ("unexpected", "so", "so"),
+    ("expected", "expected `;`", "expected `;`"),
+    ("invalid", "", "invalid repeat"),
+    ("refused", "", "empty token tree in repetition"),
 ];
 
-fn fault(alloc: Global, reported: Reported) -> Result<ParseError, AllocError> {
-    reported.error(alloc)?.ok_or(AllocError)
-}
-
-fn is_fault_shown(alloc: Global, reported: Reported, want: &str) -> Result<bool, AllocError> {
-    let fault = fault(alloc, reported)?;
-    is_shown(alloc, &fault, want)
-}
-
-#[test]
-fn faults_of_definitions_have_texts(rt: HostRuntime) {
-    for &(reported, want) in &FAULT_TEXTS {
-        assert!(rt;
-            is_fault_shown(rt.alloc(), reported, want).unwrap_or(false),
-            "{want}"
-        );
-    }
-}
-
-static FAULTS: [Reported; 6] = [
-    Reported::Unexpected("a"),
-    Reported::Unexpected("b"),
-    Reported::Expected("a"),
-    Reported::Expected(""),
-    Reported::InvalidRepeat,
-    Reported::EmptyRepetition,
-];
-
-// Whether a copy of the one error equals the other.
-fn copy_equals(alloc: Global, one: Reported, other: Reported) -> Result<bool, AllocError> {
-    let one = fault(alloc, one)?;
-    let other = fault(alloc, other)?;
-    Ok(one.try_clone(alloc)? == other)
-}
-
-// The first fault of which a copy equals that one though it is another, or doesn't equal it.
-fn first_miscopied(
+/// Whether a fault is shown so.
+pub fn is_fault_shown(
     alloc: Global,
-    number: usize,
-    one: Reported,
-) -> Result<Option<(usize, usize)>, AllocError> {
-    for (other_number, &other) in FAULTS.iter().enumerate() {
-        if copy_equals(alloc, one, other)? != (number == other_number) {
-            return Ok(Some((number, other_number)));
-        }
-    }
-    Ok(None)
+    sort: &str,
+    text: &'static str,
+    want: &str,
+) -> Result<bool, AllocError> {
+    is_shown(alloc, &fault(alloc, sort, text)?, want)
 }
 
-#[test]
-fn copies_of_faults_are_equal(rt: HostRuntime) {
-    for (number, &one) in FAULTS.iter().enumerate() {
-        none(&rt, first_miscopied(rt.alloc(), number, one));
-    }
-}
-
-// The kind of an expansion's error.
-#[derive(Clone, Copy)]
-enum Kind {
-    Binding(&'static str),
-    Unresolved(&'static str),
-    Leftover,
-    Limit,
-    NoRule,
-    Unexpected,
-}
-
-impl Kind {
-    fn error_kind(self, alloc: Global) -> Result<ExpandErrorKind, AllocError> {
-        Ok(match self {
-            Kind::Binding(text) => ExpandErrorKind::BindingError(String::from_str(alloc, text)?),
-            Kind::Unresolved(name) => {
-                ExpandErrorKind::UnresolvedBinding(String::from_str(alloc, name)?)
-            }
-            Kind::Leftover => ExpandErrorKind::LeftoverTokens,
-            Kind::Limit => ExpandErrorKind::LimitExceeded,
-            Kind::NoRule => ExpandErrorKind::NoMatchingRule,
-            Kind::Unexpected => ExpandErrorKind::UnexpectedToken,
-        })
-    }
-}
-
-static KIND_TEXTS: [(Kind, &str); 6] = [
-    (Kind::Binding("so"), "so"),
-    (Kind::Unresolved("x"), "could not find binding x"),
-    (Kind::Leftover, "leftover tokens"),
-    (Kind::Limit, "Expand exceed limit"),
-    (Kind::NoRule, "no rule matches input tokens"),
-    (Kind::Unexpected, "unexpected token in input"),
+// The sorts and the texts of two faults, and whether a copy of the first equals the second.
+pub const COPIES: &str = rows![
+    ("unexpected", "a", "unexpected", "a", true),
+    ("unexpected", "a", "unexpected", "b", false),
+    ("unexpected", "a", "expected", "a", false),
+    ("unexpected", "a", "expected", "", false),
+    ("unexpected", "a", "invalid", "", false),
+    ("unexpected", "a", "refused", "", false),
+    ("unexpected", "b", "unexpected", "a", false),
+    ("unexpected", "b", "unexpected", "b", true),
+    ("unexpected", "b", "expected", "a", false),
+    ("unexpected", "b", "expected", "", false),
+    ("unexpected", "b", "invalid", "", false),
+    ("unexpected", "b", "refused", "", false),
+    ("expected", "a", "unexpected", "a", false),
+    ("expected", "a", "unexpected", "b", false),
+    ("expected", "a", "expected", "a", true),
+    ("expected", "a", "expected", "", false),
+    ("expected", "a", "invalid", "", false),
+    ("expected", "a", "refused", "", false),
+    ("expected", "", "unexpected", "a", false),
+    ("expected", "", "unexpected", "b", false),
+    ("expected", "", "expected", "a", false),
+    ("expected", "", "expected", "", true),
+    ("expected", "", "invalid", "", false),
+    ("expected", "", "refused", "", false),
+    ("invalid", "", "unexpected", "a", false),
+    ("invalid", "", "unexpected", "b", false),
+    ("invalid", "", "expected", "a", false),
+    ("invalid", "", "expected", "", false),
+    ("invalid", "", "invalid", "", true),
+    ("invalid", "", "refused", "", false),
+    ("refused", "", "unexpected", "a", false),
+    ("refused", "", "unexpected", "b", false),
+    ("refused", "", "expected", "a", false),
+    ("refused", "", "expected", "", false),
+    ("refused", "", "invalid", "", false),
+    ("refused", "", "refused", "", true),
 ];
 
-// Whether the kind is shown so, and an error of the kind too.
-fn is_kind_shown(alloc: Global, kind: Kind, want: &str) -> Result<bool, AllocError> {
-    let kind = kind.error_kind(alloc)?;
+/// Whether a copy of the one fault equals the other, or doesn't.
+pub fn is_copied(
+    alloc: Global,
+    (one, text): (&str, &'static str),
+    (other, other_text): (&str, &'static str),
+    is_equal: &str,
+) -> Result<bool, AllocError> {
+    let one = fault(alloc, one, text)?;
+    let other = fault(alloc, other, other_text)?;
+    Ok((one.try_clone(alloc)? == other) == (is_equal == "true"))
+}
+
+// The kind of an expansion's error by the first letter of its name.
+fn error_kind(alloc: Global, name: &str, text: &str) -> Result<ExpandErrorKind, AllocError> {
+    match name.chars().next() {
+        Some('b') => Ok(ExpandErrorKind::BindingError(String::from_str(alloc, text)?)),
+        Some('u') => Ok(ExpandErrorKind::UnresolvedBinding(String::from_str(alloc, text)?)),
+        Some('l') => Ok(ExpandErrorKind::LeftoverTokens),
+        Some('e') => Ok(ExpandErrorKind::LimitExceeded),
+        Some('n') => Ok(ExpandErrorKind::NoMatchingRule),
+        _ => Ok(ExpandErrorKind::UnexpectedToken),
+    }
+}
+
+// The kind of an expansion's error and its text, and what is shown of it.
+pub const KINDS: &str = rows![
+    ("binding", "so", "so"),
+    ("unresolved", "x", "could not find binding x"),
+    ("leftover", "", "leftover tokens"),
+    ("exceeded", "", "Expand exceed limit"),
+    ("no rule", "", "no rule matches input tokens"),
+    ("token", "", "unexpected token in input"),
+];
+
+/// Whether the kind is shown so, and an error of the kind too.
+pub fn is_kind_shown(
+    alloc: Global,
+    name: &str,
+    text: &str,
+    want: &str,
+) -> Result<bool, AllocError> {
+    let kind = error_kind(alloc, name, text)?;
     let is_so = is_shown(alloc, &kind, want)?;
     let error = ExpandError {
         inner: Rc::new(alloc, (at(1, 2, 3), kind))?,
@@ -120,23 +125,10 @@ fn is_kind_shown(alloc: Global, kind: Kind, want: &str) -> Result<bool, AllocErr
     Ok(is_so && is_shown(alloc, &error, want)?)
 }
 
-static COUNT_TEXTS: [(CountError, &str); 2] = [
-    (CountError::OutOfBounds, "${count} out of bounds"),
-    (CountError::Misplaced, "${count} misplaced"),
-];
-
-#[test]
-fn errors_of_expansions_and_counts_have_texts(rt: HostRuntime) {
-    for &(kind, want) in &KIND_TEXTS {
-        assert!(rt;
-            is_kind_shown(rt.alloc(), kind, want).unwrap_or(false),
-            "{want}"
-        );
-    }
-    for (error, want) in &COUNT_TEXTS {
-        assert!(rt;
-            is_shown(rt.alloc(), error, want).unwrap_or(false),
-            "{want}"
-        );
-    }
+/// Whether errors of counts are shown.
+pub fn are_counts_shown(alloc: Global) -> Result<bool, AllocError> {
+    Ok(
+        is_shown(alloc, &CountError::OutOfBounds, "${count} out of bounds")?
+            && is_shown(alloc, &CountError::Misplaced, "${count} misplaced")?,
+    )
 }

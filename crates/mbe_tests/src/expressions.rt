@@ -1,11 +1,7 @@
 // Metavariable expressions, `${..}`: which are read, and which are faults.
 use crate::definitions::{Reported, is_read};
 use crate::runs::parsed;
-use crate::tokens::Lexeme::{Alone, Close, Joint, Number, Open, Raw, Suffixed, Text, Word};
-use crate::tokens::{Lexeme, at};
-use crate::trees::built;
-use mbe_tt::tt::DelimiterKind;
-use mbe_tt::tt::DelimiterKind::{Brace, Invisible, Parenthesis};
+use crate::trees::read;
 use std::alloc::{AllocError, Global};
 use test_rows::rows;
 
@@ -100,66 +96,57 @@ pub const INVALID_ELEMENTS: &str = rows![
     ("concat($x $y, z)"),
 ];
 
-// A call in an expression: its word, the kind of the group around its argument, the argument, and whether it is read.
-type Call = (Lexeme<'static>, DelimiterKind, Lexeme<'static>, bool);
-
-// Depths by their texts, a raw word, and an invisible group.
-static CALLS: [Call; 15] = [
-    (Word("len"), Parenthesis, Number("1"), true),
-    (Word("len"), Parenthesis, Suffixed("1u8", 2), false),
-    (Word("len"), Parenthesis, Suffixed("1usize", 5), false),
+// Depths by their texts, a raw word, and an invisible group: the word of a call in an expression, the opening of the group around its
+// argument, the argument, and whether it is read.
+pub const CALLS: &str = rows![
+    ("word len", "(", "number 1", true),
+    ("word len", "(", "suffixed2 1u8", false),
+    ("word len", "(", "suffixed5 1usize", false),
     // A suffix alone.
-    (Word("len"), Parenthesis, Suffixed("u8", 2), false),
-    (Word("len"), Parenthesis, Text("2"), true),
-    (Word("len"), Parenthesis, Text("+2"), true),
-    (Word("len"), Parenthesis, Text(""), false),
-    (Word("len"), Parenthesis, Text("+"), false),
-    (Word("len"), Parenthesis, Text("++2"), false),
-    (Word("len"), Parenthesis, Text("-2"), false),
-    (Word("len"), Parenthesis, Text("-0"), false),
-    (Word("len"), Parenthesis, Text(" 2"), false),
-    (Word("len"), Parenthesis, Text("two"), false),
-    (Raw("len"), Parenthesis, Number("1"), true),
-    (Word("len"), Invisible, Number("1"), false),
+    ("word len", "(", "suffixed2 u8", false),
+    ("word len", "(", "text 2", true),
+    ("word len", "(", "text +2", true),
+    ("word len", "(", "text ", false),
+    ("word len", "(", "text +", false),
+    ("word len", "(", "text ++2", false),
+    ("word len", "(", "text -2", false),
+    ("word len", "(", "text -0", false),
+    ("word len", "(", "text  2", false),
+    ("word len", "(", "text two", false),
+    ("raw len", "(", "number 1", true),
+    ("word len", "none", "number 1", false),
 ];
 
-// Whether `() => {${word(argument)}}`, where a group of that kind is around the argument, is read as stated.
-fn is_call_read(
+/// Whether `() => {${word(argument)}}`, where a group of that kind is around the argument, is read as stated.
+pub fn is_call_read(
     alloc: Global,
-    &(word, kind, argument, is_good): &Call,
+    (word, open): (&str, &str),
+    argument: &str,
+    is_good: &str,
 ) -> Result<bool, AllocError> {
-    let tokens = [
-        (Open(Parenthesis), 0, 0, 1),
-        (Close, 0, 1, 2),
-        (Joint('='), 0, 3, 4),
-        (Alone('>'), 0, 4, 5),
-        (Open(Brace), 0, 6, 7),
-        (Alone('$'), 0, 7, 8),
-        (Open(Brace), 0, 8, 9),
-        (word, 0, 9, 12),
-        (Open(kind), 0, 14, 15),
-        (argument, 0, 15, 20),
-        (Close, 0, 20, 21),
-        (Close, 0, 21, 22),
-        (Close, 0, 22, 23),
-    ];
-    let rules = parsed(alloc, &built(alloc, at(0, 0, 23), &tokens)?)?;
-    let want = if is_good {
+    let tokens = format!(in alloc;
+        "tokens 23
+open ( 0 0 1
+close ) 0 1 2
+joint = 0 3 4
+alone > 0 4 5
+open {{ 0 6 7
+alone $ 0 7 8
+open {{ 0 8 9
+{word} 0 9 12
+open {open} 0 14 15
+{argument} 0 15 20
+close ) 0 20 21
+close ) 0 21 22
+close ) 0 22 23"
+    )?;
+    let rules = parsed(alloc, &read(alloc, 0, tokens.as_str())?)?;
+    let want = if is_good == "true" {
         (1, Reported::Nothing)
     } else {
         (0, INVALID)
     };
     is_read(alloc, &rules, want)
-}
-
-#[test]
-fn depths_by_their_text(rt: HostRuntime) {
-    for (row, call) in CALLS.iter().enumerate() {
-        assert!(rt;
-            is_call_read(rt.alloc(), call).unwrap_or(false),
-            "row {row}"
-        );
-    }
 }
 
 pub const READ: &str = rows![

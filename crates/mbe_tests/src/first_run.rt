@@ -6,7 +6,7 @@ use mbe::{DeclarativeMacro, MacroCallStyle, ParseError};
 use mbe_tt::span::{Span, SyntaxContext};
 use mbe_tt::tt::TopSubtree;
 use std::alloc::{AllocError, Global};
-use test_rows::{Fields, Rows, Wrong, each, rows};
+use test_rows::{Fields, Rows, rows};
 
 pub const EXPANDED: &str = rows![
     ("($x:ident = $t:tt;) => { pair ($t) $x }", "a = 1;", 0, "word pair 0 25 29
@@ -43,7 +43,7 @@ close ) 0 100 101"),
 
 // A definition, an argument, and the tokens that are made of it, each with the number of its context.
 // What a template writes itself is marked.
-const MARKED: &str = rows![
+pub const MARKED: &str = rows![
     (
         "($x:ident = $t:tt;) => { pair ($t) $x }",
         "a = 1;",
@@ -70,7 +70,7 @@ word y 0 26 27 0"
 
 // That is made where the marker sets the context 7 in each span.
 #[derive(Clone, Copy)]
-struct Marked;
+pub struct Marked;
 
 impl Rows for Marked {
     fn is_so(
@@ -101,9 +101,4 @@ fn expanded_and_marked(
     };
     let style = MacroCallStyle::FnLike;
     rules.expand(alloc, &NOTHING, argument, marker, style, whole(argument))
-}
-
-#[test]
-fn what_a_template_writes_itself_is_marked(rt: HostRuntime) -> Result<(), Wrong> {
-    each(rt.alloc(), &Marked, MARKED, 2)
 }

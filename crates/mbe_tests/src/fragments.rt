@@ -1,14 +1,13 @@
 // Which fragments a variable takes by a grammar that is handed in, and how they are written.
+use crate::fronts::entry_of;
 use crate::grammar::{Counting, NoMemory, Numbered, number_of};
-use crate::runs::{Want, defined, made, makes, makes_of_texts, none, want};
-use crate::tokens::Lexeme::{Number, Raw, Word};
-use crate::tokens::{Lexeme, at};
-use crate::trees::{built, lexed};
+use crate::runs::{Want, defined, made, makes, makes_of_texts, want};
+use crate::trees::{lexed, read};
 use mbe::DeclarativeMacro;
-use mbe_tt::grammar::PrefixEntryPoint;
 use mbe_tt::span::Edition;
+use mbe_tt::tt::TopSubtree;
 use std::alloc::{AllocError, Global};
-use test_rows::{Fields, Rows, Wrong, each, holds, number, rows};
+use test_rows::{Fields, Rows, number, rows};
 
 /// A grammar that takes so many flat tokens of everything.
 pub fn taking(count: usize) -> Counting {
@@ -22,7 +21,7 @@ const EMPTY: Want<'static> = Some((0, ""));
 
 // How many flat tokens the grammar takes, a definition, an argument, and what is made of it.
 #[derive(Clone, Copy)]
-struct Taken;
+pub struct Taken;
 
 impl Rows for Taken {
     fn is_so(
@@ -36,7 +35,7 @@ impl Rows for Taken {
 }
 
 // A minus belongs to a literal.
-const SIGNED: &str = rows![
+pub const SIGNED: &str = rows![
     (
         0,
         "\n(-1) => {-1};\n(- 2) => {- 2};\n(- 3.0) => {- 3.0};\n(@$lit:literal) => {$lit}\n",
@@ -117,7 +116,7 @@ float 1.0 1 2 5"
     ),
 ];
 
-const LITERALS: &str = rows![
+pub const LITERALS: &str = rows![
     (0, "($l:literal) => {$l}", "true", 0, "word true 1 0 4"),
     (
         0,
@@ -138,7 +137,7 @@ word false 1 2 7"
     (9, "($l:literal) => {$l}", "1 1"),
 ];
 
-const LIFETIMES: &str = rows![
+pub const LIFETIMES: &str = rows![
     (
         0,
         "($l:lifetime) => {$l}",
@@ -174,7 +173,7 @@ word static 1 1 7"
 ];
 
 // A visibility may be nothing, a type not.
-const VISIBILITIES: &str = rows![
+pub const VISIBILITIES: &str = rows![
     (
         0,
         "($v:vis) => {[$v]}",
@@ -215,7 +214,7 @@ word a 1 4 5"
 ];
 
 // Fronts that end in a group don't fit. The first rule whose fragment is long enough is taken.
-const FRONTS: &str = rows![
+pub const FRONTS: &str = rows![
     (1, "($t:ty) => {}", "(a b)"),
     (2, "($t:ty) => {}", "(a b)"),
     (3, "($t:ty) => {}", "(a b)"),
@@ -240,7 +239,7 @@ word b 1 2 3"
 ];
 
 // Fragments of the grammar are written as they are, expressions of several tokens in parentheses, paths with two colons.
-const WRITTEN: &str = rows![
+pub const WRITTEN: &str = rows![
     (
         6,
         "($t:ty) => {$t}",
@@ -304,23 +303,6 @@ alone > 1 6 7"
     ),
 ];
 
-static TABLES: [(&str, usize); 6] = [
-    (SIGNED, 10),
-    (LITERALS, 11),
-    (LIFETIMES, 11),
-    (VISIBILITIES, 8),
-    (FRONTS, 7),
-    (WRITTEN, 6),
-];
-
-#[test]
-fn fragments_are_taken_and_written(rt: HostRuntime) -> Result<(), Wrong> {
-    for &(rows, count) in &TABLES {
-        each(rt.alloc(), &Taken, rows, count)?;
-    }
-    Ok(())
-}
-
 // A grammar that faults after a group.
 pub const FAULTY: &str = rows![("($t:ty) => {}", "(a b)"), ("($e:expr) => {}", "(a) b"),];
 
@@ -336,91 +318,101 @@ fn rule_of(
     Ok(rules)
 }
 
-// The first number of words that a specifier, read in an edition, fits though `Numbered` counts another number for its entry
-// point, or doesn't fit though it counts that.
-fn first_misfit(
-    alloc: Global,
-    &(specifier, edition, entry): &(&'static str, Edition, PrefixEntryPoint),
-) -> Result<Option<(&'static str, usize)>, AllocError> {
-    let rules = rule_of(alloc, specifier, edition)?;
-    let number = number_of(entry);
+// A specifier, the edition that it is read in, and its entry point; `pat` is the older one before 2021.
+pub const ENTRY_POINTS: &str = rows![
+    ("path", 2024, "Path"),
+    ("expr", 2024, "Expr"),
+    ("expr_2021", 2024, "Expr"),
+    ("ty", 2024, "Ty"),
+    ("pat", 2015, "Pat"),
+    ("pat", 2018, "Pat"),
+    ("pat", 2021, "PatTop"),
+    ("pat", 2024, "PatTop"),
+    ("pat_param", 2024, "Pat"),
+    ("stmt", 2024, "Stmt"),
+    ("block", 2024, "Block"),
+    ("meta", 2024, "MetaItem"),
+    ("item", 2024, "Item"),
+    ("vis", 2024, "Vis"),
+];
+
+fn edition_of(year: &str) -> Edition {
+    match number(year) {
+        2015 => Edition::Edition2015,
+        2018 => Edition::Edition2018,
+        2021 => Edition::Edition2021,
+        _ => Edition::Edition2024,
+    }
+}
+
+// Whether the rule takes so many words, and nothing else up to eleven.
+fn takes_words(alloc: Global, rules: &DeclarativeMacro, number: usize) -> Result<bool, AllocError> {
     for count in 1..12usize {
         let words = "a ".repeat(alloc, count)?;
         let argument = lexed(alloc, 1, words.as_str())?;
         let want = if count == number { EMPTY } else { None };
-        if !makes(alloc, &Numbered, &rules, &argument, want)? {
-            return Ok(Some((specifier, count)));
+        if !makes(alloc, &Numbered, rules, &argument, want)? {
+            return Ok(false);
         }
     }
-    Ok(None)
+    Ok(true)
 }
 
-// `pat` is the older one before 2021.
-static ENTRY_POINTS: [(&str, Edition, PrefixEntryPoint); 14] = [
-    ("path", Edition::Edition2024, PrefixEntryPoint::Path),
-    ("expr", Edition::Edition2024, PrefixEntryPoint::Expr),
-    ("expr_2021", Edition::Edition2024, PrefixEntryPoint::Expr),
-    ("ty", Edition::Edition2024, PrefixEntryPoint::Ty),
-    ("pat", Edition::Edition2015, PrefixEntryPoint::Pat),
-    ("pat", Edition::Edition2018, PrefixEntryPoint::Pat),
-    ("pat", Edition::Edition2021, PrefixEntryPoint::PatTop),
-    ("pat", Edition::Edition2024, PrefixEntryPoint::PatTop),
-    ("pat_param", Edition::Edition2024, PrefixEntryPoint::Pat),
-    ("stmt", Edition::Edition2024, PrefixEntryPoint::Stmt),
-    ("block", Edition::Edition2024, PrefixEntryPoint::Block),
-    ("meta", Edition::Edition2024, PrefixEntryPoint::MetaItem),
-    ("item", Edition::Edition2024, PrefixEntryPoint::Item),
-    ("vis", Edition::Edition2024, PrefixEntryPoint::Vis),
-];
-
-#[test]
-fn each_specifier_asks_its_entry_point(rt: HostRuntime) {
-    for row in &ENTRY_POINTS {
-        none(&rt, first_misfit(rt.alloc(), row));
-    }
-}
-
-static EXPRESSIONS: [(&str, Edition); 4] = [
-    ("expr", Edition::Edition2024),
-    ("expr", Edition::Edition2021),
-    ("expr_2021", Edition::Edition2024),
-    ("ty", Edition::Edition2024),
-];
-
-// A first token, and of which of these it is the beginning.
-static BEGINNINGS: [(Lexeme<'static>, [bool; 4]); 9] = [
-    (Word("a"), [true, true, true, true]),
-    (Number("1"), [true, true, true, true]),
-    (Word("let"), [false, false, false, true]),
-    (Raw("let"), [false, false, false, true]),
-    (Word("lets"), [true, true, true, true]),
-    (Word("_"), [true, false, false, true]),
-    (Word("const"), [true, false, false, true]),
-    (Raw("const"), [true, true, true, true]),
-    (Word("constant"), [true, true, true, true]),
-];
-
-// The first specifier that the token begins, or doesn't begin, otherwise.
-fn first_misjudged(
+/// Whether a specifier, read in an edition, fits what `Numbered` counts for its entry point, and nothing else.
+pub fn is_entry_point(
     alloc: Global,
-    &(lexeme, fits): &(Lexeme<'static>, [bool; 4]),
-) -> Result<Option<(&'static str, Edition)>, AllocError> {
-    let argument = built(alloc, at(1, 0, 9), &[(lexeme, 1, 0, 9)])?;
-    for (&(specifier, edition), fits) in EXPRESSIONS.iter().zip(fits) {
-        let rules = rule_of(alloc, specifier, edition)?;
-        let want = if fits { EMPTY } else { None };
-        if !makes(alloc, &taking(1), &rules, &argument, want)? {
-            return Ok(Some((specifier, edition)));
-        }
-    }
-    Ok(None)
+    specifier: &str,
+    edition: &str,
+    entry: &str,
+) -> Result<bool, AllocError> {
+    let rules = rule_of(alloc, specifier, edition_of(edition))?;
+    takes_words(alloc, &rules, number_of(entry_of(entry)?))
 }
 
-#[test]
-fn expressions_begin_with_no_let(rt: HostRuntime) {
-    for row in &BEGINNINGS {
-        none(&rt, first_misjudged(rt.alloc(), row));
-    }
+// A first token, and of which of these it is the beginning: `expr` of 2024 and of 2021, `expr_2021`, and `ty`.
+pub const BEGINNINGS: &str = rows![
+    ("word a", true, true, true, true),
+    ("number 1", true, true, true, true),
+    ("word let", false, false, false, true),
+    ("raw let", false, false, false, true),
+    ("word lets", true, true, true, true),
+    ("word _", true, false, false, true),
+    ("word const", true, false, false, true),
+    ("raw const", true, true, true, true),
+    ("word constant", true, true, true, true),
+];
+
+// Whether the tree begins the specifier, or doesn't.
+fn begins(
+    alloc: Global,
+    argument: &TopSubtree,
+    (specifier, edition): (&str, Edition),
+    fits: &str,
+) -> Result<bool, AllocError> {
+    let rules = rule_of(alloc, specifier, edition)?;
+    let want = if fits == "true" { EMPTY } else { None };
+    makes(alloc, &taking(1), &rules, argument, want)
+}
+
+/// Whether a token begins those.
+pub fn is_beginning(
+    alloc: Global,
+    lexeme: &str,
+    [newest, older, oldest, other]: [&str; 4],
+) -> Result<bool, AllocError> {
+    let tokens = format!(in alloc; "tokens 9\n{lexeme} 1 0 9")?;
+    let argument = read(alloc, 1, tokens.as_str())?;
+    Ok(
+        begins(alloc, &argument, ("expr", Edition::Edition2024), newest)?
+            && begins(alloc, &argument, ("expr", Edition::Edition2021), older)?
+            && begins(
+                alloc,
+                &argument,
+                ("expr_2021", Edition::Edition2024),
+                oldest,
+            )?
+            && begins(alloc, &argument, ("ty", Edition::Edition2024), other)?,
+    )
 }
 
 // Only what the grammar took keeps an invisible group.
@@ -532,18 +524,11 @@ text a b 1 0 5",
     "text a b 1 0 5"
 ),];
 
-// Whether no expansion is made by a grammar without memory.
-fn needs_memory(alloc: Global, definition: &str, argument: &str) -> Result<bool, AllocError> {
-    let rules = defined(alloc, definition)?;
-    let argument = lexed(alloc, 1, argument)?;
-    Ok(rules.err().is_none() && made(alloc, &NoMemory, &rules, &argument).is_err())
-}
-
-// The first argument needs no grammar.
-#[test]
-fn an_expansion_needs_the_memory_of_its_grammar(rt: HostRuntime) -> Result<(), Wrong> {
+/// Whether an expansion needs the memory of its grammar, where the argument needs the grammar.
+pub fn needs_memory(alloc: Global) -> Result<bool, AllocError> {
     let definition = "($x:ident) => {}; ($e:expr) => {}";
-    let made = makes_of_texts(rt.alloc(), &NoMemory, (definition, "a"), EMPTY);
-    holds(made)?;
-    holds(needs_memory(rt.alloc(), definition, "1"))
+    let rules = defined(alloc, definition)?;
+    let argument = lexed(alloc, 1, "1")?;
+    let is_out = rules.err().is_none() && made(alloc, &NoMemory, &rules, &argument).is_err();
+    Ok(is_out && makes_of_texts(alloc, &NoMemory, (definition, "a"), EMPTY)?)
 }

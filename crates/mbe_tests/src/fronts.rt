@@ -4,6 +4,7 @@ use crate::grammar::{NoMemory, Numbered, grammar_of};
 use crate::tokens::{at, byte};
 use crate::trees::lexed;
 use mbe::{ExpandError, ExpandErrorKind, ExpandResult, expect_fragment};
+use mbe_grammar::SampleGrammar;
 use mbe_tt::grammar::PrefixEntryPoint;
 use mbe_tt::grammar::PrefixEntryPoint::{
     Block, Expr, Item, MetaItem, Pat, PatTop, Path, Stmt, Ty, Vis,
@@ -13,7 +14,7 @@ use mbe_tt::tt::TokenTreesView;
 use refusing::Refusing;
 use std::alloc::{AllocError, Allocator, Global};
 use std::rc::Rc;
-use test_rows::{Fields, Rows, Wrong, each, holds, rows};
+use test_rows::{Fields, Rows, rows};
 
 // The spans around the arguments of these tests.
 fn around() -> DelimSpan {
@@ -43,7 +44,7 @@ static ENTRIES: [(&str, PrefixEntryPoint); 10] = [
     ("Vis", Vis),
 ];
 
-fn entry_of(name: &str) -> Result<PrefixEntryPoint, AllocError> {
+pub fn entry_of(name: &str) -> Result<PrefixEntryPoint, AllocError> {
     for &(other, entry) in &ENTRIES {
         if other == name {
             return Ok(entry);
@@ -78,10 +79,10 @@ fn is_front(
     Ok(found.as_str() == size && front.err == error_of(alloc, error)?)
 }
 
-// The grammar, if the table has none of its own, an entry point and a text, the numbers of trees and of flat tokens of its front, where the
+// The grammar, if the table has none of its own, or `sample`, an entry point and a text, the numbers of trees and of flat tokens of its front, where the
 // next tree is, and the error with its place.
 #[derive(Clone, Copy)]
-struct Fronts;
+pub struct Fronts;
 
 impl Rows for Fronts {
     fn is_so(
@@ -94,6 +95,8 @@ impl Rows for Fronts {
         let entry = entry_of(entry)?;
         let front = if grammar.is_empty() {
             expect_fragment(alloc, &Numbered, &mut iter, entry, around())?
+        } else if grammar == "sample" {
+            expect_fragment(alloc, &SampleGrammar, &mut iter, entry, around())?
         } else {
             expect_fragment(alloc, &grammar_of(grammar), &mut iter, entry, around())?
         };
@@ -102,7 +105,12 @@ impl Rows for Fronts {
 }
 
 // What is counted and whether the grammar faults, and what it takes.
-const COUNTED: &str = rows![
+pub const COUNTED: &str = rows![
+    // By the sample grammar.
+    ("sample", "Vis", "", "0 0", "", ""),
+    ("sample", "Vis", "pub(crate) x", "2 4", "11 12", ""),
+    ("sample", "Ty", "&'a mut [u8] z", "5 7", "13 14", ""),
+    ("sample", "Expr", "", "0 0", "", "expected Expr 98 99"),
     // Whole trees.
     ("0", "Vis", "", "0 0", "", ""),
     ("0", "Vis", "x", "0 0", "0 1", ""),
@@ -142,12 +150,7 @@ const COUNTED: &str = rows![
     ("1 fault", "Vis", "a b", "1 1", "2 3", "expected Vis 0 1"),
 ];
 
-#[test]
-fn fronts_by_their_count(rt: HostRuntime) -> Result<(), Wrong> {
-    each(rt.alloc(), &Fronts, COUNTED, 34)
-}
-
-const NUMBERED: &str = rows![
+pub const NUMBERED: &str = rows![
     ("", "Path", "a ", "1 1", "", ""),
     ("", "Expr", "a a ", "2 2", "", ""),
     ("", "Ty", "a a a ", "3 3", "", ""),
@@ -160,12 +163,8 @@ const NUMBERED: &str = rows![
     ("", "Vis", "a a a a a a a a a a ", "10 10", "", ""),
 ];
 
-#[test]
-fn each_entry_point_is_asked_by_itself(rt: HostRuntime) -> Result<(), Wrong> {
-    each(rt.alloc(), &Fronts, NUMBERED, 10)
-}
-
-fn is_group_taken(alloc: Global) -> Result<bool, AllocError> {
+/// Whether a front that ends in a group takes all of it.
+pub fn is_group_taken(alloc: Global) -> Result<bool, AllocError> {
     let argument = lexed(alloc, 1, "(a b) c")?;
     let group = argument.iter().next_as_view();
     let mut iter = argument.iter();
@@ -175,21 +174,12 @@ fn is_group_taken(alloc: Global) -> Result<bool, AllocError> {
     Ok(is_taken && front.err == Some(error))
 }
 
-#[test]
-fn a_front_that_ends_in_a_group_takes_all_of_it(rt: HostRuntime) -> Result<(), Wrong> {
-    holds(is_group_taken(rt.alloc()))
-}
-
-fn moves_nothing(alloc: Global) -> Result<bool, AllocError> {
+/// Whether a grammar without memory moves nothing.
+pub fn moves_nothing(alloc: Global) -> Result<bool, AllocError> {
     let argument = lexed(alloc, 1, "(a b) c")?;
     let mut iter = argument.iter();
     let front = expect_fragment(alloc, &NoMemory, &mut iter, Expr, around());
     Ok(front.is_err() && iter.remaining() == argument.iter().remaining())
-}
-
-#[test]
-fn a_grammar_without_memory_moves_nothing(rt: HostRuntime) -> Result<(), Wrong> {
-    holds(moves_nothing(rt.alloc()))
 }
 
 // Whether memory ran out for the error of a front that ends in a group. Then nothing has moved; nothing where something has, or nothing
@@ -202,8 +192,8 @@ fn runs_out<A: Allocator + Copy>(alloc: A) -> Result<Option<bool>, AllocError> {
     Ok((has_moved == front.is_ok()).then_some(front.is_err()))
 }
 
-// Each request is refused in turn, until none is. More than one of them is of an error.
-fn are_refused(alloc: Global) -> bool {
+/// Whether each request is refused in turn, until none is, and more than one of them is of an error.
+pub fn are_refused(alloc: Global) -> bool {
     let mut wanting = 0u64;
     for request in 1..10_000u64 {
         let alloc = Refusing::new(alloc, request);
@@ -215,9 +205,4 @@ fn are_refused(alloc: Global) -> bool {
         }
     }
     false
-}
-
-#[test]
-fn each_request_for_an_error_refused(rt: HostRuntime) -> Result<(), Wrong> {
-    holds(Ok(are_refused(rt.alloc())))
 }

@@ -1,6 +1,9 @@
-// Tests of the public calls of `mbe`, over trees that are built by calls.
+// Tests of the public calls of `mbe`, over trees that are built by calls; of each prefix of many definitions, equality and copies of macros,
+// the calls of results and errors, and derived texts.
 #![tactic(auto)]
 
+#[cfg(test)]
+mod copies;
 #[cfg(test)]
 mod definitions;
 #[cfg(test)]
@@ -18,6 +21,8 @@ mod fronts;
 #[cfg(test)]
 mod grammar;
 #[cfg(test)]
+mod kinds;
+#[cfg(test)]
 mod macro2;
 #[cfg(test)]
 mod marking;
@@ -26,15 +31,21 @@ mod matching;
 #[cfg(test)]
 mod places;
 #[cfg(test)]
+mod prefixes;
+#[cfg(test)]
 mod recovery;
 #[cfg(test)]
 mod refusals;
 #[cfg(test)]
 mod repetitions;
 #[cfg(test)]
+mod results;
+#[cfg(test)]
 mod rounds;
 #[cfg(test)]
 mod runs;
+#[cfg(test)]
+mod shown;
 #[cfg(test)]
 mod styles;
 #[cfg(test)]

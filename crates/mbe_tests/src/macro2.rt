@@ -6,7 +6,7 @@ use crate::trees::lexed;
 use mbe::{DeclarativeMacro, MacroCallStyle, MacroCallStyles, ParseError};
 use mbe_tt::span::Edition;
 use std::alloc::{AllocError, Global};
-use test_rows::{Fields, Rows, Wrong, each, holds, number, rows};
+use test_rows::{Fields, Rows, number, rows};
 
 /// The macro of a body, and of arguments if there are some. Both are file 0.
 pub fn read(alloc: Global, args: Option<&str>, body: &str) -> Result<DeclarativeMacro, AllocError> {
@@ -18,7 +18,7 @@ pub fn read(alloc: Global, args: Option<&str>, body: &str) -> Result<Declarative
     DeclarativeMacro::parse_macro2(alloc, args.as_ref(), &body, |_context| Edition::Edition2024)
 }
 
-const BODIES: &str = rows![
+pub const BODIES: &str = rows![
     ("", 0),
     ("() => {}", 1),
     ("() => {},", 1),
@@ -65,7 +65,7 @@ fn are_read(
 }
 
 #[derive(Clone, Copy)]
-struct Bodies;
+pub struct Bodies;
 
 impl Rows for Bodies {
     fn is_so(
@@ -77,14 +77,9 @@ impl Rows for Bodies {
     }
 }
 
-#[test]
-fn semicolons_and_commas_separate_rules(rt: HostRuntime) -> Result<(), Wrong> {
-    each(rt.alloc(), &Bodies, BODIES, 12)
-}
-
 // Arguments, if there are some, a body, an argument of a call, and what is made of it. The rules of a body are tried in order; arguments
 // and a body are one rule.
-const CALLS: &str = rows![
+pub const CALLS: &str = rows![
     (
         "",
         "(a) => {A}, ($x:ident) => {B $x}; (b) => {C}",
@@ -109,7 +104,7 @@ close ) 0 9 10"
 ];
 
 #[derive(Clone, Copy)]
-struct Calls;
+pub struct Calls;
 
 impl Rows for Calls {
     fn is_so(
@@ -124,31 +119,17 @@ impl Rows for Calls {
     }
 }
 
-#[test]
-fn calls_are_expanded(rt: HostRuntime) -> Result<(), Wrong> {
-    each(rt.alloc(), &Calls, CALLS, 2)
-}
-
-// Whether the macro has one rule, which no attribute calls.
-fn is_one_rule(alloc: Global, rules: &DeclarativeMacro) -> Result<bool, AllocError> {
+/// Whether arguments and a body are one rule, which no attribute calls.
+pub fn is_one_rule(alloc: Global) -> Result<bool, AllocError> {
+    let rules = read(alloc, Some("attr $x:ident"), "[$x] => {}")?;
     if matches!(rules.err(), Some(ParseError::RepetitionEmptyTokenTree)) {
         return Err(AllocError);
     }
-    let is_called = answers(alloc, rules, ("attr b", MacroCallStyle::Attr), None)?;
+    let is_called = answers(alloc, &rules, ("attr b", MacroCallStyle::Attr), None)?;
     Ok(is_called && rules.num_rules() == 1 && rules.rule_styles() == MacroCallStyles::FN_LIKE)
 }
 
-#[test]
-fn arguments_and_a_body_are_one_rule(rt: HostRuntime) -> Result<(), Wrong> {
-    if let Ok(rules) = read(rt.alloc(), Some("attr $x:ident"), "[$x] => {}") {
-        holds(is_one_rule(rt.alloc(), &rules))?;
-    } else {
-        holds(Ok(false))?;
-    }
-    Ok(())
-}
-
-const ARGUMENTS: &str = rows![
+pub const ARGUMENTS: &str = rows![
     ("", "", 1),
     ("$x", "", 0, "unexpected", "missing fragment specifier"),
     (
@@ -170,7 +151,7 @@ const ARGUMENTS: &str = rows![
 ];
 
 #[derive(Clone, Copy)]
-struct Arguments;
+pub struct Arguments;
 
 impl Rows for Arguments {
     fn is_so(
@@ -185,9 +166,4 @@ impl Rows for Arguments {
             (number(count), reported_as(sort, text)),
         )
     }
-}
-
-#[test]
-fn arguments_are_read_before_the_body(rt: HostRuntime) -> Result<(), Wrong> {
-    each(rt.alloc(), &Arguments, ARGUMENTS, 6)
 }

@@ -7,10 +7,10 @@ use mbe::{MacroCallStyle, ParseError};
 use mbe_tt::span::Span;
 use std::alloc::{AllocError, Global};
 use std::cell::Cell;
-use test_rows::{Fields, Rows, Wrong, each, rows};
+use test_rows::{Fields, Rows, rows};
 
 // A definition, an argument, whether there is an error, and how often the marker is called.
-const ROWS: &str = rows![
+pub const ROWS: &str = rows![
     ("(a) => {}", "a", false, 0),
     ("(a) => {X 1 + (Y)}", "a", false, 6),
     ("($x:ident) => {$x X}", "a", false, 1),
@@ -44,7 +44,7 @@ fn calls(alloc: Global, definition: &str, argument: &str) -> Result<(bool, u32, 
 }
 
 #[derive(Clone, Copy)]
-struct Marking;
+pub struct Marking;
 
 impl Rows for Marking {
     fn is_so(
@@ -55,9 +55,4 @@ impl Rows for Marking {
         let found = calls(alloc, definition, argument)?;
         Ok(found == (fails == "true", byte(count), 0))
     }
-}
-
-#[test]
-fn a_marker_is_called_on_the_spans_of_the_template(rt: HostRuntime) -> Result<(), Wrong> {
-    each(rt.alloc(), &Marking, ROWS, 8)
 }

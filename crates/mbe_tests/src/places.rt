@@ -8,7 +8,7 @@ use mbe::{MacroCallStyle, ParseError};
 use mbe_tt::span::{Span, SyntaxContext};
 use mbe_tt::tt::{Delimiter, DelimiterKind, TopSubtree, TopSubtreeBuilder};
 use std::alloc::{AllocError, Global};
-use test_rows::{Fields, Rows, Wrong, each, number, rows};
+use test_rows::{Fields, Rows, number, rows};
 
 // The file and the bytes of a span.
 type Place = (u32, u32, u32);
@@ -24,7 +24,7 @@ const MARKED: u32 = 7;
 
 // How many flat tokens the grammar takes without a fault, a definition, an argument, the rule, the error with its file and its bytes, and what
 // is written, each token with the number of its context.
-const MATCHES: &str = rows![
+pub const MATCHES: &str = rows![
     (1, "(a b) => {X}", "a c", 0, "unexpected token in input 1 2 3", "word X 0 10 11 7"),
     // An error at the end of the argument, or of a group in it, is at the argument's closing.
     (1, "(a b) => {X}", "a", 0, "expected ident: `b` 1 95 96", "word X 0 10 11 7"),
@@ -48,7 +48,7 @@ word x 0 20 21 0"),
     (1, "attr() () => {A}", "", "", "no rule matches input tokens 2 40 44", ""),
 ];
 
-const TEMPLATES: &str = rows![
+pub const TEMPLATES: &str = rows![
     (1, "($($x:ident)*) => {$($x)+}", "", 0, "unexpected token in input 2 40 44", ""),
     (1, "($x:ident) => {$($x)*}", "a", 0, "Expand exceed limit 2 40 44", ""),
     (1, "($($x:ident)*) => {$x Y}", "a b", 0, "expected simple binding, found nested binding `x` 0 20 21", "word Y 0 22 23 7"),
@@ -136,7 +136,7 @@ fn is_error(alloc: Global, expansion: &Expansion<Global>, want: &str) -> Result<
 }
 
 #[derive(Clone, Copy)]
-struct Places;
+pub struct Places;
 
 impl Rows for Places {
     fn is_so(
@@ -150,14 +150,4 @@ impl Rows for Places {
         let is_so = *index == rule.parse::<u32>().ok() && *tree == want;
         Ok(is_so && is_error(alloc, &expansion, error)?)
     }
-}
-
-#[test]
-fn failed_matches_are_reported_there(rt: HostRuntime) -> Result<(), Wrong> {
-    each(rt.alloc(), &Places, MATCHES, 11)
-}
-
-#[test]
-fn templates_are_written_there(rt: HostRuntime) -> Result<(), Wrong> {
-    each(rt.alloc(), &Places, TEMPLATES, 11)
 }

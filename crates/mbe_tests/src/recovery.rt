@@ -3,11 +3,11 @@ use crate::grammar::grammar_of;
 use crate::runs::{defined, is_recovered, made, whole};
 use crate::trees::lexed;
 use std::alloc::{AllocError, Global};
-use test_rows::{Fields, Rows, Wrong, each, rows};
+use test_rows::{Fields, Rows, rows};
 
 // How many flat tokens the grammar takes and whether it faults, a definition, an argument, the rule, what is recovered, and the error with
 // its bytes.
-const RECOVERED: &str = rows![
+pub const RECOVERED: &str = rows![
     // Several positions meet at the end of either pattern. By the first of them the first rule binds
     // most.
     ("1", "($(a)* $(a $(: $y:ident)?)* c) => {R0}; ($(a $(: $x:ident)?)* $(a)* c) => {R1}", "a a a a c d", 0, "word R0 0 35 37", "unexpected token in input 0 1"),
@@ -38,7 +38,7 @@ word a 1 0 1", "leftover tokens 0 5"),
 ];
 
 #[derive(Clone, Copy)]
-struct Recovering;
+pub struct Recovering;
 
 impl Rows for Recovering {
     fn is_so(
@@ -51,9 +51,4 @@ impl Rows for Recovering {
         let expansion = made(alloc, &grammar_of(grammar), &rules, &argument)?;
         is_recovered(alloc, &expansion, whole(&argument), (arm, tokens, error))
     }
-}
-
-#[test]
-fn what_is_recovered(rt: HostRuntime) -> Result<(), Wrong> {
-    each(rt.alloc(), &Recovering, RECOVERED, 7)
 }

@@ -1,9 +1,9 @@
 // Repetitions without separator that can read nothing.
 use crate::definitions::{Reported, is_read};
 use crate::macro2::read;
-use mbe::MacroCallStyles;
+use bitflags::Flags;
 use std::alloc::{AllocError, Global};
-use test_rows::{Wrong, none, rows};
+use test_rows::{Fields, Rows, number, rows};
 
 // Repetitions that can read nothing are refused, those that read something pass.
 pub const REFUSED: &str = rows![
@@ -43,26 +43,18 @@ pub const OVER_FAULTS: &str = rows![
     ("($()*) => {$[a]}", 0, "expected", "expected `$()` repetition or `${}` expression"),
 ];
 
-// Arguments and a body, and the style of what is refused of them.
-static MACROS: [(Option<&str>, &str, MacroCallStyles); 2] = [
-    (Some("$()*"), "", MacroCallStyles::FN_LIKE),
-    (None, "derive() ($()*) => {}, x", MacroCallStyles::DERIVE),
-];
+// Arguments, if there are some, a body, and the bits of the style of what is refused of them.
+pub const MACROS: &str = rows![("$()*", "", 1), ("none", "derive() ($()*) => {}, x", 4),];
 
-fn is_refused(
-    alloc: Global,
-    &(args, body, styles): &(Option<&str>, &str, MacroCallStyles),
-) -> Result<bool, AllocError> {
-    let rules = read(alloc, args, body)?;
-    let is_so = is_read(alloc, &rules, (1, Reported::EmptyRepetition))?;
-    Ok(is_so && rules.rule_styles() == styles)
-}
+/// What is refused of arguments and bodies.
+#[derive(Clone, Copy)]
+pub struct Macros;
 
-#[test]
-fn refused_arguments_and_bodies_of_macros(rt: HostRuntime) -> Result<(), Wrong> {
-    for row in &MACROS {
-        let is_so = is_refused(rt.alloc(), row).unwrap_or(false);
-        none((!is_so).then_some(row.1))?;
+impl Rows for Macros {
+    fn is_so(&self, alloc: Global, [args, body, bits, ..]: Fields) -> Result<bool, AllocError> {
+        let args = (args != "none").then_some(args);
+        let rules = read(alloc, args, body)?;
+        let is_so = is_read(alloc, &rules, (1, Reported::EmptyRepetition))?;
+        Ok(is_so && usize::from(rules.rule_styles().bits()) == number(bits))
     }
-    Ok(())
 }

@@ -1,9 +1,9 @@
 // Repetitions of definitions: what separates their rounds, how often they go round, and their faults.
 use crate::definitions::{Reported, is_text_read};
 use std::alloc::{AllocError, Global};
-use test_rows::{Fields, Rows, Wrong, each, rows};
+use test_rows::{Fields, Rows, rows};
 
-const SUFFIXES: &str = rows![
+pub const SUFFIXES: &str = rows![
     ("*"),
     ("+"),
     ("?"),
@@ -34,18 +34,13 @@ const SUFFIXES: &str = rows![
 
 // A pattern and a template with the suffix in both are read.
 #[derive(Clone, Copy)]
-struct Suffixes;
+pub struct Suffixes;
 
 impl Rows for Suffixes {
     fn is_so(&self, alloc: Global, [suffix, ..]: Fields) -> Result<bool, AllocError> {
         let definition = format!(in alloc; "() => {{}}; ($(a){suffix}) => {{$(a){suffix}}}")?;
         is_text_read(alloc, definition.as_str(), (2, Reported::Nothing))
     }
-}
-
-#[test]
-fn suffixes_of_repetitions(rt: HostRuntime) -> Result<(), Wrong> {
-    each(rt.alloc(), &Suffixes, SUFFIXES, 26)
 }
 
 // Invalid suffixes, in a pattern and in a template.

@@ -13,8 +13,6 @@ use mbe_tt::grammar::FragmentGrammar;
 use mbe_tt::span::{DelimSpan, Edition, Span};
 use mbe_tt::tt::TopSubtree;
 use std::alloc::{AllocError, Allocator, Global};
-use std::fmt::Debug;
-use std::process::Abort;
 use std::rc::Rc;
 use test_rows::{Fields, Rows};
 
@@ -49,19 +47,6 @@ pub fn defined(alloc: Global, definition: &str) -> Result<DeclarativeMacro, Allo
 /// The span of the whole argument, which is the call site of each expansion here.
 pub fn whole<A: Allocator>(argument: &TopSubtree<A>) -> Span {
     argument.top_subtree().delimiter.opening
-}
-
-/// No row is otherwise. A failure shows the first that is.
-pub fn none<T: Debug + Drop>(rt: &impl Abort, wrong: Result<Option<T>, AllocError>) {
-    assert!(rt; matches!(wrong, Ok(None)), "{wrong:?}");
-}
-
-/// No pattern was refused, as `expand` asks.
-pub fn assert_checked<A: Allocator>(rt: &impl Abort, rules: &DeclarativeMacro<A>)
-    ensures { IsChecked (macro_of rules.now) }
-{
-    let refused = matches!(rules.err(), Some(ParseError::RepetitionEmptyTokenTree));
-    assert!(rt; !refused);
 }
 
 /// The expansion of a call in a style by a grammar, with all spans as they are.

@@ -1,17 +1,14 @@
 // Styles of rules, and sets of styles.
 use crate::definitions::{Reported, is_read};
 use crate::runs::{answers, defined, parsed, want};
-use crate::tokens::Lexeme::{Alone, Close, Joint, Open, Raw};
-use crate::tokens::{Token, at};
-use crate::trees::built;
+use crate::trees::read;
 use bitflags::Flags;
 use mbe::{DeclarativeMacro, MacroCallStyle, MacroCallStyles, ParseError};
-use mbe_tt::tt::DelimiterKind::{Brace, Parenthesis};
 use std::alloc::{AllocError, Global};
-use test_rows::{Fields, Rows, Wrong, each, holds, number, rows};
+use test_rows::{Fields, Rows, number, rows};
 
 // A definition and whether it has a fault, the argument of a call and its style, and what is made of it.
-const CALLS: &str = rows![
+pub const CALLS: &str = rows![
     ("attr() () => {A}; () => {B}", "", "", "function", 1, "word B 0 25 26"),
     ("attr() () => {A}; () => {B}", "", "", "attribute", 0, "word A 0 14 15"),
     ("() => {A}; unsafe derive[x] () => {B}; derive() () => {C}", "", "", "derive", 1, "word B 0 35 36"),
@@ -32,7 +29,7 @@ fn style(name: &str) -> MacroCallStyle {
 }
 
 #[derive(Clone, Copy)]
-struct Calls;
+pub struct Calls;
 
 impl Rows for Calls {
     fn is_so(
@@ -50,12 +47,7 @@ impl Rows for Calls {
     }
 }
 
-#[test]
-fn rules_of_another_style_are_passed_over(rt: HostRuntime) -> Result<(), Wrong> {
-    each(rt.alloc(), &Calls, CALLS, 8)
-}
-
-const BITS: &str = rows![
+pub const BITS: &str = rows![
     ("attr() () => {A}; () => {B}", 3),
     ("", 1),
     ("x", 1),
@@ -72,18 +64,13 @@ const BITS: &str = rows![
 ];
 
 #[derive(Clone, Copy)]
-struct Bits;
+pub struct Bits;
 
 impl Rows for Bits {
     fn is_so(&self, alloc: Global, [definition, bits, ..]: Fields) -> Result<bool, AllocError> {
         let styles = defined(alloc, definition)?.rule_styles();
         Ok(usize::from(styles.bits()) == number(bits))
     }
-}
-
-#[test]
-fn styles_of_a_definition_are_those_of_its_rules(rt: HostRuntime) -> Result<(), Wrong> {
-    each(rt.alloc(), &Bits, BITS, 13)
 }
 
 pub const GROUPS: &str = rows![
@@ -102,47 +89,35 @@ pub const GROUPS: &str = rows![
     ("unsafe attr() () => {}", 1),
 ];
 
-// `r#unsafe r#attr() () => {}`, with any spans.
-static RAW_WORDS: [Token<'static>; 10] = [
-    (Raw("unsafe"), 0, 0, 8),
-    (Raw("attr"), 0, 9, 15),
-    (Open(Parenthesis), 0, 15, 16),
-    (Close, 0, 16, 17),
-    (Open(Parenthesis), 0, 18, 19),
-    (Close, 0, 19, 20),
-    (Joint('='), 0, 21, 22),
-    (Alone('>'), 0, 22, 23),
-    (Open(Brace), 0, 24, 25),
-    (Close, 0, 25, 26),
-];
-
-fn are_counted(alloc: Global) -> Result<bool, AllocError> {
-    let tree = built(alloc, at(0, 0, 26), &RAW_WORDS)?;
-    let rules = parsed(alloc, &tree)?;
+/// Whether raw words count as well, as in `r#unsafe r#attr() () => {}`, with any spans.
+pub fn are_raw_counted(alloc: Global) -> Result<bool, AllocError> {
+    let tokens = "tokens 26
+raw unsafe 0 0 8
+raw attr 0 9 15
+open ( 0 15 16
+close ) 0 16 17
+open ( 0 18 19
+close ) 0 19 20
+joint = 0 21 22
+alone > 0 22 23
+open { 0 24 25
+close ) 0 25 26";
+    let rules = parsed(alloc, &read(alloc, 0, tokens)?)?;
     Ok(rules.err().is_none() && rules.rule_styles() == MacroCallStyles::ATTR)
 }
 
-#[test]
-fn raw_words_count_as_well(rt: HostRuntime) -> Result<(), Wrong> {
-    holds(are_counted(rt.alloc()))
+/// Whether a call of the macro of an error has no rule.
+pub fn has_no_rule(alloc: Global) -> Result<bool, AllocError> {
+    let rules = DeclarativeMacro::from_err(alloc, ParseError::InvalidRepeat);
+    let is_so = is_read(alloc, &rules, (0, Reported::InvalidRepeat))?
+        && rules.rule_styles() == MacroCallStyles::FN_LIKE;
+    Ok(is_so && answers(alloc, &rules, ("a", MacroCallStyle::FnLike), None)?)
 }
 
-// A call of the macro of an error has no rule.
-#[test]
-fn macro_of_an_error(rt: HostRuntime) -> Result<(), Wrong> {
-    let rules = DeclarativeMacro::from_err(rt.alloc(), ParseError::InvalidRepeat);
-    let is_so = is_read(rt.alloc(), &rules, (0, Reported::InvalidRepeat)).unwrap_or(false);
-    holds(Ok(is_so && rules.rule_styles() == MacroCallStyles::FN_LIKE))?;
-    let call = ("a", MacroCallStyle::FnLike);
-    holds(answers(rt.alloc(), &rules, call, None))
-}
-
-// It has no rules, so that it can be called.
-#[test]
-fn macro_of_a_refusal_has_no_rule(rt: HostRuntime) -> Result<(), Wrong> {
-    let rules = DeclarativeMacro::from_err(rt.alloc(), ParseError::RepetitionEmptyTokenTree);
-    let call = ("", MacroCallStyle::Attr);
-    holds(answers(rt.alloc(), &rules, call, None))
+/// The same of the macro of a refusal: it has no rules, so that it can be called.
+pub fn refused_has_no_rule(alloc: Global) -> Result<bool, AllocError> {
+    let rules = DeclarativeMacro::from_err(alloc, ParseError::RepetitionEmptyTokenTree);
+    answers(alloc, &rules, ("", MacroCallStyle::Attr), None)
 }
 
 // The set of these bits, whether they are a style's or not.
@@ -150,23 +125,17 @@ fn set(bits: u8) -> MacroCallStyles {
     MacroCallStyles::from_bits_retain(bits)
 }
 
-static NAMED: [(MacroCallStyles, MacroCallStyle, u8); 3] = [
-    (MacroCallStyles::FN_LIKE, MacroCallStyle::FnLike, 1),
-    (MacroCallStyles::ATTR, MacroCallStyle::Attr, 2),
-    (MacroCallStyles::DERIVE, MacroCallStyle::Derive, 4),
-];
-
 fn has_bits(styles: MacroCallStyles, style: MacroCallStyle, bits: u8) -> bool {
     styles.bits() == bits && MacroCallStyles::from(style).bits() == bits
 }
 
-#[test]
-fn styles_have_their_bits(rt: HostRuntime) -> Result<(), Wrong> {
-    for &(styles, style, bits) in &NAMED {
-        holds(Ok(has_bits(styles, style, bits)))?;
-    }
-    holds(Ok(MacroCallStyles::empty().bits() == 0))?;
-    holds(Ok(MacroCallStyles::all().bits() == 7))
+/// Whether styles have their bits.
+pub fn have_bits() -> bool {
+    has_bits(MacroCallStyles::FN_LIKE, MacroCallStyle::FnLike, 1)
+        && has_bits(MacroCallStyles::ATTR, MacroCallStyle::Attr, 2)
+        && has_bits(MacroCallStyles::DERIVE, MacroCallStyle::Derive, 4)
+        && MacroCallStyles::empty().bits() == 0
+        && MacroCallStyles::all().bits() == 7
 }
 
 // Whether the set of these bits has them, and is made of them where all are of styles.
@@ -180,117 +149,108 @@ fn is_set(bits: u8) -> bool {
     is_found && set(bits).bits() == bits
 }
 
-#[test]
-fn sets_of_styles_are_their_bits(rt: HostRuntime) {
+/// Whether sets of styles are their bits.
+pub fn are_sets() -> bool {
     for bits in 0..=255u8 {
-        assert!(rt; is_set(bits), "{bits}");
+        if !is_set(bits) {
+            return false;
+        }
     }
+    true
 }
 
-// What is asked of two sets by their bits; of the first alone where only it matters.
-#[derive(Clone, Copy)]
-enum Asked {
-    Truncated,
-    IsEmpty,
-    IsAll,
-    Contains,
-    Intersects,
-    Union,
-    Intersection,
-    Difference,
-    SymmetricDifference,
-    Complement,
-}
-
-// The bits of a set that is returned; 1 for true.
-fn answer(asked: Asked, one: u8, two: u8) -> u8 {
+// The bits of a set that is asked for by the first letter of a word; 1 for true.
+fn answer(asked: &str, one: u8, two: u8) -> u8 {
     let (first, second) = (set(one), set(two));
-    match asked {
-        Asked::Truncated => MacroCallStyles::from_bits_truncate(one).bits(),
-        Asked::IsEmpty => u8::from(first.is_empty()),
-        Asked::IsAll => u8::from(first.is_all()),
-        Asked::Contains => u8::from(first.contains(second)),
-        Asked::Intersects => u8::from(first.intersects(second)),
-        Asked::Union => first.union(second).bits(),
-        Asked::Intersection => first.intersection(second).bits(),
-        Asked::Difference => first.difference(second).bits(),
-        Asked::SymmetricDifference => first.symmetric_difference(second).bits(),
-        Asked::Complement => first.complement().bits(),
+    match asked.chars().next() {
+        Some('t') => MacroCallStyles::from_bits_truncate(one).bits(),
+        Some('e') => u8::from(first.is_empty()),
+        Some('a') => u8::from(first.is_all()),
+        Some('c') => u8::from(first.contains(second)),
+        Some('m') => u8::from(first.intersects(second)),
+        Some('u') => first.union(second).bits(),
+        Some('i') => first.intersection(second).bits(),
+        Some('d') => first.difference(second).bits(),
+        Some('s') => first.symmetric_difference(second).bits(),
+        _ => first.complement().bits(),
     }
 }
 
-static ANSWERS: [(Asked, u8, u8, u8); 51] = [
-    (Asked::Truncated, 0, 0, 0),
-    (Asked::Truncated, 5, 0, 5),
-    (Asked::Truncated, 8, 0, 0),
-    (Asked::Truncated, 13, 0, 5),
-    (Asked::Truncated, 248, 0, 0),
-    (Asked::Truncated, 255, 0, 7),
-    (Asked::IsEmpty, 0, 0, 1),
-    (Asked::IsEmpty, 1, 0, 0),
-    (Asked::IsEmpty, 6, 0, 0),
-    (Asked::IsEmpty, 7, 0, 0),
-    (Asked::IsEmpty, 8, 0, 0),
-    (Asked::IsEmpty, 135, 0, 0),
-    (Asked::IsAll, 0, 0, 0),
-    (Asked::IsAll, 1, 0, 0),
-    (Asked::IsAll, 6, 0, 0),
-    (Asked::IsAll, 7, 0, 1),
-    (Asked::IsAll, 8, 0, 0),
-    (Asked::IsAll, 135, 0, 1),
-    (Asked::Contains, 3, 1, 1),
-    (Asked::Contains, 3, 6, 0),
-    (Asked::Contains, 3, 4, 0),
-    (Asked::Contains, 3, 0, 1),
-    (Asked::Contains, 0, 3, 0),
-    (Asked::Contains, 9, 8, 1),
-    (Asked::Intersects, 3, 1, 1),
-    (Asked::Intersects, 3, 6, 1),
-    (Asked::Intersects, 3, 4, 0),
-    (Asked::Intersects, 3, 0, 0),
-    (Asked::Intersects, 0, 3, 0),
-    (Asked::Intersects, 9, 8, 1),
-    (Asked::Union, 3, 6, 7),
-    (Asked::Union, 1, 4, 5),
-    (Asked::Union, 7, 7, 7),
-    (Asked::Union, 12, 4, 12),
-    (Asked::Intersection, 3, 6, 2),
-    (Asked::Intersection, 1, 4, 0),
-    (Asked::Intersection, 7, 7, 7),
-    (Asked::Intersection, 12, 4, 4),
-    (Asked::Difference, 3, 6, 1),
-    (Asked::Difference, 1, 4, 1),
-    (Asked::Difference, 7, 7, 0),
-    (Asked::Difference, 12, 4, 8),
-    (Asked::SymmetricDifference, 3, 6, 5),
-    (Asked::SymmetricDifference, 1, 4, 5),
-    (Asked::SymmetricDifference, 7, 7, 0),
-    (Asked::SymmetricDifference, 12, 4, 8),
-    (Asked::Complement, 0, 0, 7),
-    (Asked::Complement, 1, 0, 6),
-    (Asked::Complement, 7, 0, 0),
-    (Asked::Complement, 248, 0, 7),
-    (Asked::Complement, 255, 0, 0),
+// What is asked of two sets by their bits, of the first alone where only it matters, and the bits that are answered.
+pub const ANSWERS: &str = rows![
+    ("truncated", 0, 0, 0),
+    ("truncated", 5, 0, 5),
+    ("truncated", 8, 0, 0),
+    ("truncated", 13, 0, 5),
+    ("truncated", 248, 0, 0),
+    ("truncated", 255, 0, 7),
+    ("empty", 0, 0, 1),
+    ("empty", 1, 0, 0),
+    ("empty", 6, 0, 0),
+    ("empty", 7, 0, 0),
+    ("empty", 8, 0, 0),
+    ("empty", 135, 0, 0),
+    ("all", 0, 0, 0),
+    ("all", 1, 0, 0),
+    ("all", 6, 0, 0),
+    ("all", 7, 0, 1),
+    ("all", 8, 0, 0),
+    ("all", 135, 0, 1),
+    ("contains", 3, 1, 1),
+    ("contains", 3, 6, 0),
+    ("contains", 3, 4, 0),
+    ("contains", 3, 0, 1),
+    ("contains", 0, 3, 0),
+    ("contains", 9, 8, 1),
+    ("meets", 3, 1, 1),
+    ("meets", 3, 6, 1),
+    ("meets", 3, 4, 0),
+    ("meets", 3, 0, 0),
+    ("meets", 0, 3, 0),
+    ("meets", 9, 8, 1),
+    ("union", 3, 6, 7),
+    ("union", 1, 4, 5),
+    ("union", 7, 7, 7),
+    ("union", 12, 4, 12),
+    ("intersection", 3, 6, 2),
+    ("intersection", 1, 4, 0),
+    ("intersection", 7, 7, 7),
+    ("intersection", 12, 4, 4),
+    ("difference", 3, 6, 1),
+    ("difference", 1, 4, 1),
+    ("difference", 7, 7, 0),
+    ("difference", 12, 4, 8),
+    ("symmetric difference", 3, 6, 5),
+    ("symmetric difference", 1, 4, 5),
+    ("symmetric difference", 7, 7, 0),
+    ("symmetric difference", 12, 4, 8),
+    ("not", 0, 0, 7),
+    ("not", 1, 0, 6),
+    ("not", 7, 0, 0),
+    ("not", 248, 0, 7),
+    ("not", 255, 0, 0),
 ];
 
-#[test]
-fn questions_to_sets_of_styles(rt: HostRuntime) {
-    for (row, &(asked, one, two, want)) in ANSWERS.iter().enumerate() {
-        assert!(rt; answer(asked, one, two) == want, "row {row}");
-    }
+fn bits_of(row: &str) -> u8 {
+    row.parse::<u8>().unwrap_or(u8::MAX)
 }
 
-#[test]
-fn changed_sets_of_styles(rt: HostRuntime) -> Result<(), Wrong> {
+/// Whether these are the bits that are answered.
+pub fn is_answered(asked: &str, one: &str, two: &str, want: &str) -> bool {
+    answer(asked, bits_of(one), bits_of(two)) == bits_of(want)
+}
+
+/// Whether sets of styles are changed as their bits are.
+pub fn are_changed() -> bool {
     let mut styles = MacroCallStyles::FN_LIKE;
     styles.insert(set(10));
-    holds(Ok(styles == set(11)))?;
+    let is_inserted = styles == set(11);
     styles.remove(set(9));
-    holds(Ok(styles == set(2)))?;
+    let is_removed = styles == set(2);
     styles.toggle(set(6));
-    holds(Ok(styles == set(4)))?;
+    let is_toggled = styles == set(4);
     styles.set(set(3), true);
-    holds(Ok(styles == set(7)))?;
+    let is_set = styles == set(7);
     styles.set(set(5), false);
-    holds(Ok(styles == MacroCallStyles::ATTR))
+    is_inserted && is_removed && is_toggled && is_set && styles == MacroCallStyles::ATTR
 }

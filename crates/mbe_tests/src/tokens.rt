@@ -30,13 +30,21 @@ fn kind(opening: &str) -> DelimiterKind {
     }
 }
 
-// What a token of a row is, by the first letter of its sort: `word`, `raw`, `number`, `float`, `text`, `alone`, `joint`, `open`, `close`.
+// How many bytes of an integer are its suffix.
+fn suffix_len(sort: &str) -> u8 {
+    let len = sort.strip_prefix("suffixed").unwrap_or("");
+    len.parse::<u8>().unwrap_or(0)
+}
+
+// What a token of a row is, by the first letter of its sort: `word`, `raw`, `number`, `suffixed2` with a suffix of two bytes, `float`,
+// `text`, `alone`, `joint`, `open`, `close`.
 fn read_lexeme<'t>(sort: &str, text: &'t str) -> Lexeme<'t> {
     let char = text.chars().next().unwrap_or(' ');
     match sort.chars().next() {
         Some('w') => Lexeme::Word(text),
         Some('r') => Lexeme::Raw(text),
         Some('n') => Lexeme::Number(text),
+        Some('s') => Lexeme::Suffixed(text, suffix_len(sort)),
         Some('f') => Lexeme::Float(text),
         Some('t') => Lexeme::Text(text),
         Some('a') => Lexeme::Alone(char),

@@ -9,7 +9,7 @@ use mbe::{DeclarativeMacro, ParseError, Verdict};
 use mbe_tt::grammar::FragmentGrammar;
 use mbe_tt::tt::TopSubtree;
 use std::alloc::{AllocError, Allocator, Global};
-use test_rows::{Fields, Rows, Wrong, each, holds, rows};
+use test_rows::{Fields, Rows, rows};
 
 /// The verdict of each rule on the argument, in order.
 pub fn explained<A: Allocator + Copy, G: FragmentGrammar>(
@@ -28,7 +28,7 @@ pub fn explained<A: Allocator + Copy, G: FragmentGrammar>(
 }
 
 // A definition, an argument, and the verdict of each rule. The grammar faults on everything.
-const VERDICTS: &str = rows![
+pub const VERDICTS: &str = rows![
     ("", "a", "[]"),
     ("(a) => {}; ($x:ident) => {${count($y)}}; ($x:tt $y:tt) => {}", "a", "[OneReading, OneReading, Stuck(1)]"),
     // Over the quote, or over the whole separator.
@@ -61,7 +61,7 @@ fn checked<G: FragmentGrammar>(
 }
 
 #[derive(Clone, Copy)]
-struct Verdicts;
+pub struct Verdicts;
 
 impl Rows for Verdicts {
     fn is_so(
@@ -76,20 +76,13 @@ impl Rows for Verdicts {
     }
 }
 
-#[test]
-fn each_rule_has_a_verdict(rt: HostRuntime) -> Result<(), Wrong> {
-    each(rt.alloc(), &Verdicts, VERDICTS, 9)
-}
-
 // Whether there are verdicts of that grammar.
 fn has_verdicts<G: FragmentGrammar>(alloc: Global, grammar: &G) -> Result<bool, AllocError> {
     let argument = lexed(alloc, 1, "a")?;
     Ok(checked(alloc, grammar, "($e:expr) => {}", &argument).is_ok())
 }
 
-#[test]
-fn a_grammar_without_memory_gives_no_verdict(rt: HostRuntime) -> Result<(), Wrong> {
-    holds(has_verdicts(rt.alloc(), &NOTHING))?;
-    let has_none = matches!(has_verdicts(rt.alloc(), &NoMemory), Ok(false));
-    holds(Ok(has_none))
+/// Whether a grammar without memory gives no verdict, and another does.
+pub fn needs_memory(alloc: Global) -> Result<bool, AllocError> {
+    Ok(has_verdicts(alloc, &NOTHING)? && !has_verdicts(alloc, &NoMemory)?)
 }

@@ -1,4 +1,4 @@
-// The tests of `mbe_text`, through its public calls.
+// The tests of `mbe_tt` and `mbe_text`, through their public calls.
 #![tactic(auto)]
 
 #[cfg(test)]
@@ -11,3 +11,5 @@ mod rust;
 mod rust_rows;
 #[cfg(test)]
 mod symbols;
+#[cfg(test)]
+mod trees;

@@ -1,4 +1,4 @@
-// Tests of templates, under bindings that are made by hand.
+// Tests of the binding log, and of templates under bindings that are made by hand.
 #![tactic(auto)]
 
 #[cfg(test)]
@@ -6,7 +6,7 @@ mod bound;
 #[cfg(test)]
 mod grammar;
 #[cfg(test)]
-mod rounds;
+mod logs;
 #[cfg(test)]
 mod rows;
 #[cfg(test)]

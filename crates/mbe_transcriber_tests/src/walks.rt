@@ -1,55 +1,26 @@
 // What iterators over ops give: those of a whole template, and those of its groups and of its repetitions' bodies.
 use crate::rows::template_of;
 use crate::trees::trees_of;
-use mbe_ops::ops::Op;
+use mbe_ops::ops::{MetaTemplate, Op};
 use mbe_ops::walk::{OpDelimited, OpDelimitedIter};
 use mbe_tt::tt::{Delimiter, DelimiterKind};
 use std::alloc::{AllocError, Allocator, Global};
-use std::test::Fail;
+use test_rows::{Fields, rows};
 
 // A template; what comes of it, and then of each group and of each repetition that is in it, after a bar.
-struct Row {
-    template: &'static str,
-    given: &'static str,
-}
-
-static ROWS: [Row; 9] = [
-    Row {
-        template: "a",
-        given: "a ",
-    },
-    Row {
-        template: "a + 1 $ x b",
-        given: "a + 1 $x b ",
-    },
-    Row {
-        template: "( a b )",
-        given: "group | ( a b ) ",
-    },
-    Row {
-        template: "a [ ] b",
-        given: "a group b | [ ] ",
-    },
-    Row {
-        template: "{ { a } b }",
-        given: "group | { group b } ",
-    },
-    Row {
-        template: "<< a >>",
-        given: "group | << a >> ",
-    },
-    Row {
-        template: "$ ( a ; ) *",
-        given: "rounds | a ; ",
-    },
-    Row {
-        template: "$ ( ( $ x ) ) , +",
-        given: "rounds | group ",
-    },
-    Row {
-        template: "( a ) $ ( b c ) * d << >>",
-        given: "group rounds d group | ( a ) | b c | << >> ",
-    },
+pub const TEMPLATES: &str = rows![
+    ("a", "a "),
+    ("a + 1 $ x b", "a + 1 $x b "),
+    ("( a b )", "group | ( a b ) "),
+    ("a [ ] b", "a group b | [ ] "),
+    ("{ { a } b }", "group | { group b } "),
+    ("<< a >>", "group | << a >> "),
+    ("$ ( a ; ) *", "rounds | a ; "),
+    ("$ ( ( $ x ) ) , +", "rounds | group "),
+    (
+        "( a ) $ ( b c ) * d << >>",
+        "group rounds d group | ( a ) | b c | << >> "
+    ),
 ];
 
 fn opening(delimiter: Delimiter) -> &'static str {
@@ -105,33 +76,32 @@ fn push_all<A: Allocator>(
     Ok(())
 }
 
-impl Row {
-    fn is_right(&self, alloc: Global) -> Result<bool, AllocError> {
-        let trees = trees_of(alloc, 0, self.template)?;
-        let template = template_of(alloc, &trees)?;
-        let mut text = String::new(alloc);
-        push_all(&mut text, template.iter())?;
-        for op in &template.0 {
-            match op {
-                Op::Subtree { tokens, delimiter } => {
-                    text.push_str("| ")?;
-                    push_all(&mut text, tokens.iter_delimited(*delimiter))?;
-                }
-                Op::Repeat { tokens, .. } => {
-                    text.push_str("| ")?;
-                    push_all(&mut text, tokens.iter())?;
-                }
-                _ => {}
-            }
+// What comes of an op that has ops inside.
+fn push_inside(text: &mut String, op: &Op) -> Result<(), AllocError> {
+    match op {
+        Op::Subtree { tokens, delimiter } => {
+            text.push_str("| ")?;
+            push_all(text, tokens.iter_delimited(*delimiter))
         }
-        Ok(text.as_str() == self.given)
+        Op::Repeat { tokens, .. } => {
+            text.push_str("| ")?;
+            push_all(text, tokens.iter())
+        }
+        _ => Ok(()),
     }
 }
 
-#[test]
-fn each_op_comes_once_between_the_delimiters(rt: HostRuntime) -> Result<(), Fail> {
-    for row in &ROWS {
-        assert!(&rt; row.is_right(rt.alloc())?, "{}", row.template);
+fn shown(alloc: Global, template: &MetaTemplate) -> Result<String, AllocError> {
+    let mut text = String::new(alloc);
+    push_all(&mut text, template.iter())?;
+    for op in &template.0 {
+        push_inside(&mut text, op)?;
     }
-    Ok(())
+    Ok(text)
+}
+
+/// Whether each op comes once between the delimiters.
+pub fn is_walked(alloc: Global, [template, given, ..]: Fields) -> Result<bool, AllocError> {
+    let template = template_of(alloc, &trees_of(alloc, 0, template)?)?;
+    Ok(shown(alloc, &template)?.as_str() == given)
 }

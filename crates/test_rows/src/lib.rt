@@ -74,6 +74,14 @@ pub fn each<T: Rows>(
     none(first_wrong(alloc, test, rows, count))
 }
 
+/// Each table has so many rows, and each of them is as it says. One test of all tables costs less than a test of each.
+pub fn all<T: Rows>(alloc: Global, tables: &[(T, &'static str, usize)]) -> Result<(), Wrong> {
+    for (test, rows, count) in tables {
+        each(alloc, test, rows, *count)?;
+    }
+    Ok(())
+}
+
 /// What is tested of each row of a table, with any allocator.
 pub trait AnyRows {
     /// Whether a row with these fields is as it says.

@@ -1,0 +1,184 @@
+// What is tested of the rows of each table, and all tables. What the fields are is said at the tables.
+use crate::definitions::tests::{DESCRIBED, is_described, is_read};
+use crate::errors::ERRORS;
+use crate::expansions::tests::{self, expands_nothing, is_expanded, is_marked};
+use crate::explaining::tests::are_explained;
+use crate::grammars::tests::are_handed_in;
+use crate::memory::count_requests;
+use crate::results::tests::{are_made, is_call_changed, is_type_found};
+use crate::rustc::BESIDE_RUSTC;
+use crate::small::tests::{are_read, is_bound_in_one};
+use crate::tables::sum_of;
+use crate::tables::tests::SUMS;
+use crate::theorem::tests::{CALLS, becomes};
+use crate::viewing::tests::is_group_expanded;
+use crate::{bindings, texts, walks, writing};
+use std::alloc::{AllocError, Global};
+use test_rows::{Fields, Rows, Wrong, all, rows};
+
+#[derive(Clone, Copy)]
+enum Kind {
+    Expanded,
+    Error,
+    Described,
+    Applied,
+    Sum,
+}
+
+fn is_sum(alloc: Global, text: &str, count: &str) -> Option<bool> {
+    if text.len() > 1_000_000 {
+        return None;
+    }
+    Some(sum_of(alloc, text).ok()? == count.parse::<usize>().ok())
+}
+
+impl Rows for Kind {
+    fn is_so(
+        &self,
+        alloc: Global,
+        [one, two, three, four, five, _]: Fields,
+    ) -> Result<bool, AllocError> {
+        let is_so = match self {
+            Kind::Expanded => is_expanded(alloc, (one, two), three, (four, five)),
+            Kind::Error => is_expanded(alloc, (one, two), "0", (three, "")),
+            Kind::Described => is_described(alloc, one, (two, three), four),
+            Kind::Applied => becomes(alloc, one, two),
+            Kind::Sum => is_sum(alloc, one, two),
+        };
+        Ok(is_so.unwrap_or(false))
+    }
+}
+
+static TABLES: [(Kind, &str, usize); 6] = [
+    (Kind::Expanded, tests::CALLS, 3),
+    (Kind::Expanded, BESIDE_RUSTC, 9),
+    (Kind::Error, ERRORS, 11),
+    (Kind::Described, DESCRIBED, 5),
+    (Kind::Applied, CALLS, 4),
+    (Kind::Sum, SUMS, 4),
+];
+
+#[test]
+fn calls_do_what_their_rows_say(rt: HostRuntime) -> Result<(), Wrong> {
+    all(rt.alloc(), &TABLES)
+}
+
+// What is tested once, of calls.
+#[derive(Clone, Copy)]
+enum Call {
+    Read,
+    Refused,
+    Marked,
+    Explained,
+    HandedIn,
+    Memory,
+    Changed,
+    Made,
+    Type,
+    Group,
+}
+
+impl Rows for Call {
+    fn is_so(&self, alloc: Global, _fields: Fields) -> Result<bool, AllocError> {
+        let is_so = match self {
+            Call::Read => is_read(alloc),
+            Call::Refused => expands_nothing(alloc),
+            Call::Marked => is_marked(alloc),
+            Call::Explained => are_explained(alloc),
+            Call::HandedIn => are_handed_in(alloc),
+            // The two buffers, the rules, the two lists of ops, the symbols of the texts and the expansion's buffer at least.
+            Call::Memory => Some(count_requests(alloc).unwrap_or(0) > 8),
+            Call::Changed => is_call_changed(alloc),
+            Call::Made => are_made(alloc),
+            Call::Type => is_type_found(alloc),
+            Call::Group => is_group_expanded(alloc),
+        };
+        Ok(is_so.unwrap_or(false))
+    }
+}
+
+static ONCE: [(Call, &str, usize); 10] = [
+    (Call::Read, rows![("a macro is copied")], 1),
+    (Call::Refused, rows![("refused patterns expand nothing")], 1),
+    (Call::Marked, rows![("the template is marked")], 1),
+    (Call::Explained, rows![("each rule has its verdict")], 1),
+    (Call::HandedIn, rows![("grammars are handed in")], 1),
+    (Call::Memory, rows![("each request is refused in turn")], 1),
+    (Call::Changed, rows![("results are changed")], 1),
+    (Call::Made, rows![("results are made")], 1),
+    (Call::Type, rows![("a type is found")], 1),
+    (Call::Group, rows![("a group is an argument")], 1),
+];
+
+#[test]
+fn calls_do_what_is_said(rt: HostRuntime) -> Result<(), Wrong> {
+    all(rt.alloc(), &ONCE)
+}
+
+// The same of trees and values.
+#[derive(Clone, Copy)]
+enum Tree {
+    Bound,
+    Read,
+    OfItsLog,
+    Printed,
+    Counted,
+    Kept,
+    Assigned,
+    Expected,
+    Consumed,
+    Names,
+    LookedInto,
+    Built,
+    Group,
+}
+
+impl Rows for Tree {
+    fn is_so(&self, alloc: Global, _fields: Fields) -> Result<bool, AllocError> {
+        let is_so = match self {
+            Tree::Bound => bindings::tests::is_bound_each_way(alloc),
+            Tree::Read => are_read(alloc),
+            Tree::OfItsLog => is_bound_in_one(alloc),
+            Tree::Printed => Some(texts::tests::is_printed(alloc)),
+            Tree::Counted => Some(texts::tests::are_counted(alloc)),
+            Tree::Kept => texts::tests::are_kept(alloc),
+            Tree::Assigned => walks::tests::is_assignment_read(alloc),
+            Tree::Expected => walks::tests::is_each_expected(alloc),
+            Tree::Consumed => walks::tests::are_consumed(alloc),
+            Tree::Names => walks::tests::are_counted(alloc),
+            Tree::LookedInto => walks::tests::is_looked_into(alloc),
+            Tree::Built => writing::tests::are_built(alloc),
+            Tree::Group => writing::tests::is_group_built(alloc),
+        };
+        Ok(is_so.unwrap_or(false))
+    }
+}
+
+static TREES: [(Tree, &str, usize); 13] = [
+    (
+        Tree::Bound,
+        rows![("names are bound by a log and by hand")],
+        1,
+    ),
+    (Tree::Read, rows![("small values are read")], 1),
+    (Tree::OfItsLog, rows![("a handle is of its log")], 1),
+    (Tree::Printed, rows![("a text is printed by its trees")], 1),
+    (
+        Tree::Counted,
+        rows![("faults and ends are counted in bytes")],
+        1,
+    ),
+    (Tree::Kept, rows![("names of two files are kept once")], 1),
+    (Tree::Assigned, rows![("assignments are read")], 1),
+    (Tree::Expected, rows![("each tree is expected")], 1),
+    (Tree::Consumed, rows![("trees are consumed")], 1),
+    (Tree::Names, rows![("names and leaves are counted")], 1),
+    (Tree::LookedInto, rows![("a group is looked into")], 1),
+    (Tree::Built, rows![("trees are built")], 1),
+    (Tree::Group, rows![("groups are built")], 1),
+];
+
+#[test]
+fn trees_and_values_are_what_is_said(rt: HostRuntime) -> Result<(), Wrong> {
+    all(rt.alloc(), &TREES)
+}

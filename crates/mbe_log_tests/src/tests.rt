@@ -1,4 +1,0 @@
-mod memory;
-mod rows;
-mod scripts;
-mod values;

@@ -1,0 +1,72 @@
+// All tables, and the requests for memory that are refused. The rows of the tables are beside what they are about.
+use crate::faults::{Faults, Parts};
+use crate::found::Found;
+use crate::large::Large;
+use crate::parting::{Partings, Ways};
+use crate::rows::{Binds, Stops};
+use crate::{faults, following, large, parting, rows, variables};
+use std::alloc::{AllocError, Global};
+use test_rows::{AnyRows, Fields, Rows, Wrong, all, each_refused};
+
+#[derive(Clone, Copy)]
+enum Kind {
+    Stops,
+    Binds,
+    Large,
+    Parting,
+    Ways,
+    Fault,
+    PartFault,
+    BetweenRules,
+    Found,
+}
+
+impl Rows for Kind {
+    fn is_so(&self, alloc: Global, fields: Fields) -> Result<bool, AllocError> {
+        match self {
+            Kind::Stops => Stops.is_so(alloc, fields),
+            Kind::Binds => Binds.is_so(alloc, fields),
+            Kind::Large => Large.is_so(alloc, fields),
+            Kind::Parting => Partings.is_so(alloc, fields),
+            Kind::Ways => Ways.is_so(alloc, fields),
+            Kind::Fault => Faults.is_so(alloc, fields),
+            Kind::PartFault => Parts.is_so(alloc, fields),
+            Kind::BetweenRules => faults::is_between_rules(alloc, fields[0]),
+            Kind::Found => Found.is_so(alloc, fields),
+        }
+    }
+}
+
+static TABLES: [(Kind, &str, usize); 19] = [
+    (Kind::Stops, rows::REPETITIONS, 13),
+    (Kind::Stops, rows::AMBIGUITIES, 2),
+    (Kind::Binds, rows::REPORTS, 4),
+    (Kind::Binds, rows::BINDINGS, 8),
+    (Kind::Large, large::SEMICOLONS, 3),
+    (Kind::Large, large::WORDS, 2),
+    (Kind::Large, large::GROUPS, 2),
+    (Kind::Parting, parting::BEFORE_A_REPETITION, 8),
+    (Kind::Parting, parting::AFTER_A_ROUND, 4),
+    (Kind::Parting, parting::DEAD_ENDS, 3),
+    (Kind::Parting, parting::ONE_READING, 5),
+    (Kind::Ways, parting::WAYS, 6),
+    (Kind::Fault, faults::FAULTS, 29),
+    (Kind::Fault, faults::EMPTY, 10),
+    (Kind::Fault, faults::READ, 7),
+    (Kind::PartFault, faults::PARTS, 5),
+    (Kind::BetweenRules, faults::ONE, 1),
+    (Kind::Found, following::ROWS, 134),
+    (Kind::Found, variables::ROWS, 20),
+];
+
+#[test]
+fn matches_partings_and_findings_are_as_their_rows_say(rt: HostRuntime) -> Result<(), Wrong> {
+    all(rt.alloc(), &TABLES)
+}
+
+#[test]
+fn each_request_for_memory_refused(rt: HostRuntime) -> Result<(), Wrong> {
+    each_refused(rt.alloc(), &Stops, (rows::REFUSED, 3), (10, false))?;
+    each_refused(rt.alloc(), &Binds, (rows::REFUSED_BINDINGS, 2), (10, false))?;
+    each_refused(rt.alloc(), &Partings, (parting::DEAD_ENDS, 3), (0, true))
+}

@@ -1,0 +1,119 @@
+use super::calls::{Book, built, make, names, new_book};
+use mbe_log::log::{BindingLog, Handle};
+use mbe_tt::span::{DelimSpan, Span};
+use mbe_tt::symbol::Symbol;
+use mbe_tt::tt::TopSubtree;
+use std::alloc::{AllocError, Global};
+use test_rows::{Fields, number, rows};
+
+// Calls, a handle, its two numbers of entries after them, and what it binds three names to.
+pub const ROWS: &str = rows![
+    ("alloc", 0, 0, 0, "..."),
+    ("alloc, tree 0 0, tree 0 1, tree 0 2", 0, 3, 0, "eee"),
+    ("alloc, tree 0 0, tree 0 1, tree 0 2, default 0", 0, 0, 1, "..."),
+    // A round that doesn't bind a name leaves an empty list; what the child binds later isn't seen.
+    ("alloc, alloc, tree 0 0, default 0, tree 0 1, nested 1 0, tree 0 2", 1, 1, 0, "[e][[]e]."),
+    ("alloc, tree 0 0, optional 0 1, missing 0 2", 0, 3, 0, "eo?"),
+    // A later command replaces.
+    ("alloc, tree 0 0, skipped 0 0", 0, 2, 0, "-.."),
+    // Of a name that is bound twice in a round, the later value is the round's.
+    ("alloc, alloc, tree 0 0, tree 0 0, nested 1 0", 1, 1, 0, "[e].."),
+    ("alloc, alloc, tree 0 0, skipped 0 0, nested 1 0", 1, 1, 0, "[-].."),
+    ("alloc, alloc, skipped 0 0, tree 0 1, tree 0 0, nested 1 0", 1, 1, 0, "[e][e]."),
+    // Two names in each round, in another order in the second.
+    ("alloc, alloc, tree 0 0, tree 0 1, default 0, tree 0 1, tree 0 0, nested 1 0", 1, 1, 0, "[ee][ee]."),
+    // A round that binds another name twice leaves an empty list of the one before.
+    ("alloc, alloc, tree 0 0, tree 0 2, default 0, tree 0 1, tree 0 1, nested 1 0", 1, 1, 0, "[e][[]e][e]"),
+    // Rounds leave a value that is no list.
+    ("alloc, alloc, tree 0 0, skipped 1 0, nested 1 0", 1, 2, 0, "-.."),
+    // Rounds are appended to rounds.
+    ("alloc, alloc, tree 0 0, nested 1 0, skipped 0 0, nested 1 0", 1, 2, 0, "[e-].."),
+    // A copy doesn't see what is pushed to the other later.
+    ("alloc, tree 0 0, copy 0, tree 0 1, copy 1, optional 2 2, skipped 1 2", 2, 2, 0, "e.o"),
+    ("alloc, tree 0 0, copy 0, tree 1 1", 0, 1, 0, "e.."),
+    // Rounds within rounds.
+    ("alloc, alloc, alloc, tree 0 0, default 0, optional 0 0, nested 1 0, default 1, skipped 1 0, nested 2 1", 2, 1, 0, "[[eo]-].."),
+];
+
+// Whether the handle has such numbers of entries and binds that.
+fn is_bound(
+    alloc: Global,
+    book: &Book<'_>,
+    names: &[Symbol],
+    handle: usize,
+    (entries, binds): ((usize, usize), &str),
+) -> Result<bool, AllocError> {
+    let Some(handle) = book.handles.get(handle) else {
+        return Ok(false);
+    };
+    if !book.log.has_entries_of(handle) || book.log.entries_of(handle) != entries {
+        return Ok(false);
+    }
+    Ok(built(alloc, &book.log, handle, names)?.as_str() == binds)
+}
+
+/// The same after all calls of a row.
+pub fn is_row(
+    alloc: Global,
+    [calls, handle, current, finished, binds, ..]: Fields,
+) -> Result<bool, AllocError> {
+    let tree = TopSubtree::empty(alloc, DelimSpan::from_single(Span::default()))?;
+    let names = names(alloc, 3)?;
+    let mut book = new_book(alloc);
+    let want = ((number(current), number(finished)), binds);
+    let made = make(&mut book, &names, tree.view(), calls, usize::MAX);
+    Ok(made == calls.split(',').count() && is_bound(alloc, &book, &names, number(handle), want)?)
+}
+
+// Pushes a command for each name, where the handle is live before each.
+fn push_all(
+    log: &mut BindingLog<'_>,
+    handle: &mut Handle,
+    names: &[Symbol],
+) -> Result<bool, AllocError> {
+    for name in names {
+        if !log.has_entries_of(handle) {
+            return Ok(false);
+        }
+        log.push_optional(handle, name)?;
+    }
+    Ok(true)
+}
+
+// Whether the handle is live, and how many names it binds then.
+fn binds(log: &BindingLog<'_>, handle: &Handle, count: usize) -> Result<bool, AllocError> {
+    if !log.has_entries_of(handle) {
+        return Ok(false);
+    }
+    Ok(log.build(handle)?.len() == count)
+}
+
+// Whether the handle is live, and has few entries.
+fn is_short(log: &BindingLog<'_>, handle: &Handle) -> bool {
+    log.has_entries_of(handle) && matches!(log.entries_of(handle), (0..=3, 0..=3))
+}
+
+// Whether a handle of the first thousand names has a short copy, which doesn't see what is pushed after it.
+fn is_copied(log: &mut BindingLog<'_>, names: &[Symbol]) -> Result<bool, AllocError> {
+    let (front, last) = names.split_at(names.len().min(1_000));
+    let mut handle = log.alloc()?;
+    if !push_all(log, &mut handle, front)? || !log.has_entries_of(&handle) {
+        return Ok(false);
+    }
+    let copy = log.copy(&handle)?;
+    let is_pushed = push_all(log, &mut handle, last)?;
+    Ok(
+        is_pushed
+            && is_short(log, &copy)
+            && binds(log, &copy, 1_000)?
+            && binds(log, &handle, 1_001)?,
+    )
+}
+
+/// Whether a copy of many commands has few entries, and doesn't see what is pushed after it.
+pub fn is_copied_short(alloc: Global) -> Result<bool, AllocError> {
+    let names = names(alloc, 1_001)?;
+    is_copied(&mut BindingLog::new(alloc), &names)
+}
+
+// A copy of many commands has few entries, and doesn't see what is pushed after it.
