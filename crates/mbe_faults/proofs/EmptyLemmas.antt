@@ -378,7 +378,8 @@ module _ (A : Type 0) (HasEdition : SyntaxContext → Edition → Type 0) where
   opens f left front shows os (ops.group d b) x inside t h fits e =
       in_group_front f left front shows os d b x inside front (front_group f left front shows os d b t) h fits e
   opens f left front shows os (ops.repetition b sep k) x inside t h fits e =
-      in_repetition_front f left front shows os b sep k x inside front (front_repetition f left front shows os b sep k t)
+      in_repetition_front f left front shows os b sep k x inside front
+      (front_repetition f left front shows os b sep k t)
       h fits e
   opens f left front shows os (ops.token w) x inside t h fits e = absurd h
   opens f left front shows os (ops.variable name kind span) x inside t h fits e = absurd h

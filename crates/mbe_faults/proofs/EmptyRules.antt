@@ -66,7 +66,8 @@ module _ (HasEdition : SyntaxContext → Edition → Type 0) where
     pub one_faulty : (rs : List Rule) (fault : Fault) → rs ≡ [] → PartsFault HasEdition OneRule fault
         → IsOneRefused HasEdition arguments body rs (Some fault)
     one_faulty rs fault e p =
-        subst (λ (xs : List Rule). IsMacroOfArguments HasEdition arguments body xs (Some fault)) (sym e) (faulty fault p)
+        subst (λ (xs : List Rule). IsMacroOfArguments HasEdition arguments body xs (Some fault)) (sym e)
+        (faulty fault p)
 
     one_read : (r : Rule) (rs : List Rule) (why : Option Fault) → rs ≡ r ∷ [] → AreParts HasEdition OneRule r
         → with_refusal (r ∷ []) None ≡ why → IsOneRefused HasEdition arguments body rs why

@@ -43,7 +43,7 @@ module _ (HasEdition : SyntaxContext → Edition → Type 0) where
     pub reads : (os : Ops) → Template HasEdition pattern before (op o os) → Template HasEdition pattern left os
     pub at : is_refused_op o ≡ false → (n : ℕ) → EmptyAt left n → EmptyAt before (passed before left + n)
 
-  -- the first of the rules that these chars separate whose pattern has one: the number of the rules before, and its place
+  -- the first of the rules that these chars separate whose pattern has one: the number of rules before, and its place
   pub data RulesEmptyAt (separators : List ℕ) : Forest → ℕ → ℕ → Type 0 where
     in_rule : (f : Forest) (o : RuleTrees) (r : Rule) (n : ℕ) → rule_trees_at f ≡ Ok o → AreParts HasEdition o r
         → EmptyAt o.reads n → RulesEmptyAt separators f 0 (pattern_place f o + n)

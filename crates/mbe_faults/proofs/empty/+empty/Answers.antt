@@ -1,11 +1,21 @@
-use Rattle.std.proofs.Common.{◌≡◌, ◌+◌, ◌-◌, ◌<◌, ◌≤◌, ◌∙◌, ap, sym, arith}
+use Rattle.std.proofs.Common.{◌≡◌, ℕ, ◌+◌, ◌-◌, ◌<◌, ◌≤◌, ◌∙◌, ap, sym, arith}
 use Rattle.std.specs.Prelude.{◌||◌, false}
 use Rattle.mbe_tt.specs.Trees.Tree.{flat_len, passed}
 use Rattle.mbe_semantics.specs.Syntax.Nullable.{is_refused, is_refused_op}
 use Rattle.mbe_ops.specs.Views.{op_of, ops_of}
 use Rattle.mbe_faults.specs.Empty.{EmptyAt}
-use Rattle.mbe_faults.proofs.EmptyLemmas.{opens, not_closed, plain_past, plain_shorter, read_next, same_empty, further_at, each_place, further_place, further_some}
+use Rattle.mbe_faults.proofs.EmptyLemmas.{Opens, opens, not_closed, plain_past, plain_shorter, read_next, same_empty, further_at, each_place, further_place, further_some}
 use Rattle.mbe_faults.proofs.empty.+empty.Goals as goal
+use Rattle.mbe_faults.proofs.empty.+empty.Goals.{empty_at_front-In-Some-inside}
+
+-- the trees in its front are those of the op
+opened : (g : _) (t : ℕ) (c : empty_at_front-In-Some-inside g t) → Opens g.row.A.Denot
+    (λ ctx e. g.E.Fn.post c.args.edition (ctx, tt) e) (op_of c.args.op.now) c.args.src.now c.eat_front.new.src
+    c.in-Some-inside.inside (ops_of c.in-Some.inner.ops.now) c.in-Some.inner.is_empty c.in-Some.inner.before
+opened g t c =
+    opens _ _ c.args.src.now c.eat_front.new.src c.in_ok-front.front c.in_ok-front.ensures.front
+    c.requires.read.0 (op_of c.args.op.now) c.in-Some.inner c.in-Some-inside.inside c.requires.read.1
+    c.in-Some.ensures c.in_ok-front.ensures.fits (sym c.inside.ensures ∙ c.in-Some-inside.is)
 
 pub empty_at_front-returns-in_default-clause-past : goal.empty_at_front-returns-in_default-clause-past
 empty_at_front-returns-in_default-clause-past g t c =
@@ -27,85 +37,63 @@ empty_at_front-unreachable-requires g t c =
 
 pub empty_at_front-returns-then-inner-clause-place : goal.empty_at_front-returns-then-inner-clause-place
 empty_at_front-returns-then-inner-clause-place g t c =
-    let o = opens _ _ c.args.src.now c.eat_front.new.src c.in_ok-front.front c.in_ok-front.ensures.front
-    c.requires.read.0 (op_of c.args.op.now) c.in-Some.inner c.in-Some-inside.inside c.requires.read.1
-    c.in-Some.ensures c.in_ok-front.ensures.fits (sym c.inside.ensures ∙ c.in-Some-inside.is) in
+    let o = opened g t (goal.at.empty_at_front-returns-then-inner-clause-place g t c).In-Some-inside in
     o.here c.if-inner.true
 
 pub empty_at_front-returns-then-inner-clause-past : goal.empty_at_front-returns-then-inner-clause-past
 empty_at_front-returns-then-inner-clause-past g t c =
-    let o = opens _ _ c.args.src.now c.eat_front.new.src c.in_ok-front.front c.in_ok-front.ensures.front
-    c.requires.read.0 (op_of c.args.op.now) c.in-Some.inner c.in-Some-inside.inside c.requires.read.1
-    c.in-Some.ensures c.in_ok-front.ensures.fits (sym c.inside.ensures ∙ c.in-Some-inside.is) in
+    let o = opened g t (goal.at.empty_at_front-returns-then-inner-clause-past g t c).In-Some-inside in
     o.past
 
 pub empty_at_front-returns-then-inner-clause-within : goal.empty_at_front-returns-then-inner-clause-within
 empty_at_front-returns-then-inner-clause-within g t c =
-    let o = opens _ _ c.args.src.now c.eat_front.new.src c.in_ok-front.front c.in_ok-front.ensures.front
-    c.requires.read.0 (op_of c.args.op.now) c.in-Some.inner c.in-Some-inside.inside c.requires.read.1
-    c.in-Some.ensures c.in_ok-front.ensures.fits (sym c.inside.ensures ∙ c.in-Some-inside.is) in
+    let o = opened g t (goal.at.empty_at_front-returns-then-inner-clause-within g t c).In-Some-inside in
     omega (arith, o.some, o.room)
 
 pub empty_at_front-returns-then-inner-clause-shorter : goal.empty_at_front-returns-then-inner-clause-shorter
 empty_at_front-returns-then-inner-clause-shorter g t c =
-    let o = opens _ _ c.args.src.now c.eat_front.new.src c.in_ok-front.front c.in_ok-front.ensures.front
-    c.requires.read.0 (op_of c.args.op.now) c.in-Some.inner c.in-Some-inside.inside c.requires.read.1
-    c.in-Some.ensures c.in_ok-front.ensures.fits (sym c.inside.ensures ∙ c.in-Some-inside.is) in
+    let o = opened g t (goal.at.empty_at_front-returns-then-inner-clause-shorter g t c).In-Some-inside in
     o.shorter
 
 pub empty_at_front-first_empty-requires : goal.empty_at_front-first_empty-requires
 empty_at_front-first_empty-requires g t c κs within =
-    let o = opens _ _ c.args.src.now c.eat_front.new.src c.in_ok-front.front c.in_ok-front.ensures.front
-    c.requires.read.0 (op_of c.args.op.now) c.in-Some.inner c.in-Some-inside.inside c.requires.read.1
-    c.in-Some.ensures c.in_ok-front.ensures.fits (sym c.inside.ensures ∙ c.in-Some-inside.is) in
+    let o = opened g t (goal.at.empty_at_front-first_empty-requires g t c).In-Some-inside in
     (omega (arith, c.decreases, o.some, o.room), (within.0, (within.1, (c.requires.answers, o.body))))
 
 pub empty_at_front-further-requires : goal.empty_at_front-further-requires
 empty_at_front-further-requires g t c =
-    let o = opens _ _ c.args.src.now c.eat_front.new.src c.in_ok-front.front c.in_ok-front.ensures.front
-    c.requires.read.0 (op_of c.args.op.now) c.in-Some.inner c.in-Some-inside.inside c.requires.read.1
-    c.in-Some.ensures c.in_ok-front.ensures.fits (sym c.inside.ensures ∙ c.in-Some-inside.is) in
+    let o = opened g t (goal.at.empty_at_front-further-requires g t c).In-Some-inside in
     each_place (λ n. n ≤ flat_len c.in-Some-inside.inside) (λ n. c.in-Some.inner.before + n < 18446744073709551616)
     c.in_ok-first_empty.field-0 (λ n h. omega (arith, h, o.room, c.requires.small)) c.in_ok-first_empty.ensures.within
 
 pub empty_at_front-returns-clause-place : goal.empty_at_front-returns-clause-place
 empty_at_front-returns-clause-place g t c =
-    let o = opens _ _ c.args.src.now c.eat_front.new.src c.in_ok-front.front c.in_ok-front.ensures.front
-    c.requires.read.0 (op_of c.args.op.now) c.in-Some.inner c.in-Some-inside.inside c.requires.read.1
-    c.in-Some.ensures c.in_ok-front.ensures.fits (sym c.inside.ensures ∙ c.in-Some-inside.is) in
+    let o = opened g t (goal.at.empty_at_front-returns-clause-place g t c).In-Some-inside in
     rw c.further.ensures (further_place (EmptyAt _ c.in-Some-inside.inside) (EmptyAt _ c.args.src.now)
     c.in-Some.inner.before c.in_ok-first_empty.field-0 (o.at c.if-inner.false) c.in_ok-first_empty.ensures.place)
 
 pub empty_at_front-returns-clause-refused : goal.empty_at_front-returns-clause-refused
 empty_at_front-returns-clause-refused g t c =
-    let o = opens _ _ c.args.src.now c.eat_front.new.src c.in_ok-front.front c.in_ok-front.ensures.front
-    c.requires.read.0 (op_of c.args.op.now) c.in-Some.inner c.in-Some-inside.inside c.requires.read.1
-    c.in-Some.ensures c.in_ok-front.ensures.fits (sym c.inside.ensures ∙ c.in-Some-inside.is) in
+    let o = opened g t (goal.at.empty_at_front-returns-clause-refused g t c).In-Some-inside in
     let b = ops_of c.in-Some.inner.ops.now in
     rw c.further.ensures (further_some c.in-Some.inner.before c.in_ok-first_empty.field-0
     ∙ (c.in_ok-first_empty.ensures.refused ∙ (ap (λ v. v || is_refused b) (sym c.if-inner.false) ∙ o.refused)))
 
 pub empty_at_front-returns-clause-past : goal.empty_at_front-returns-clause-past
 empty_at_front-returns-clause-past g t c =
-    let o = opens _ _ c.args.src.now c.eat_front.new.src c.in_ok-front.front c.in_ok-front.ensures.front
-    c.requires.read.0 (op_of c.args.op.now) c.in-Some.inner c.in-Some-inside.inside c.requires.read.1
-    c.in-Some.ensures c.in_ok-front.ensures.fits (sym c.inside.ensures ∙ c.in-Some-inside.is) in
+    let o = opened g t (goal.at.empty_at_front-returns-clause-past g t c).In-Some-inside in
     o.past
 
 pub empty_at_front-returns-clause-within : goal.empty_at_front-returns-clause-within
 empty_at_front-returns-clause-within g t c =
-    let o = opens _ _ c.args.src.now c.eat_front.new.src c.in_ok-front.front c.in_ok-front.ensures.front
-    c.requires.read.0 (op_of c.args.op.now) c.in-Some.inner c.in-Some-inside.inside c.requires.read.1
-    c.in-Some.ensures c.in_ok-front.ensures.fits (sym c.inside.ensures ∙ c.in-Some-inside.is) in
+    let o = opened g t (goal.at.empty_at_front-returns-clause-within g t c).In-Some-inside in
     rw c.further.ensures (further_place (λ n. n ≤ flat_len c.in-Some-inside.inside) (λ n. n ≤ flat_len c.args.src.now)
     c.in-Some.inner.before c.in_ok-first_empty.field-0 (λ n h. omega (arith, h, o.room))
     c.in_ok-first_empty.ensures.within)
 
 pub empty_at_front-returns-clause-shorter : goal.empty_at_front-returns-clause-shorter
 empty_at_front-returns-clause-shorter g t c =
-    let o = opens _ _ c.args.src.now c.eat_front.new.src c.in_ok-front.front c.in_ok-front.ensures.front
-    c.requires.read.0 (op_of c.args.op.now) c.in-Some.inner c.in-Some-inside.inside c.requires.read.1
-    c.in-Some.ensures c.in_ok-front.ensures.fits (sym c.inside.ensures ∙ c.in-Some-inside.is) in
+    let o = opened g t (goal.at.empty_at_front-returns-clause-shorter g t c).In-Some-inside in
     o.shorter
 
 pub first_empty-empty_at_front-requires : goal.first_empty-empty_at_front-requires

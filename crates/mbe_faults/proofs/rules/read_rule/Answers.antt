@@ -1,4 +1,4 @@
-use Rattle.std.proofs.Common.{◌≡◌, ◌≤◌, ◌<◌, ◌+◌, ◌-◌, ap, arith}
+use Rattle.std.proofs.Common.{◌≡◌, ℕ, ◌≤◌, ◌<◌, ◌+◌, ◌-◌, ap, arith}
 use Rattle.mbe_tt.specs.Trees.Tree.{flat_len, passed}
 use Rattle.mbe_errors.specs.ErrorViews.{fault_of}
 use Rattle.mbe_ops.specs.Views.{template_of}
@@ -8,6 +8,26 @@ use Rattle.mbe_faults.proofs.RuleLemmas.{rule_placed}
 use Rattle.mbe_faults.proofs.EmptyLemmas.{each_place, further_place}
 use Rattle.mbe_faults.proofs.EmptyRules.{rule_empty}
 use Rattle.mbe_faults.proofs.rules.read_rule.Goals as goal
+use Rattle.mbe_faults.proofs.rules.read_rule.Goals.{After-flat_len-4}
+
+module _ (g : _) (c : After-flat_len-4 g) where
+  -- the lengths are those of the trees
+  lens : (c.flat_len-whole.result ≡ flat_len c.args.src.now) × (c.flat_len-2.result ≡ flat_len c.rule_trees.new.src)
+      × (c.flat_len-3.result ≡ flat_len c.in-Ok.parts.2) × (c.flat_len-4.result ≡ flat_len c.in-Ok.parts.1)
+  lens = (
+    omega (arith, c.flat_len-whole.ensures, ap flat_len c.remaining.ensures),
+    omega (arith, c.flat_len-2.ensures, ap flat_len c.remaining-2.ensures),
+    omega (arith, c.flat_len-3.ensures, ap flat_len c.remaining-3.ensures),
+    omega (arith, c.flat_len-4.ensures, ap flat_len c.remaining-4.ensures),
+  )
+
+  -- where the pattern's trees are
+  abbrev in_pattern_from : ℕ
+  in_pattern_from =
+      c.flat_len-whole.result - c.flat_len-2.result - (c.flat_len-3.result + 1) - (c.flat_len-4.result + 4)
+
+  room_in_pattern : in_pattern_from + flat_len c.in-Ok.parts.1 ≤ c.flat_len-whole.result
+  room_in_pattern = omega (arith, c.in-Ok.ensures.room, lens)
 
 pub returns-in-Err-clause-fault : goal.returns-in-Err-clause-fault
 returns-in-Err-clause-fault g c =
@@ -28,18 +48,7 @@ returns-in-Err-2-clause-fault g c =
     let o = rule_of_parts c.in-Ok.parts c.rule_trees.new.src in
     let w = rw c.in-Err-2.is at c.in_ok-read.ensures.fault in
     let e : pattern_place f o + c.in-Err-2.found.place ≡ c.moved.result.place =
-    omega (
-      arith,
-      c.moved.ensures.place,
-      c.flat_len-whole.ensures,
-      ap flat_len c.remaining.ensures,
-      c.flat_len-2.ensures,
-      ap flat_len c.remaining-2.ensures,
-      c.flat_len-3.ensures,
-      ap flat_len c.remaining-3.ensures,
-      c.flat_len-4.ensures,
-      ap flat_len c.remaining-4.ensures,
-    ) in
+    omega (arith, c.moved.ensures.place, lens g (goal.at.returns-in-Err-2-clause-fault g c).After-flat_len-4) in
     rw c.moved.ensures.fault (rule_placed _ (fault_of c.in-Err-2.found.fault) f _ _ e
     (in_pattern o c.in-Err-2.found.place c.in-Ok.ensures.trees w))
 
@@ -53,12 +62,7 @@ returns-in-Err-3-clause-fault g c =
     omega (
       arith,
       c.moved-in-Err-3.ensures.place,
-      c.flat_len-whole.ensures,
-      ap flat_len c.remaining.ensures,
-      c.flat_len-2.ensures,
-      ap flat_len c.remaining-2.ensures,
-      c.flat_len-3.ensures,
-      ap flat_len c.remaining-3.ensures,
+      lens g (goal.at.returns-in-Err-3-clause-fault g c).After-flat_len-4,
     ) in
     rw c.moved-in-Err-3.ensures.fault (rule_placed _ (fault_of c.in-Err-3.found.fault) f _ _ e
     (in_template o (template_of c.in-Ok-2.read.0) c.in-Err-3.found.place c.in-Ok.ensures.trees reads w))
@@ -71,33 +75,15 @@ returns-in-Err-3-clause-within g c =
       within,
       c.in-Ok.ensures.room,
       c.moved-in-Err-3.ensures.place,
-      c.flat_len-whole.ensures,
-      ap flat_len c.remaining.ensures,
-      c.flat_len-2.ensures,
-      ap flat_len c.remaining-2.ensures,
-      c.flat_len-3.ensures,
-      ap flat_len c.remaining-3.ensures,
+      lens g (goal.at.returns-in-Err-3-clause-within g c).After-flat_len-4,
     )
 
 pub further-requires : goal.further-requires
 further-requires g c =
-    let room : (c.flat_len-whole.result - c.flat_len-2.result - (c.flat_len-3.result + 1) - (c.flat_len-4.result + 4))
-    + flat_len c.in-Ok.parts.1 ≤ c.flat_len-whole.result =
-    omega (
-      arith,
-      c.in-Ok.ensures.room,
-      c.flat_len-whole.ensures,
-      ap flat_len c.remaining.ensures,
-      c.flat_len-2.ensures,
-      ap flat_len c.remaining-2.ensures,
-      c.flat_len-3.ensures,
-      ap flat_len c.remaining-3.ensures,
-      c.flat_len-4.ensures,
-      ap flat_len c.remaining-4.ensures,
-    ) in
+    let here = (goal.at.further-requires g c).After-flat_len-4 in
+    let room = room_in_pattern g here in
     each_place (λ n. n ≤ flat_len c.in-Ok.parts.1)
-    (λ n. (c.flat_len-whole.result - c.flat_len-2.result - (c.flat_len-3.result + 1) - (c.flat_len-4.result + 4)) + n
-    < 18446744073709551616) c.in-Ok-2.read.1 (λ n h. omega (arith, h, room))
+    (λ n. in_pattern_from g here + n < 18446744073709551616) c.in-Ok-2.read.1 (λ n h. omega (arith, h, room))
     (rw c.in-Ok-2.is at c.in_ok-read.ensures.within_empty)
 
 pub returns-in-Ok-3-clause-empty : goal.returns-in-Ok-3-clause-empty
@@ -107,17 +93,7 @@ returns-in-Ok-3-clause-empty g c =
     let w = rw c.in-Ok-2.is at c.in_ok-read.ensures.empty in
     let e : c.flat_len-whole.result - c.flat_len-2.result - (c.flat_len-3.result + 1) - (c.flat_len-4.result + 4)
     ≡ pattern_place f o =
-    omega (
-      arith,
-      c.flat_len-whole.ensures,
-      ap flat_len c.remaining.ensures,
-      c.flat_len-2.ensures,
-      ap flat_len c.remaining-2.ensures,
-      c.flat_len-3.ensures,
-      ap flat_len c.remaining-3.ensures,
-      c.flat_len-4.ensures,
-      ap flat_len c.remaining-4.ensures,
-    ) in
+    omega (arith, lens g (goal.at.returns-in-Ok-3-clause-empty g c).After-flat_len-4) in
     rw c.further.ensures (rule_empty _ f o (record {
       style = c.in-Ok.parts.0;
       reads = template_of c.in-Ok-2.read.0;
@@ -126,22 +102,9 @@ returns-in-Ok-3-clause-empty g c =
 
 pub returns-in-Ok-3-clause-within_empty : goal.returns-in-Ok-3-clause-within_empty
 returns-in-Ok-3-clause-within_empty g c =
-    let room : (c.flat_len-whole.result - c.flat_len-2.result - (c.flat_len-3.result + 1) - (c.flat_len-4.result + 4))
-    + flat_len c.in-Ok.parts.1 ≤ c.flat_len-whole.result =
-    omega (
-      arith,
-      c.in-Ok.ensures.room,
-      c.flat_len-whole.ensures,
-      ap flat_len c.remaining.ensures,
-      c.flat_len-2.ensures,
-      ap flat_len c.remaining-2.ensures,
-      c.flat_len-3.ensures,
-      ap flat_len c.remaining-3.ensures,
-      c.flat_len-4.ensures,
-      ap flat_len c.remaining-4.ensures,
-    ) in
-    let all : c.flat_len-whole.result ≡ flat_len c.args.src.now =
-    omega (arith, c.flat_len-whole.ensures, ap flat_len c.remaining.ensures) in
+    let here = (goal.at.returns-in-Ok-3-clause-within_empty g c).After-flat_len-4 in
+    let room = room_in_pattern g here in
+    let l = lens g here in
     rw c.further.ensures (further_place (λ n. n ≤ flat_len c.in-Ok.parts.1) (λ n. n ≤ flat_len c.args.src.now)
-    (c.flat_len-whole.result - c.flat_len-2.result - (c.flat_len-3.result + 1) - (c.flat_len-4.result + 4))
-    c.in-Ok-2.read.1 (λ n h. omega (arith, h, room, all)) (rw c.in-Ok-2.is at c.in_ok-read.ensures.within_empty))
+    (in_pattern_from g here)
+    c.in-Ok-2.read.1 (λ n h. omega (arith, h, room, l.0)) (rw c.in-Ok-2.is at c.in_ok-read.ensures.within_empty))

@@ -1,17 +1,55 @@
-use Rattle.std.proofs.Common.{◌≡◌, ◌≤◌, ◌<◌, ◌+◌, ◌-◌, ◌∙◌, [], ◌∷◌, ◌++◌, ap, sym, refl, length, rules, arith}
+use Rattle.std.proofs.Common.{List, Option, ◌≡◌, ◌≤◌, ◌<◌, ◌+◌, ◌-◌, ◌∙◌, [], ◌∷◌, ◌++◌, ap, sym, refl, length, rules, arith}
 use Rattle.std.proofs.lemmas.List.{length-map}
+use Rattle.mbe_tt.specs.declared.span.SyntaxContext.{SyntaxContext}
+use Rattle.mbe_tt.specs.declared.span.Edition.{Edition}
 use Rattle.mbe_tt.specs.Trees.Tree.{none, flat_len, passed}
+use Rattle.mbe_semantics.specs.Syntax.Definition.{Rule}
 use Rattle.mbe_errors.specs.ErrorViews.{fault_of}
+use Rattle.mbe_parser.specs.Reader.{ReadsRule}
 use Rattle.mbe_parser.specs.RuleViews.{rule_of, rules_seen}
 use Rattle.mbe_parser.proofs.RuleReading.{IsSeparated, at_fault, at_end, one_more, last_rule, stray_rule, rules-push, rules-push-more}
 use Rattle.mbe_faults.proofs.PlaceLaws.{rule_fault_is}
 use Rattle.mbe_faults.proofs.RuleLemmas.{at_rule, at_stray, so_far-step, so_far-counted, same_rules_place, length-push}
+use Rattle.mbe_faults.specs.declared.rules.RulesFault.{RulesFault}
+use Rattle.mbe_faults.specs.Empty.{IsRuleEmpty}
 use Rattle.mbe_faults.specs.Refusals.{first_of}
 use Rattle.mbe_faults.proofs.EmptyLemmas.{each_place}
-use Rattle.mbe_faults.proofs.EmptyRules.{settled-more, goes-more, refused-by, refused-or-none, placed-some, placed-by}
+use Rattle.mbe_faults.proofs.EmptyRules.{Settled, settled-more, goes-more, refused-by, refused-or-none, placed-some, placed-by}
 use Rattle.mbe_ops.proofs.Fragments.{rest_no_longer}
 use Rattle.mbe_tt.proofs.Places.CutLemmas.{no_true}
 use Rattle.mbe_faults.proofs.rules.read_rules.Goals as goal
+use Rattle.mbe_faults.proofs.rules.read_rules.Goals.{In_ok-push-in-Ok}
+
+-- after a rule that was read
+module _ (g : _) (c : In_ok-push-in-Ok g) where
+  abbrev HasEdition : SyntaxContext → Edition → Type 0
+  HasEdition ctx e = g.E.Fn.post c.args.edition (ctx, tt) e
+
+  abbrev read : List Rule
+  read = rules_seen c.rules.rules.items ++ rule_of c.in-Ok.rule ∷ []
+
+  abbrev first : Option RulesFault
+  first = first_of c.rules.empty c.in-Ok.place c.len.result (c.flat_len-whole.result - c.flat_len.result)
+
+  reads : ReadsRule HasEdition c.rules.src (rule_of c.in-Ok.rule) c.read_rule.new.src
+  reads = rw c.in-Ok.is at c.in_ok-rule.ensures.rule
+
+  empty : IsRuleEmpty HasEdition c.rules.src (rule_of c.in-Ok.rule) c.in-Ok.place
+  empty = rw c.in-Ok.is at c.in_ok-rule.ensures.empty
+
+  counted : length c.rules.rules.items + 1 ≡ length c.push.new.self.items
+  counted = sym (ap length c.in_ok-push-in-Ok.ensures.items ∙ length-push c.rules.rules.items c.in-Ok.rule)
+
+  settled : Settled HasEdition c.args.separators.now c.args.src read first
+  settled =
+      let many : c.len.result ≡ length c.rules.rules.items = search rules in
+      let far : c.flat_len-whole.result - c.flat_len.result ≡ passed c.args.src c.rules.src =
+      omega (arith, c.rules.invariant.whole, c.flat_len.ensures, ap flat_len c.remaining-in-rules.ensures) in
+      settled-more _ c.args.separators.now c.args.src c.rules.src c.read_rule.new.src
+      (rules_seen c.rules.rules.items) (rule_of c.in-Ok.rule) c.rules.empty c.in-Ok.place
+      (c.flat_len-whole.result - c.flat_len.result) c.len.result
+      (many ∙ sym (length-map c.rules.rules.items rule_of)) far c.rules.invariant.settled c.rules.invariant.goes reads
+      empty
 
 pub returns-in-Err-clause-rules : goal.returns-in-Err-clause-rules
 returns-in-Err-clause-rules g c =
@@ -68,127 +106,72 @@ rules-smaller g c =
 
 pub rules-preserved : goal.rules-preserved
 rules-preserved g c =
-    let reads = rw c.in-Ok.is at c.in_ok-rule.ensures.rule in
-    let empty = rw c.in-Ok.is at c.in_ok-rule.ensures.empty in
-    let counted : c.len.result ≡ length c.rules.rules.items = search rules in
-    let many : c.len.result ≡ length (rules_seen c.rules.rules.items) =
-    counted ∙ sym (length-map c.rules.rules.items rule_of) in
-    let far : c.flat_len-whole.result - c.flat_len.result ≡ passed c.args.src c.rules.src =
-    omega (arith, c.rules.invariant.whole, c.flat_len.ensures, ap flat_len c.remaining-in-rules.ensures) in
-    let settled = settled-more _ c.args.separators.now c.args.src c.rules.src c.read_rule.new.src
-    (rules_seen c.rules.rules.items) (rule_of c.in-Ok.rule) c.rules.empty c.in-Ok.place
-    (c.flat_len-whole.result - c.flat_len.result) c.len.result many far c.rules.invariant.settled c.rules.invariant.goes
-    reads empty in
+    let here = (goal.at.rules-preserved g c).In_ok-push-in-Ok in
     let shorter = rw c.in-Ok.is at c.in_ok-rule.ensures.shorter in
     let separated = c.in-Ok-expect_any_char.ensures.value.0 refl in
     let rest = c.in-Ok-expect_any_char.ensures.rest in
     let fewer : flat_len c.expect_any_char.new.self ≤ flat_len c.rules.src =
     omega (arith, shorter, ap flat_len rest, rest_no_longer c.read_rule.new.src) in
-    let k : length c.rules.rules.items + 1 ≡ length c.push.new.self.items =
-    sym (ap length c.in_ok-push-in-Ok.ensures.items ∙ length-push c.rules.rules.items c.in-Ok.rule) in
     record {
       continues = λ rs x h. rw (c.in_ok-push-in-Ok.ensures.items, rules-push-more)
           (one_more _ c.args.separators.now (fault_of c.args.missing) (rules_seen c.rules.rules.items)
           (rule_of c.in-Ok.rule) c.args.src c.rules.src c.read_rule.new.src c.expect_any_char.new.self
-          c.rules.invariant.continues reads separated rest rs x h);
+          c.rules.invariant.continues (reads g here) separated rest rs x h);
       so_far = so_far-counted _ c.args.separators.now (fault_of c.args.missing) c.args.src c.expect_any_char.new.self
-          _ _ k (so_far-step _ c.args.separators.now (fault_of c.args.missing) (length c.rules.rules.items) c.args.src
+          _ _ (counted g here) (so_far-step _ c.args.separators.now (fault_of c.args.missing)
+          (length c.rules.rules.items) c.args.src
           c.rules.src c.rules.invariant.so_far (rule_of c.in-Ok.rule) c.read_rule.new.src c.expect_any_char.new.self
-          reads separated rest fewer);
-      settled = rw (c.first_of-empty.ensures, c.in_ok-push-in-Ok.ensures.items, rules-push) settled;
+          (reads g here) separated rest fewer);
+      settled = rw (c.first_of-empty.ensures, c.in_ok-push-in-Ok.ensures.items, rules-push) (settled g here);
       goes = rw (c.first_of-empty.ensures, c.in_ok-push-in-Ok.ensures.items, rules-push)
           (goes-more _ c.args.separators.now c.args.src c.rules.src c.read_rule.new.src c.expect_any_char.new.self
           (rules_seen c.rules.rules.items) (rule_of c.in-Ok.rule) c.rules.empty c.in-Ok.place
-          (c.flat_len-whole.result - c.flat_len.result) c.len.result c.rules.invariant.goes reads empty separated rest
+          (c.flat_len-whole.result - c.flat_len.result) c.len.result c.rules.invariant.goes (reads g here)
+          (empty g here) separated rest
           fewer c.rules.invariant.so_far.shorter);
       whole = c.rules.invariant.whole;
     }
 
 pub returns-then-is_empty-clause-rules : goal.returns-then-is_empty-clause-rules
 returns-then-is_empty-clause-rules g c =
-    let reads = rw c.in-Ok.is at c.in_ok-rule.ensures.rule in
-    let empty = rw c.in-Ok.is at c.in_ok-rule.ensures.empty in
-    let counted : c.len.result ≡ length c.rules.rules.items = search rules in
-    let many : c.len.result ≡ length (rules_seen c.rules.rules.items) =
-    counted ∙ sym (length-map c.rules.rules.items rule_of) in
-    let far : c.flat_len-whole.result - c.flat_len.result ≡ passed c.args.src c.rules.src =
-    omega (arith, c.rules.invariant.whole, c.flat_len.ensures, ap flat_len c.remaining-in-rules.ensures) in
-    let settled = settled-more _ c.args.separators.now c.args.src c.rules.src c.read_rule.new.src
-    (rules_seen c.rules.rules.items) (rule_of c.in-Ok.rule) c.rules.empty c.in-Ok.place
-    (c.flat_len-whole.result - c.flat_len.result) c.len.result many far c.rules.invariant.settled c.rules.invariant.goes
-    reads empty in
+    let here = (goal.at.returns-then-is_empty-clause-rules g c).In_ok-push-in-Ok in
     let nothing_left : c.expect_any_char.new.self ≡ none = search rules in
     rw (c.first_of-empty.ensures, c.in_ok-push-in-Ok.ensures.items, rules-push)
-    (refused-or-none _ c.args.separators.now c.args.src (fault_of c.args.missing)
-    (rules_seen c.rules.rules.items ++ rule_of c.in-Ok.rule ∷ [])
-    (first_of c.rules.empty c.in-Ok.place c.len.result (c.flat_len-whole.result - c.flat_len.result)) settled
+    (refused-or-none _ c.args.separators.now c.args.src (fault_of c.args.missing) (read g here)
+    (first g here) (settled g here)
     (last_rule _ c.args.separators.now (fault_of c.args.missing) (rules_seen c.rules.rules.items)
-    (rule_of c.in-Ok.rule) c.args.src c.rules.src c.read_rule.new.src c.rules.invariant.continues reads
+    (rule_of c.in-Ok.rule) c.args.src c.rules.src c.read_rule.new.src c.rules.invariant.continues (reads g here)
     (sym c.in_default.ensures.rest ∙ nothing_left)))
 
 pub returns-then-is_empty-clause-place : goal.returns-then-is_empty-clause-place
 returns-then-is_empty-clause-place g c =
-    let reads = rw c.in-Ok.is at c.in_ok-rule.ensures.rule in
-    let empty = rw c.in-Ok.is at c.in_ok-rule.ensures.empty in
-    let counted : c.len.result ≡ length c.rules.rules.items = search rules in
-    let many : c.len.result ≡ length (rules_seen c.rules.rules.items) =
-    counted ∙ sym (length-map c.rules.rules.items rule_of) in
-    let far : c.flat_len-whole.result - c.flat_len.result ≡ passed c.args.src c.rules.src =
-    omega (arith, c.rules.invariant.whole, c.flat_len.ensures, ap flat_len c.remaining-in-rules.ensures) in
-    let settled = settled-more _ c.args.separators.now c.args.src c.rules.src c.read_rule.new.src
-    (rules_seen c.rules.rules.items) (rule_of c.in-Ok.rule) c.rules.empty c.in-Ok.place
-    (c.flat_len-whole.result - c.flat_len.result) c.len.result many far c.rules.invariant.settled c.rules.invariant.goes
-    reads empty in
+    let here = (goal.at.returns-then-is_empty-clause-place g c).In_ok-push-in-Ok in
     rw c.first_of-empty.ensures
-    (placed-some _ c.args.separators.now c.args.src (fault_of c.args.missing)
-    (rules_seen c.rules.rules.items ++ rule_of c.in-Ok.rule ∷ [])
-    (first_of c.rules.empty c.in-Ok.place c.len.result (c.flat_len-whole.result - c.flat_len.result)) settled)
+    (placed-some _ c.args.separators.now c.args.src (fault_of c.args.missing) (read g here)
+    (first g here) (settled g here))
 
 pub returns-in_default-clause-rules : goal.returns-in_default-clause-rules
 returns-in_default-clause-rules g c =
-    let reads = rw c.in-Ok.is at c.in_ok-rule.ensures.rule in
-    let empty = rw c.in-Ok.is at c.in_ok-rule.ensures.empty in
-    let counted : c.len.result ≡ length c.rules.rules.items = search rules in
-    let many : c.len.result ≡ length (rules_seen c.rules.rules.items) =
-    counted ∙ sym (length-map c.rules.rules.items rule_of) in
-    let far : c.flat_len-whole.result - c.flat_len.result ≡ passed c.args.src c.rules.src =
-    omega (arith, c.rules.invariant.whole, c.flat_len.ensures, ap flat_len c.remaining-in-rules.ensures) in
-    let settled = settled-more _ c.args.separators.now c.args.src c.rules.src c.read_rule.new.src
-    (rules_seen c.rules.rules.items) (rule_of c.in-Ok.rule) c.rules.empty c.in-Ok.place
-    (c.flat_len-whole.result - c.flat_len.result) c.len.result many far c.rules.invariant.settled c.rules.invariant.goes
-    reads empty in
+    let here = (goal.at.returns-in_default-clause-rules g c).In_ok-push-in-Ok in
     let some_left : c.expect_any_char.new.self ≡ none → ⊥ = search rules in
     let none_in_front : IsSeparated c.args.separators.now c.read_rule.new.src → ⊥ =
     λ h. no_true (c.in_default.ensures.value.1 h) in
     rw (c.refused-in_default.ensures, c.first_of-empty.ensures, c.in_ok-push-in-Ok.ensures.items, rules-push)
-    (refused-by _ c.args.separators.now c.args.src (fault_of c.args.missing)
-    (rules_seen c.rules.rules.items ++ rule_of c.in-Ok.rule ∷ [])
-    (first_of c.rules.empty c.in-Ok.place c.len.result (c.flat_len-whole.result - c.flat_len.result)) c.faulty-fault-in_default.result settled
+    (refused-by _ c.args.separators.now c.args.src (fault_of c.args.missing) (read g here)
+    (first g here) c.faulty-fault-in_default.result (settled g here)
     (rw c.faulty-fault-in_default.ensures.fault
     (stray_rule _ c.args.separators.now (fault_of c.args.missing) (rules_seen c.rules.rules.items)
-    (rule_of c.in-Ok.rule) c.args.src c.rules.src c.read_rule.new.src c.rules.invariant.continues reads
+    (rule_of c.in-Ok.rule) c.args.src c.rules.src c.read_rule.new.src c.rules.invariant.continues (reads g here)
     (λ e. some_left (c.in_default.ensures.rest ∙ e)) none_in_front)))
 
 pub returns-in_default-clause-place : goal.returns-in_default-clause-place
 returns-in_default-clause-place g c =
-    let reads = rw c.in-Ok.is at c.in_ok-rule.ensures.rule in
-    let empty = rw c.in-Ok.is at c.in_ok-rule.ensures.empty in
-    let counted : c.len.result ≡ length c.rules.rules.items = search rules in
-    let many : c.len.result ≡ length (rules_seen c.rules.rules.items) =
-    counted ∙ sym (length-map c.rules.rules.items rule_of) in
-    let far : c.flat_len-whole.result - c.flat_len.result ≡ passed c.args.src c.rules.src =
-    omega (arith, c.rules.invariant.whole, c.flat_len.ensures, ap flat_len c.remaining-in-rules.ensures) in
-    let settled = settled-more _ c.args.separators.now c.args.src c.rules.src c.read_rule.new.src
-    (rules_seen c.rules.rules.items) (rule_of c.in-Ok.rule) c.rules.empty c.in-Ok.place
-    (c.flat_len-whole.result - c.flat_len.result) c.len.result many far c.rules.invariant.settled c.rules.invariant.goes
-    reads empty in
+    let here = (goal.at.returns-in_default-clause-place g c).In_ok-push-in-Ok in
     let shorter = rw c.in-Ok.is at c.in_ok-rule.ensures.shorter in
     let some_left : c.expect_any_char.new.self ≡ none → ⊥ = search rules in
     let none_in_front : IsSeparated c.args.separators.now c.read_rule.new.src → ⊥ =
     λ h. no_true (c.in_default.ensures.value.1 h) in
     let n : length c.push.new.self.items ≡ c.faulty-fault-in_default.result.rule = search rules in
-    let k : length c.rules.rules.items + 1 ≡ length c.push.new.self.items =
-    sym (ap length c.in_ok-push-in-Ok.ensures.items ∙ length-push c.rules.rules.items c.in-Ok.rule) in
     let e : passed c.args.src c.read_rule.new.src ≡ c.faulty-fault-in_default.result.place =
     omega (
       arith,
@@ -199,14 +182,13 @@ returns-in_default-clause-place g c =
       ap flat_len c.in_default.ensures.rest,
     ) in
     rw (c.refused-in_default.ensures, c.first_of-empty.ensures)
-    (placed-by _ c.args.separators.now c.args.src (fault_of c.args.missing)
-    (rules_seen c.rules.rules.items ++ rule_of c.in-Ok.rule ∷ [])
-    (first_of c.rules.empty c.in-Ok.place c.len.result (c.flat_len-whole.result - c.flat_len.result)) c.faulty-fault-in_default.result settled
+    (placed-by _ c.args.separators.now c.args.src (fault_of c.args.missing) (read g here)
+    (first g here) c.faulty-fault-in_default.result (settled g here)
     (rw c.faulty-fault-in_default.ensures.fault
     (same_rules_place _ c.args.separators.now (fault_of c.args.missing) (fault_of c.args.missing) c.args.src
-    _ _ _ _ (k ∙ n) e
+    _ _ _ _ (counted g here ∙ n) e
     (at_stray _ c.args.separators.now (fault_of c.args.missing) (length c.rules.rules.items) c.args.src c.rules.src
-    c.rules.invariant.so_far (rule_of c.in-Ok.rule) c.read_rule.new.src reads
+    c.rules.invariant.so_far (rule_of c.in-Ok.rule) c.read_rule.new.src (reads g here)
     (λ h. some_left (c.in_default.ensures.rest ∙ h)) none_in_front (omega (arith, shorter))))))
 
 pub returns-clause-rules : goal.returns-clause-rules
