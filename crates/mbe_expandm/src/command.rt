@@ -4,6 +4,7 @@ use crate::files::SourceFile;
 use crate::linting::lint;
 use crate::messages::message;
 use crate::places::NOWHERE;
+use crate::progress::Progress;
 use crate::reached::{Reached, file_text};
 use crate::saying::{Form, add_lints, add_reports, error_text, form_of};
 use crate::sessions::{DONE, Named, Session, WRONG, print, write};
@@ -42,7 +43,7 @@ fn run<R: Env + Files + Input + Print + Eprint + AllocGlobal>(
             let is_explained = options.explain.is_some() || options.is_lint;
             let is_colourless = is_colourless(rt);
             let form = form_of(options.is_json, is_explained, is_terminal, is_colourless);
-            run_files(rt, &options, form)
+            run_files(rt, &options, form, Progress::new(&options, is_terminal))
         }
         Asked::Help => {
             println!(rt; "{USAGE}")?;
@@ -98,6 +99,7 @@ fn reached<R: Files + Input + Eprint + AllocGlobal>(
     rt: &R,
     options: &Options<'_>,
     form: Option<Form>,
+    progress: Progress,
 ) -> io::Result<Option<Reached>> {
     let mut reached = Reached::new(rt.alloc());
     for name in &options.names {
@@ -113,7 +115,8 @@ fn reached<R: Files + Input + Eprint + AllocGlobal>(
     if !add_externs(rt, options, form, &mut reached)? {
         return Ok(None);
     }
-    reached.follow(rt, options)?;
+    reached.follow(rt, options, progress)?;
+    progress.clear(rt)?;
     Ok(Some(reached))
 }
 
@@ -142,8 +145,9 @@ fn run_files<R: Files + Input + Print + Eprint + AllocGlobal>(
     rt: &R,
     options: &Options<'_>,
     form: Option<Form>,
+    progress: Progress,
 ) -> io::Result<u8> {
-    let Some(reached) = reached(rt, options, form)? else {
+    let Some(reached) = reached(rt, options, form, progress)? else {
         return Ok(WRONG);
     };
     let texts = reached.texts.as_slice();
@@ -157,7 +161,7 @@ fn run_files<R: Files + Input + Print + Eprint + AllocGlobal>(
             written?;
             ended(rt, form, &session, true)
         }
-        Some(folder) => write_files(rt, options, form, &reached, folder),
+        Some(folder) => write_files(rt, options, form, progress, &reached, folder),
     }
 }
 
@@ -268,6 +272,7 @@ fn write_files<R: Files + Eprint + AllocGlobal>(
     rt: &R,
     options: &Options<'_>,
     form: Option<Form>,
+    progress: Progress,
     reached: &Reached,
     folder: &str,
 ) -> io::Result<u8> {
@@ -278,7 +283,9 @@ fn write_files<R: Files + Eprint + AllocGlobal>(
             return Ok(WRONG);
         }
     };
+    progress.show(rt, "files to expand", reached.texts.len())?;
     let (session, written) = write(rt.alloc(), options, reached.texts.as_slice())?;
+    progress.clear(rt)?;
     for (target, text) in targets.iter().zip(written.iter()) {
         let Some(target) = target else {
             continue;

@@ -13,6 +13,7 @@ pub mod messages;
 pub mod modules;
 pub mod naming;
 pub mod places;
+pub mod progress;
 pub mod reached;
 pub mod reading;
 pub mod saying;

@@ -2,6 +2,7 @@
 use crate::arguments::Options;
 use crate::crates::is_followed;
 use crate::modules::modules_in;
+use crate::progress::Progress;
 use crate::reading::Reading;
 use crate::sessions::Named;
 use mbe_following::following::Unfound;
@@ -156,10 +157,11 @@ impl Reached {
     }
 
     /// Adds the files of modules, as far as they can be read, and of their modules in turn.
-    pub fn follow<R: Files + AllocGlobal>(
+    pub fn follow<R: Files + Eprint + AllocGlobal>(
         &mut self,
         rt: &R,
         options: &Options<'_>,
+        progress: Progress,
     ) -> io::Result<()> {
         let reading = Reading {
             edition: options.edition,
@@ -171,6 +173,7 @@ impl Reached {
                 return Ok(());
             }
             self.follow_one(rt, &reading, number)?;
+            progress.show(rt, "files read", self.texts.len())?;
         }
         Ok(())
     }
