@@ -3,7 +3,6 @@ use crate::texts::{RUST, read, written};
 use mbe_rust_text::writing::Writer;
 use mbe_text::dialect::Dialect;
 use mbe_text::scanner::file_span;
-use mbe_tt::span::Span;
 use mbe_tt::symbol::Symbol;
 use mbe_tt::tt::{
     Delimiter, DelimiterKind, Ident, IdentIsRaw, Leaf, LitKind, Literal, Punct, Spacing,
@@ -187,44 +186,34 @@ pub const TEXTS: &str = rows![
     ("a\r\n", "#[doc = r\"a\r\n\"]"),
 ];
 
-fn place() -> Span {
-    file_span(0, 0, 9)
-}
-
-fn push_punct(builder: &mut TopSubtreeBuilder, char: char) -> Result<(), AllocError> {
+// Trees as the lexer makes them of a doc comment, with one place.
+fn doc_of(alloc: Global, text: &str) -> Result<TopSubtree, AllocError> {
+    let span = file_span(0, 0, 9);
+    let spacing = Spacing::Alone;
+    let mut builder = TopSubtreeBuilder::new(alloc, Delimiter::invisible_spanned(span))?;
     builder.push(Leaf::Punct(Punct {
-        char,
-        spacing: Spacing::Alone,
-        span: place(),
-    }))
-}
-
-fn push_word(builder: &mut TopSubtreeBuilder, alloc: Global, word: &str) -> Result<(), AllocError> {
+        char: '#',
+        spacing,
+        span,
+    }))?;
+    builder.open(DelimiterKind::Bracket, span)?;
     builder.push(Leaf::Ident(Ident {
-        sym: Symbol::intern(alloc, word)?,
+        sym: Symbol::intern(alloc, "doc")?,
         is_raw: IdentIsRaw::No,
-        span: place(),
-    }))
-}
-
-fn push_text(builder: &mut TopSubtreeBuilder, alloc: Global, text: &str) -> Result<(), AllocError> {
+        span,
+    }))?;
+    builder.push(Leaf::Punct(Punct {
+        char: '=',
+        spacing,
+        span,
+    }))?;
     builder.push(Leaf::Literal(Literal {
         text_and_suffix: Symbol::intern(alloc, text)?,
         suffix_len: 0,
         kind: LitKind::StrRaw(0),
-        span: place(),
-    }))
-}
-
-// Trees as the lexer makes them of a doc comment, with one place.
-fn doc_of(alloc: Global, text: &str) -> Result<TopSubtree, AllocError> {
-    let mut builder = TopSubtreeBuilder::new(alloc, Delimiter::invisible_spanned(place()))?;
-    push_punct(&mut builder, '#')?;
-    builder.open(DelimiterKind::Bracket, place())?;
-    push_word(&mut builder, alloc, "doc")?;
-    push_punct(&mut builder, '=')?;
-    push_text(&mut builder, alloc, text)?;
-    builder.close(place());
+        span,
+    }))?;
+    builder.close(span);
     Ok(builder.build())
 }
 
