@@ -4,6 +4,7 @@ pub mod DefineLemmas
 pub mod EachLemmas
 pub mod EditionLemmas
 pub mod ExplainLemmas
+pub mod FaultLemmas
 pub mod FitLemmas
 pub mod FrontLemmas
 pub mod GroupLemmas

@@ -2,6 +2,7 @@ pub mod Becoming
 pub mod Calls
 pub mod Defining
 pub mod Explained
+pub mod Faults
 pub mod Fitting
 pub mod Replacing
 pub mod Scopes
