@@ -4,6 +4,7 @@ pub mod Defining
 pub mod Explained
 pub mod Faults
 pub mod Fitting
+pub mod Linking
 pub mod Replacing
 pub mod Scopes
 pub mod Shown

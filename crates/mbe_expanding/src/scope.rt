@@ -14,6 +14,8 @@ ghost use Rattle.mbe_expanding.specs.Scopes.{with_crate, with_shown, with_left};
 ghost use Rattle.mbe_expanding.specs.Shown.{among_shown, definition_of, outside_of, scope_of};
 ghost use Rattle.mbe_expanding.specs.declared.scope.Reach.TheVariants.{Text};
 
+mod linking;
+
 use mbe::{DeclarativeMacro, ParseError};
 use mbe_calls::calls::{Call, Defined, Form};
 use mbe_renaming::contexts::contexts_in;
@@ -96,8 +98,8 @@ pub struct Outside<A: Allocator = Global> {
     name: String<A>,
     // The number of its first definition.
     first: usize,
-    // The number after that of its last one.
-    end: usize,
+    // How many there are.
+    count: usize,
 }
 
 impl<A: Allocator> Outside<A> {
@@ -105,7 +107,7 @@ impl<A: Allocator> Outside<A> {
     fn is_within(&self, number: usize) -> bool
         ensures { result ≡ spec.is_within number (outside_of self.now) }
     {
-        self.first <= number && number < self.end
+        self.first <= number && number - self.first < self.count
     }
 
     // Whether it is one of its own, and it has that name.
@@ -527,7 +529,7 @@ impl<A: Allocator + Copy> Scope<A> {
         self.crates.push(Outside {
             name: String::from_str(self.alloc, name)?,
             first,
-            end: self.definitions.len(),
+            count: self.definitions.len().saturating_sub(first),
         })?;
         Ok(())
     }

@@ -7,14 +7,17 @@ ghost use Rattle.mbe_expanding.specs.Defining.{Defines, DefinesOutside, DefinesT
 ghost use Rattle.mbe_expanding.specs.Defining.{after_definition, after_group, after_tree};
 ghost use Rattle.mbe_expanding.specs.Defining.{is_offered, marked, reach_of, unmarked};
 ghost use Rattle.mbe_expanding.specs.Defining.{with_attribute};
+ghost use Rattle.mbe_exporting.specs.Shown.{export_of};
 ghost use Rattle.mbe_expanding.specs.Explained.{note_seen};
 ghost use Rattle.mbe_expanding.specs.Faults.{all_noted};
+ghost use Rattle.mbe_expanding.specs.Linking.{linked};
 ghost use Rattle.mbe_expanding.specs.Shown.{scope_of, setting_of, state_of};
 
 use crate::expander::{Expander, LEVELS};
 use crate::scope::Reach;
 use crate::using::is_used_in;
 use mbe_calls::calls::{Defined, Front, attribute_at, front_of};
+use mbe_exporting::export::Export;
 use mbe_tt::tt::{DelimiterKind, TokenTreesView, TtElement};
 use std::alloc::{AllocError, Allocator};
 
@@ -183,6 +186,20 @@ impl<A: Allocator + Copy> Expander<'_, A> {
         let first = self.scope.count();
         self.define_in(tokens, true, LEVELS)?;
         self.scope.close_crate(name, first)
+    }
+
+    /// From here on, other crates have what they export of others: in so many rounds, since what is exported may be exported in
+    /// turn.
+    pub fn link(&mut self, exports: &[Export<A>], rounds: usize) -> Result<(), AllocError>
+        ensures linked { OnOk result ((state_of self.new).scope
+            ≡ linked rounds (map export_of exports.now) (state_of self.old).scope) }
+        ensures fuel { OnOk result ((state_of self.new).fuel ≡ (state_of self.old).fuel) }
+        ensures contexts { OnOk result ((state_of self.new).contexts
+            ≡ (state_of self.old).contexts) }
+        ensures setting { OnOk result (setting_of self.new ≡ setting_of self.old) }
+        ensures notes { OnOk result (self.new.notes.items ≡ self.old.notes.items) }
+    {
+        self.scope.link(exports, rounds)
     }
 
     // Reads the definitions among trees, where `is_top` says whether they are in no group.
