@@ -9,6 +9,7 @@ pub mod FitLemmas
 pub mod FrontLemmas
 pub mod GroupLemmas
 pub mod ItemLemmas
+pub mod LinkLemmas
 pub mod MarkLemmas
 pub mod ReplaceLemmas
 pub mod StepLemmas

@@ -68,4 +68,4 @@ all_exported is_all (e ∷ es) s = all_exported is_all es (exported is_all e.by 
 -- So many times: those of one macro, which go before those of all.
 unfoldable pub linked : ℕ → List Export → Scope → Scope
 linked zero es s = s
-linked (suc n) es s = all_exported true es (all_exported false es (linked n es s))
+linked (suc n) es s = linked n es (all_exported true es (all_exported false es s))

@@ -7,7 +7,7 @@ use std::alloc::{AllocError, Global};
 // the first file becomes; and how many notes there are.
 type Row = (&'static str, &'static str, &'static str, usize);
 
-static ROWS: [Row; 25] = [
+static ROWS: [Row; 55] = [
     (
         "--extern maths=maths.rs a.rs",
         "a.rs: use maths::squares;
@@ -160,6 +160,186 @@ const A: [u32; 2] = [::maths::square(3), ::maths::square(4)];",
         "--extern b=b.rs a.rs",
         "a.rs: x = b::m!(2);|b.rs: #[macro_export] macro_rules! m { () => { 1 } }",
         "x = b::m!(2);",
+        1,
+    ),
+    (
+        "--extern b=b.rs --extern c=c.rs a.rs",
+        "a.rs: x = b::m!();|b.rs: pub use c::m;|c.rs: #[macro_export] macro_rules! m { () => { 1 } }",
+        "x = 1;",
+        0,
+    ),
+    (
+        "--extern c=c.rs --extern b=b.rs a.rs",
+        "a.rs: x = b::m!() + c::m!();|c.rs: #[macro_export] macro_rules! m { () => { 1 } }|b.rs: pub use c::m;",
+        "x = 1 + 1;",
+        0,
+    ),
+    (
+        "--extern b=b.rs --extern c=c.rs a.rs",
+        "a.rs: x = [b::k!(), b::m!()];|b.rs: pub use c::m as k;|c.rs: #[macro_export] macro_rules! m { () => { 1 } }",
+        "x = [1, b::m!()];",
+        0,
+    ),
+    (
+        "--extern b=b.rs --extern c=c.rs a.rs",
+        "a.rs: x = b::m!();|b.rs: pub use c::*;|c.rs: #[macro_export] macro_rules! m { () => { 1 } }",
+        "x = 1;",
+        0,
+    ),
+    (
+        "--extern b=b.rs --extern c=c.rs --extern d=d.rs a.rs",
+        "a.rs: x = b::k!();|b.rs: pub use d::k;|c.rs: #[macro_export] macro_rules! m { () => { 1 } }|d.rs: pub use c::m as k;",
+        "x = 1;",
+        0,
+    ),
+    (
+        "--extern b=b.rs --extern c=c.rs --extern d=d.rs a.rs",
+        "a.rs: x = b::m!();|b.rs: pub use d::*;|c.rs: #[macro_export] macro_rules! m { () => { 1 } }|d.rs: pub use c::*;",
+        "x = 1;",
+        0,
+    ),
+    (
+        "--extern b=b.rs --extern c=c.rs a.rs",
+        "a.rs: x = b::m!();|b.rs: pub use c::m;|c.rs: pub fn f() -> i32 { 7 } #[macro_export] macro_rules! m { () => { $crate::f() } }",
+        "x = ::c::f();",
+        0,
+    ),
+    (
+        "--extern b=b.rs --extern c=c.rs a.rs",
+        "a.rs: x = (b::m!(), b::k!());|b.rs: pub use c::{m, n as k, o::*};|c.rs: #[macro_export] macro_rules! m { () => { 1 } } #[macro_export] macro_rules! n { () => { 2 } } pub mod o { pub fn g() {} }",
+        "x = (1, 2);",
+        0,
+    ),
+    (
+        "--extern b=b.rs --extern c=c.rs a.rs",
+        "a.rs: x = (b::m!(), b::k!());|b.rs: pub use {c::m, c::{n as k}};|c.rs: #[macro_export] macro_rules! m { () => { 1 } } #[macro_export] macro_rules! n { () => { 2 } }",
+        "x = (1, 2);",
+        0,
+    ),
+    (
+        "--extern b=b.rs --extern c=c.rs a.rs",
+        "a.rs: x = b::m!();|b.rs: use c::m;|c.rs: #[macro_export] macro_rules! m { () => { 1 } }",
+        "x = b::m!();",
+        0,
+    ),
+    (
+        "--extern b=b.rs --extern c=c.rs a.rs",
+        "a.rs: x = b::m!();|b.rs: pub(crate) use c::m;|c.rs: #[macro_export] macro_rules! m { () => { 1 } }",
+        "x = b::m!();",
+        0,
+    ),
+    (
+        "--extern b=b.rs --extern c=c.rs a.rs",
+        "a.rs: x = b::m!();|b.rs: pub mod n { pub use c::m; }|c.rs: #[macro_export] macro_rules! m { () => { 1 } }",
+        "x = b::m!();",
+        0,
+    ),
+    (
+        "--extern b=b.rs --extern c=c.rs --extern d=d.rs a.rs",
+        "a.rs: x = b::m!();|b.rs: pub use c::*; pub use d::m;|c.rs: #[macro_export] macro_rules! m { () => { 1 } }|d.rs: #[macro_export] macro_rules! m { () => { 2 } }",
+        "x = 2;",
+        0,
+    ),
+    (
+        "--extern b=b.rs --extern c=c.rs a.rs",
+        "a.rs: x = b::m!();|b.rs: #[macro_export] macro_rules! m { () => { 3 } } pub use c::*;|c.rs: #[macro_export] macro_rules! m { () => { 1 } }",
+        "x = 3;",
+        0,
+    ),
+    (
+        "--extern b=b.rs --extern c=c.rs a.rs",
+        "a.rs: use b::m; x = m!();|b.rs: pub use c::m;|c.rs: #[macro_export] macro_rules! m { () => { 1 } }",
+        "use b::m; x = 1;",
+        0,
+    ),
+    (
+        "--extern b=b.rs --extern c=c.rs a.rs",
+        "a.rs: use b::k; x = k!();|b.rs: pub use c::m as k;|c.rs: #[macro_export] macro_rules! m { () => { 1 } }",
+        "use b::k; x = 1;",
+        0,
+    ),
+    (
+        "--extern b=b.rs --extern c=c.rs a.rs",
+        "a.rs: x = b::m!();|b.rs: extern crate c as e; pub use e::m;|c.rs: #[macro_export] macro_rules! m { () => { 1 } }",
+        "x = 1;",
+        0,
+    ),
+    (
+        "--extern b=b.rs --extern c=c.rs a.rs",
+        "a.rs: x = b::m!();|b.rs: #[cfg(no)] pub use c::m;|c.rs: #[macro_export] macro_rules! m { () => { 1 } }",
+        "x = b::m!();",
+        0,
+    ),
+    (
+        "--extern b=b.rs --extern c=c.rs a.rs",
+        "a.rs: x = b::m!();|b.rs: pub use ::c::m;|c.rs: #[macro_export] macro_rules! m { () => { 1 } }",
+        "x = 1;",
+        0,
+    ),
+    (
+        "--extern b=b.rs --extern c=c.rs a.rs",
+        "a.rs: x = b::m!();|b.rs: pub use c::*;|c.rs: macro_rules! m { () => { 1 } }",
+        "x = b::m!();",
+        0,
+    ),
+    (
+        "--extern b=b.rs --extern c=c.rs a.rs",
+        "a.rs: x = b::m!();|b.rs: pub use c::n::*;|c.rs: #[macro_export] macro_rules! m { () => { 1 } } pub mod n { pub fn f() {} }",
+        "x = b::m!();",
+        0,
+    ),
+    (
+        "--extern b=b.rs --extern c=c.rs a.rs",
+        "a.rs: x = b::m!();|b.rs: pub use c::n::m;|c.rs: pub mod n { pub macro m() { 1 } }",
+        "x = 1;",
+        0,
+    ),
+    (
+        "--extern b=b.rs --extern c=c.rs a.rs",
+        "a.rs: x = b::m!();|b.rs: pub use c::m;|c.rs: #[macro_export] macro_rules! m { () => { $crate::n!() } } #[macro_export] macro_rules! n { () => { 4 } }",
+        "x = 4;",
+        0,
+    ),
+    (
+        "--extern b=b.rs --extern c=c.rs a.rs",
+        "a.rs: x = b::o!();|b.rs: pub use c::m; #[macro_export] macro_rules! o { () => { $crate::m!() + 1 } }|c.rs: #[macro_export] macro_rules! m { () => { 1 } }",
+        "x = 1 + 1;",
+        0,
+    ),
+    (
+        "--extern b=b.rs --extern c=c.rs a.rs",
+        "a.rs: x = b::m!();|b.rs: pub use c::*; pub use c::*;|c.rs: pub use b::*; #[macro_export] macro_rules! m { () => { 1 } }",
+        "x = 1;",
+        0,
+    ),
+    (
+        "--extern b=b.rs a.rs",
+        "a.rs: x = 1;|b.rs: #[macro_export] macro_rules! m { ($x) => { 1 } }",
+        "x = 1;",
+        0,
+    ),
+    (
+        "--extern b=b.rs a.rs",
+        "a.rs: x = b::n!();|b.rs: #[macro_export] macro_rules! m { ($x) => { 1 } } #[macro_export] macro_rules! n { () => { 2 } }",
+        "x = 2;",
+        0,
+    ),
+    (
+        "--extern b=b.rs a.rs",
+        "a.rs: x = b::m!(3);|b.rs: #[macro_export] macro_rules! m { ($x) => { 1 } }",
+        "x = b::m!(3);",
+        2,
+    ),
+    (
+        "--extern b=b.rs --extern c=c.rs a.rs",
+        "a.rs: x = b::m!(3);|b.rs: pub use c::m;|c.rs: #[macro_export] macro_rules! m { ($x) => { 1 } }",
+        "x = b::m!(3);",
+        2,
+    ),
+    (
+        "--extern b=b.rs a.rs",
+        "a.rs: macro_rules! m { ($x) => { 1 } } x = m!(3);|b.rs: #[macro_export] macro_rules! n { () => { 2 } }",
+        "macro_rules! m { ($x) => { 1 } } x = m!(3);",
         1,
     ),
 ];

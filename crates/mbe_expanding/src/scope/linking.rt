@@ -175,7 +175,9 @@ impl<A: Allocator + Copy> Scope<A> {
             ≡ spec.linked rounds (map export_of exports.now) (scope_of self.old)) }
         ensures edition { OnOk result (self.new.edition ≡ self.old.edition) }
     {
-        for round in 0..rounds {
+        let mut left = rounds;
+        'rounds: while left > 0 {
+            left -= 1;
             self.link_exports(false, exports)?;
             self.link_exports(true, exports)?;
         }
