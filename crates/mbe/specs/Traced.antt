@@ -9,7 +9,8 @@ use Rattle.mbe_semantics.specs.declared.macro_call_style.MacroCallStyle.{MacroCa
 use Rattle.mbe_semantics.specs.Syntax.Op as ops
 use Rattle.mbe_semantics.specs.Syntax.Op.{Name, Separator, Ops}
 use Rattle.mbe_semantics.specs.Syntax.Definition.{Rule}
-use Rattle.mbe_semantics.specs.Readings.Item.{Items, stripped, Fragment}
+use Rattle.mbe_semantics.specs.Fragments.Kinds.{stripped}
+use Rattle.mbe_semantics.specs.Readings.Item.{Items, Fragment}
 use Rattle.mbe_semantics.specs.Bindings.Environment.{fragment, Environment, environment_of}
 use Rattle.mbe_semantics.specs.Writing.Rounds.{Path, rounds_of, finite, followed, level}
 use Rattle.mbe_semantics.specs.Writing.Substitution.{faults, separator_trees, AreRounds, Writes, Substitutes, IsSubstitution}

@@ -8,7 +8,7 @@ use Rattle.mbe_tt.specs.declared.tt.DelimiterKind.{DelimiterKind}
 use Rattle.mbe_tt.specs.declared.tt.DelimiterKind.TheVariants.{Parenthesis, Brace, Bracket, Invisible}
 use Rattle.mbe_tt.specs.Trees.Literals.{ident_text, literal_output}
 use Rattle.mbe_semantics.specs.declared.kinds.MetaVarKind.{MetaVarKind}
-use Rattle.mbe_semantics.specs.declared.kinds.MetaVarKind.TheVariants as kinds
+use Rattle.mbe_semantics.specs.Fragments.Kinds.{facts}
 use Rattle.mbe_semantics.specs.Expansion.Failing.{puncts_text}
 use Rattle.mbe_semantics.specs.Syntax.Op.{Separator, ident_separator, literal_separator, punct_separator, lifetime_separator, Op, token, group, variable, repetition, expression, literal, ident, puncts}
 use Rattle.mbe_semantics.specs.Readings.Verdict.{Verdict, one_reading, many_readings, ambiguous, stuck}
@@ -23,27 +23,10 @@ use Rattle.mbe_explaining.specs.declared.saying.Said as code
 abbrev pub quoted : List ℕ → List ℕ
 quoted text = codes "`" ++ (text ++ codes "`")
 
--- the specifier of a kind; which of the two of an expression isn't kept
-abbrev pub specifier : MetaVarKind → List ℕ
-specifier kinds.Path = codes "path"
-specifier kinds.Ty = codes "ty"
-specifier kinds.Pat = codes "pat"
-specifier kinds.PatParam = codes "pat_param"
-specifier kinds.Stmt = codes "stmt"
-specifier kinds.Block = codes "block"
-specifier kinds.Meta = codes "meta"
-specifier kinds.Item = codes "item"
-specifier kinds.Vis = codes "vis"
-specifier (kinds.Expr kind) = codes "expr"
-specifier kinds.Ident = codes "ident"
-specifier kinds.Tt = codes "tt"
-specifier kinds.Lifetime = codes "lifetime"
-specifier kinds.Literal = codes "literal"
-
 -- a variable's name, and its specifier, `?` where it is unknown
 abbrev pub variable_text : List ℕ → Option MetaVarKind → List ℕ
 variable_text name None = codes "`$" ++ (name ++ (codes ":" ++ (codes "?" ++ codes "`")))
-variable_text name (Some kind) = codes "`$" ++ (name ++ (codes ":" ++ (specifier kind ++ codes "`")))
+variable_text name (Some kind) = codes "`$" ++ (name ++ (codes ":" ++ ((facts kind).specifier ++ codes "`")))
 
 abbrev pub opening : DelimiterKind → List ℕ
 opening Parenthesis = codes "`(`"

@@ -23,28 +23,6 @@ pub struct Part<A: Allocator = Global> {
     pub span: Option<Span>,
 }
 
-/// The specifier of a kind, as `expr`. Which of its two names is in the rule isn't kept.
-pub fn specifier_of(kind: MetaVarKind) -> &'static str
-    ensures { result.now ≡ spec.specifier kind }
-{
-    match kind {
-        MetaVarKind::Path => "path",
-        MetaVarKind::Ty => "ty",
-        MetaVarKind::Pat => "pat",
-        MetaVarKind::PatParam => "pat_param",
-        MetaVarKind::Stmt => "stmt",
-        MetaVarKind::Block => "block",
-        MetaVarKind::Meta => "meta",
-        MetaVarKind::Item => "item",
-        MetaVarKind::Vis => "vis",
-        MetaVarKind::Expr(_) => "expr",
-        MetaVarKind::Ident => "ident",
-        MetaVarKind::Tt => "tt",
-        MetaVarKind::Lifetime => "lifetime",
-        MetaVarKind::Literal => "literal",
-    }
-}
-
 fn opening_of(kind: DelimiterKind) -> &'static str
     ensures { result.now ≡ spec.opening kind }
 {
@@ -85,7 +63,7 @@ pub fn variable_text<A: Allocator>(
     match kind {
         None => format!(in alloc; "`${name}:?`"),
         Some(kind) => {
-            let specifier = specifier_of(kind);
+            let specifier = kind.specifier();
             format!(in alloc; "`${name}:{specifier}`")
         }
     }

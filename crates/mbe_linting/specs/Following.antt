@@ -12,6 +12,9 @@ use Rattle.mbe_tt.specs.Trees.Glue.{chars_of}
 use Rattle.mbe_tt.specs.Trees.Tree.{is_truth}
 use Rattle.mbe_semantics.specs.declared.kinds.MetaVarKind.{MetaVarKind}
 use Rattle.mbe_semantics.specs.declared.kinds.MetaVarKind.TheVariants as kinds
+use Rattle.mbe_semantics.specs.declared.kinds.FollowSet.{FollowSet}
+use Rattle.mbe_semantics.specs.declared.kinds.FollowSet.TheVariants as sets
+use Rattle.mbe_semantics.specs.Fragments.Kinds.{facts}
 use Rattle.mbe_semantics.specs.Syntax.Nullable.{may_skip}
 use Rattle.mbe_semantics.specs.Syntax.Op.{Name, Separator, ident_separator, literal_separator, punct_separator, lifetime_separator, Token, Op, Ops, no_ops, op, token, group, variable, repetition, expression, literal, ident, puncts}
 use Rattle.mbe_ops.specs.Views.{op_of, separator_seen}
@@ -183,16 +186,18 @@ may_follow_visibility (opening_next kind) = is_parenthesis_or_bracket kind
 may_follow_visibility (fragment_next kind) = is_ident_ty_or_path kind
 may_follow_visibility _ = false
 
--- all other kinds, and unknown ones, may be followed by anything
+abbrev pub may_follow_set : FollowSet → Look → Bool
+may_follow_set sets.Anything look = true
+may_follow_set sets.AfterExpression look = may_follow_expression look
+may_follow_set sets.AfterPattern look = may_follow_pattern look
+may_follow_set sets.AfterAlternative look = may_follow_alternative look
+may_follow_set sets.AfterType look = may_follow_type look
+may_follow_set sets.AfterVisibility look = may_follow_visibility look
+
+-- an unknown kind may be followed by anything
 abbrev pub may_follow : Option MetaVarKind → Look → Bool
-may_follow (Some (kinds.Expr kind)) look = may_follow_expression look
-may_follow (Some kinds.Stmt) look = may_follow_expression look
-may_follow (Some kinds.Pat) look = may_follow_pattern look
-may_follow (Some kinds.PatParam) look = may_follow_alternative look
-may_follow (Some kinds.Ty) look = may_follow_type look
-may_follow (Some kinds.Path) look = may_follow_type look
-may_follow (Some kinds.Vis) look = may_follow_visibility look
-may_follow _ look = true
+may_follow None look = true
+may_follow (Some kind) look = may_follow_set (facts kind).follow_set look
 
 -- ---- what follows a fragment and mayn't
 

@@ -9,7 +9,7 @@ ghost use Rattle.mbe_linting.specs.Following.{look_seen, next_seen, followed_see
 
 use mbe_ops::held::Between;
 use mbe_ops::ops::{MetaTemplate, Op, Separator};
-use mbe_semantics::kinds::{MetaVarKind, RepeatKind};
+use mbe_semantics::kinds::{FollowSet, MetaVarKind, RepeatKind};
 use mbe_tt::span::Span;
 use mbe_tt::tt::{DelimiterKind, Ident, IdentIsRaw, Literal, Punct};
 use std::alloc::{AllocError, Allocator, Global};
@@ -230,14 +230,13 @@ pub fn may_follow<A: Allocator>(kind: Option<MetaVarKind>, next: Next<'_, A>) ->
     let Some(kind) = kind else {
         return true;
     };
-    match kind {
-        MetaVarKind::Expr(_) | MetaVarKind::Stmt => may_follow_expression(look),
-        MetaVarKind::Pat => may_follow_pattern(look),
-        MetaVarKind::PatParam => may_follow_alternative(look),
-        MetaVarKind::Ty | MetaVarKind::Path => may_follow_type(look),
-        MetaVarKind::Vis => may_follow_visibility(look),
-        MetaVarKind::Block | MetaVarKind::Meta | MetaVarKind::Item | MetaVarKind::Ident => true,
-        MetaVarKind::Tt | MetaVarKind::Lifetime | MetaVarKind::Literal => true,
+    match kind.follow_set() {
+        FollowSet::Anything => true,
+        FollowSet::AfterExpression => may_follow_expression(look),
+        FollowSet::AfterPattern => may_follow_pattern(look),
+        FollowSet::AfterAlternative => may_follow_alternative(look),
+        FollowSet::AfterType => may_follow_type(look),
+        FollowSet::AfterVisibility => may_follow_visibility(look),
     }
 }
 

@@ -3,9 +3,9 @@ use Rattle.std.specs.Prelude.{codes, List, ◌++◌, ℕ, Option, Some, None}
 use Rattle.mbe_tt.specs.declared.span.Span.{Span}
 use Rattle.mbe_tt.specs.Trees.Leaf.{Ident}
 use Rattle.mbe_semantics.specs.declared.kinds.MetaVarKind.{MetaVarKind}
+use Rattle.mbe_semantics.specs.Fragments.Kinds.{facts}
 use Rattle.mbe_semantics.specs.Syntax.Op.{Name}
 use Rattle.mbe_calls.specs.Fronts.{Defined}
-use Rattle.mbe_explaining.specs.Saying as saying
 use Rattle.mbe_lints.specs.Written.{Written, written_at}
 use Rattle.mbe_lints.specs.declared.shown.Shown as code
 
@@ -21,7 +21,7 @@ pub record Shown : Type 0 where
 -- the specifier of a kind; `?` where it is unknown
 abbrev pub kind_text : Option MetaVarKind → Name
 kind_text None = codes "?"
-kind_text (Some kind) = saying.specifier kind
+kind_text (Some kind) = (facts kind).specifier
 
 abbrev pub marked_by : Span → Span → Option MetaVarKind → Option Ident → Shown
 marked_by short whole kind None = record { short = short; whole = whole; specifier = kind_text kind; mark = whole }

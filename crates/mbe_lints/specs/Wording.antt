@@ -3,7 +3,9 @@ use Rattle.std.specs.Prelude.{ℕ, codes, List, [], ◌∷◌, ◌++◌, Option,
 use Rattle.std.specs.Fmt.{decimal}
 use Rattle.mbe_tt.specs.declared.span.Span.{Span}
 use Rattle.mbe_semantics.specs.declared.kinds.MetaVarKind.{MetaVarKind}
-use Rattle.mbe_semantics.specs.declared.kinds.MetaVarKind.TheVariants as kinds
+use Rattle.mbe_semantics.specs.declared.kinds.FollowSet.{FollowSet}
+use Rattle.mbe_semantics.specs.declared.kinds.FollowSet.TheVariants as sets
+use Rattle.mbe_semantics.specs.Fragments.Kinds.{facts}
 use Rattle.mbe_semantics.specs.Syntax.Op.{Name, Op, token, group, variable, repetition, expression}
 use Rattle.mbe_calls.specs.Fronts.{Defined}
 use Rattle.mbe_matcher.specs.Wanted.{separating as separator_wanted, reading as op_wanted}
@@ -70,17 +72,17 @@ repeating_lints name bound used v at = error_at at.short (repeats_text name) ++ 
 -- ---- what follows a fragment
 
 -- what may follow it
+abbrev pub allowed_by : FollowSet → List ℕ
+allowed_by sets.Anything = codes "anything is allowed there"
+allowed_by sets.AfterExpression = codes "allowed there are: `=>`, `,` or `;`"
+allowed_by sets.AfterPattern = codes "allowed there are: `=>`, `,`, `=`, `if` or `in`"
+allowed_by sets.AfterAlternative = codes "allowed there are: `=>`, `,`, `=`, `|`, `if` or `in`"
+allowed_by sets.AfterType = codes "allowed there are: `{`, `[`, `=>`, `,`, `>`, `=`, `:`, `;`, `|`, `as` or `where`"
+allowed_by sets.AfterVisibility = codes "allowed there are: `,`, an ident or a type"
+
 abbrev pub allowed_text : Option MetaVarKind → List ℕ
-allowed_text (Some (kinds.Expr kind)) = codes "allowed there are: `=>`, `,` or `;`"
-allowed_text (Some kinds.Stmt) = codes "allowed there are: `=>`, `,` or `;`"
-allowed_text (Some kinds.Pat) = codes "allowed there are: `=>`, `,`, `=`, `if` or `in`"
-allowed_text (Some kinds.PatParam) = codes "allowed there are: `=>`, `,`, `=`, `|`, `if` or `in`"
-allowed_text (Some kinds.Ty) =
-    codes "allowed there are: `{`, `[`, `=>`, `,`, `>`, `=`, `:`, `;`, `|`, `as` or `where`"
-allowed_text (Some kinds.Path) =
-    codes "allowed there are: `{`, `[`, `=>`, `,`, `>`, `=`, `:`, `;`, `|`, `as` or `where`"
-allowed_text (Some kinds.Vis) = codes "allowed there are: `,`, an ident or a type"
-allowed_text _ = codes "anything is allowed there"
+allowed_text None = codes "anything is allowed there"
+allowed_text (Some kind) = allowed_by (facts kind).follow_set
 
 -- a variable as it is written
 abbrev pub variable_part : Name → Shown → Part

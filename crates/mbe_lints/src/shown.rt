@@ -7,7 +7,6 @@ ghost use Rattle.mbe_lints.specs.Shown.{shown_seen};
 
 use crate::written::written_at;
 use mbe_calls::calls::Defined;
-use mbe_explaining::texts::specifier_of;
 use mbe_semantics::kinds::MetaVarKind;
 use mbe_tt::span::Span;
 use mbe_tt::tt::Ident;
@@ -31,7 +30,7 @@ fn kind_text(kind: Option<MetaVarKind>) -> &'static str
 {
     match kind {
         None => "?",
-        Some(kind) => specifier_of(kind),
+        Some(kind) => kind.specifier(),
     }
 }
 

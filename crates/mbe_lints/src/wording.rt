@@ -22,7 +22,7 @@ use mbe_linting::following::{Followed, Next};
 use mbe_linting::variables::{Bound, Used};
 use mbe_matcher::wanting::Wanted;
 use mbe_ops::ops::Op;
-use mbe_semantics::kinds::MetaVarKind;
+use mbe_semantics::kinds::{FollowSet, MetaVarKind};
 use mbe_tt::span::Span;
 use std::alloc::{AllocError, Allocator};
 
@@ -180,15 +180,18 @@ fn push_repeating<A: Allocator + Copy>(
 fn allowed_text(kind: Option<MetaVarKind>) -> &'static str
     ensures { result.now ≡ spec.allowed_text kind }
 {
-    match kind {
-        Some(MetaVarKind::Expr(_) | MetaVarKind::Stmt) => "allowed there are: `=>`, `,` or `;`",
-        Some(MetaVarKind::Pat) => "allowed there are: `=>`, `,`, `=`, `if` or `in`",
-        Some(MetaVarKind::PatParam) => "allowed there are: `=>`, `,`, `=`, `|`, `if` or `in`",
-        Some(MetaVarKind::Ty | MetaVarKind::Path) => {
+    let Some(kind) = kind else {
+        return "anything is allowed there";
+    };
+    match kind.follow_set() {
+        FollowSet::Anything => "anything is allowed there",
+        FollowSet::AfterExpression => "allowed there are: `=>`, `,` or `;`",
+        FollowSet::AfterPattern => "allowed there are: `=>`, `,`, `=`, `if` or `in`",
+        FollowSet::AfterAlternative => "allowed there are: `=>`, `,`, `=`, `|`, `if` or `in`",
+        FollowSet::AfterType => {
             "allowed there are: `{`, `[`, `=>`, `,`, `>`, `=`, `:`, `;`, `|`, `as` or `where`"
         }
-        Some(MetaVarKind::Vis) => "allowed there are: `,`, an ident or a type",
-        _ => "anything is allowed there",
+        FollowSet::AfterVisibility => "allowed there are: `,`, an ident or a type",
     }
 }
 

@@ -102,6 +102,22 @@ module _ {T : Type 0} (lists : List (Chain T)) where
       go None n h = omega (arith, h)
       go (Some p) n h = omega (arith, h)
 
+  -- a part has no more own entries than its list
+  pub own_room : (part : Part) (l : Chain T) (n : ℕ) → IsWithin lists part → l ≡ get_or lists part.list l
+      → own_in l.link part.first ≡ n → n ≤ length l.own
+  own_room part l n w e o =
+      let k : w.0 ≡ l = sym (e ∙ got lists part.list w.0 l w.1) in
+      let r = own_within part l (subst (λ x. part.first ≤ chain_len x) k w.2) in omega (arith, r, o)
+
+  -- the list of a part is there
+  pub part_there : (part : Part) → IsWithin lists part → part.list < length lists
+  part_there part w = in_range lists part.list w.0 w.1
+
+  -- so is the one from which the walk goes on
+  pub collected_there : (start part : Part) (found : List Part) (here : Option Part) → here ≡ Some part
+      → PlacesCollected lists start here found → part.list < length lists
+  collected_there start part found here i f = part_there part (subst (λ o. Collected lists start o f.0) i f.2).0
+
   pub places-step : (start part : Part) (l : Chain T) (found more : List Part) (here next : Option Part) (count : ℕ)
       → IsChained lists → here ≡ Some part →
       PlacesCollected lists start here found → l ≡ get_or lists part.list l → next ≡ link_in l.link part.first

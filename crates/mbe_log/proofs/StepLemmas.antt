@@ -1,5 +1,5 @@
 -- Building, step by step.
-use Rattle.std.specs.Prelude.{◌≡◌, ◌<◌, ◌≤◌, ◌+◌, ℕ, suc, List, [], ◌∷◌, length, map, drop, slice_get, Option, Some, None, Result, Ok, Err, OnOk, refl, if◌then◌else◌, Bool, true, false, not}
+use Rattle.std.specs.Prelude.{◌≡◌, ◌<◌, ◌≤◌, ◌+◌, ◌-◌, ℕ, suc, List, [], ◌∷◌, length, map, drop, slice_get, Option, Some, None, Result, Ok, Err, OnOk, refl, if◌then◌else◌, Bool, true, false, not}
 use Rattle.std.proofs.Common.{arith, sym, ap, subst, ◌∙◌, get_or}
 use Rattle.std.specs.Str.{bytes_eq}
 use Rattle.mbe_semantics.specs.declared.log.Part.{Part}
@@ -12,7 +12,7 @@ use Rattle.mbe_semantics.specs.Syntax.Op.{Name}
 use Rattle.mbe_log.specs.declared.fragment.Fragment.{Fragment}
 use Rattle.mbe_log.specs.BindingViews.{fragment_seen}
 use Rattle.mbe_log.specs.Building.{BindsRound, IsBuiltSoFar, AreBoundSoFar}
-use Rattle.mbe_log.specs.Sound.{GivesCommand, IsPartGrounded, IsCommandGrounded, AreRoundsGrounded}
+use Rattle.mbe_log.specs.Sound.{command_depth, rounds_depth, GivesCommand, IsPartGrounded, IsCommandGrounded, AreRoundsGrounded}
 use Rattle.mbe_log.proofs.ChainLemmas.{got, in_range}
 use Rattle.mbe_log.proofs.LogLemmas.{there}
 use Rattle.mbe_log.proofs.BuildLemmas.{get-map, map-get, drop-at, drop-end, round_head, command_head, end_of, rounds_end_of, deeper, deeper_rounds, flat_gives, flat_rounds}
@@ -215,3 +215,23 @@ pub written_by : {R E : Type 0} (r : Result R E) (P : Command → Type 0) (c : C
     ((d : Command) → P d → d ≡ c) → OnOk r ((d : Command) → P d → after ≡ run_command d before)
 written_by (Ok x) P c before after h only = λ d p. h ∙ ap (λ e. run_command e before) (sym (only d p))
 written_by (Err e) P c before after h only = h
+
+-- a nested command: its rounds are a level less deep, and it binds what they do
+module _ {A : Type 0} (C : List (Chain (code.Command A))) (R : List (Chain Part)) (x : code.Command A)
+    (finished current : Part) (is : x ≡ code.TheVariants.Nested finished current) where
+  pub nested_grounded : (most : ℕ) → IsCommandGrounded (log_of C R) (entry_seen x) most
+      → AreRoundsGrounded (log_of C R) finished current (most - 1) × (1 ≤ most)
+  nested_grounded most g =
+      let k = subst (λ y. IsCommandGrounded (log_of C R) (entry_seen y) most) is g in
+      let n = k.1 in
+      let e : command_depth k.0 ≡ suc (rounds_depth (command_round n.0 n.1)) = ap command_depth n.4 in
+      let d = k.2 in ((n.0, n.1, n.2, n.3, omega (arith, d, e)), omega (arith, d, e))
+
+  pub nested_returns : {U E : Type 0} (r : Result U E) (before after : Environment)
+      → OnOk r ((rs : CommandRounds) (ds : Commands) → PartGivesRounds (log_of C R) no_command_rounds finished rs
+      → PartGives (log_of C R) no_commands current ds → after ≡ run_rounds (command_round rs ds) before) →
+      OnOk r ((c : Command) → GivesCommand (log_of C R) (entry_seen x) c → after ≡ run_command c before)
+  nested_returns (Err e) before after h = h
+  nested_returns (Ok u) before after h = λ c g.
+      let n = subst (λ y. GivesCommand (log_of C R) (entry_seen y) c) is g in
+      h n.0 n.1 n.2 n.3 ∙ ap (λ d. run_command d before) (sym n.4)

@@ -10,7 +10,8 @@ use Rattle.mbe_log.specs.declared.bindings.Binding as bound
 use Rattle.mbe_log.specs.declared.bindings.Binding.{fold-Binding}
 use Rattle.mbe_log.specs.declared.bindings.Binding.TheOpen.{Binding-F}
 use Rattle.mbe_log.specs.declared.bindings.Bindings as found
-use Rattle.mbe_semantics.specs.Readings.Item.{Fragment, Style, plain, stripped, as_expression, as_path}
+use Rattle.mbe_semantics.specs.Fragments.Kinds.{Style, plain, stripped, as_expression, as_path}
+use Rattle.mbe_semantics.specs.Readings.Item.{Fragment}
 use Rattle.mbe_semantics.specs.Bindings.Environment.{Environment, Value, fragment, list, empty, missing, Values, no_values, value}
 
 -- the style of a fragment of tokens: one that the grammar was asked for keeps an invisible group around it

@@ -10,7 +10,8 @@ use Rattle.mbe_semantics.specs.contracts.kinds.MetaVarKind as k
 use Rattle.mbe_log.specs.declared.log.Command as code
 use Rattle.mbe_log.specs.Chain.{Chain, part_code}
 use Rattle.mbe_semantics.specs.Syntax.Op.{Name}
-use Rattle.mbe_semantics.specs.Readings.Item.{Fragment, Style, plain, stripped, as_expression, as_path}
+use Rattle.mbe_semantics.specs.Fragments.Kinds.{Style, plain, stripped, as_expression, as_path}
+use Rattle.mbe_semantics.specs.Readings.Item.{Fragment}
 use Rattle.mbe_semantics.specs.Bindings.Account.{Entry, RoundEntry, Log, Handle}
 use Rattle.mbe_log.specs.BindingViews.{fragment_seen}
 

@@ -1,7 +1,7 @@
 // What a variable took.
 ghost use Rattle.std.specs.Prelude.{◌≡◌, IfOk};
 ghost use Rattle.mbe_tt.specs.Views.View.{trees};
-ghost use Rattle.mbe_semantics.specs.Readings.Item.{style_of};
+ghost use Rattle.mbe_semantics.specs.Fragments.Kinds.{style_of};
 ghost use Rattle.mbe_log.specs.BindingViews.{fragment_seen};
 
 use mbe_semantics::kinds::MetaVarKind;

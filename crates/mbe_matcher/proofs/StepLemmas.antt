@@ -15,7 +15,8 @@ use Rattle.mbe_tt.specs.declared.view.TokenTreesView.{TokenTreesView}
 use Rattle.mbe_tt.specs.Fragments.Grammar.{Grammar}
 use Rattle.mbe_semantics.specs.Syntax.Op.{Name, Separator, Op, Ops, no_ops, op, token, group, variable, repetition, expression, names_of}
 use Rattle.mbe_semantics.specs.Readings.Fit.{separator_front, between_front}
-use Rattle.mbe_semantics.specs.Readings.Item.{Fragment, style_of}
+use Rattle.mbe_semantics.specs.Fragments.Kinds.{style_of}
+use Rattle.mbe_semantics.specs.Readings.Item.{Fragment}
 use Rattle.mbe_semantics.specs.Readings.Input.{Input, input_of, length_of, fragment_of}
 use Rattle.mbe_semantics.specs.Readings.Steps.{if_none, skip_of, again_of}
 use Rattle.mbe_semantics.proofs.InputLemmas.{length_from}

@@ -5,12 +5,12 @@ ghost use Rattle.mbe_tt.specs.Views.Shown.{ident_of, literal_of};
 ghost use Rattle.mbe_tt.specs.Fragments.Grammar.{good_front};
 ghost use Rattle.mbe_semantics.specs.Readings.Fit.{ident_text_front, literal_text_front, puncts_front};
 ghost use Rattle.mbe_matcher.specs.Fronts.{HasPassed};
-ghost use Rattle.mbe_semantics.specs.Fragments.Takes.{takes, ident_front, lifetime_front, literal_front, tree_front, begins_refused, is_refused_word};
+ghost use Rattle.mbe_semantics.specs.Fragments.Takes.{takes, ident_front, lifetime_front, literal_front, tree_front, begins_refused, is_refused, is_refused_word};
 ghost use Rattle.mbe_ops.specs.Views.{IsTaken};
 
 use mbe_ops::ops::same_chars;
 use mbe_places::fragment::eat_front;
-use mbe_semantics::kinds::{ExprKind, MetaVarKind};
+use mbe_semantics::kinds::{ExprKind, MetaVarKind, Taker};
 use mbe_tt::grammar::{FragmentGrammar, PrefixEntryPoint};
 use mbe_tt::tt::{
     Delimiter, Ident, IdentIsRaw, Leaf, Literal, Punct, TokenTreesView, TtElement, TtIter,
@@ -62,22 +62,13 @@ pub fn eat_fragment<'a, A: Allocator, G: FragmentGrammar>(
     let Some(kind) = kind else {
         return Ok(None);
     };
-    match kind {
-        MetaVarKind::Ident => Ok(eat_any_ident(src)),
-        MetaVarKind::Tt => Ok(eat_tree(src)),
-        MetaVarKind::Lifetime => Ok(eat_lifetime(src)),
-        MetaVarKind::Literal => Ok(eat_signed_literal(src)),
-        MetaVarKind::Expr(expr) if begins_refused(expr, src) => Ok(None),
-        MetaVarKind::Expr(_) => eat_good_front(grammar, PrefixEntryPoint::Expr, src),
-        MetaVarKind::Path => eat_good_front(grammar, PrefixEntryPoint::Path, src),
-        MetaVarKind::Ty => eat_good_front(grammar, PrefixEntryPoint::Ty, src),
-        MetaVarKind::Pat => eat_good_front(grammar, PrefixEntryPoint::PatTop, src),
-        MetaVarKind::PatParam => eat_good_front(grammar, PrefixEntryPoint::Pat, src),
-        MetaVarKind::Stmt => eat_good_front(grammar, PrefixEntryPoint::Stmt, src),
-        MetaVarKind::Block => eat_good_front(grammar, PrefixEntryPoint::Block, src),
-        MetaVarKind::Meta => eat_good_front(grammar, PrefixEntryPoint::MetaItem, src),
-        MetaVarKind::Item => eat_good_front(grammar, PrefixEntryPoint::Item, src),
-        MetaVarKind::Vis => eat_good_front(grammar, PrefixEntryPoint::Vis, src),
+    match kind.taker() {
+        Taker::Identifier => Ok(eat_any_ident(src)),
+        Taker::Tree => Ok(eat_tree(src)),
+        Taker::Lifetime => Ok(eat_lifetime(src)),
+        Taker::Literal => Ok(eat_signed_literal(src)),
+        Taker::Grammar(_) if is_refused(kind, src) => Ok(None),
+        Taker::Grammar(entry) => eat_good_front(grammar, entry, src),
     }
 }
 
@@ -98,8 +89,18 @@ fn eat_good_front<'a, A: Allocator, G: FragmentGrammar>(
     }
 }
 
+// Whether the first identifier may not begin an expression of the kind.
+pub(crate) fn is_refused<A: Allocator>(kind: MetaVarKind, src: &TtIter<'_, A>) -> bool
+    ensures { result ≡ is_refused kind src.now }
+{
+    match kind {
+        MetaVarKind::Expr(expr) => begins_refused(expr, src),
+        _ => false,
+    }
+}
+
 // Whether the first tree is a word that no expression of the kind begins with.
-pub(crate) fn begins_refused<A: Allocator>(kind: ExprKind, src: &TtIter<'_, A>) -> bool
+fn begins_refused<A: Allocator>(kind: ExprKind, src: &TtIter<'_, A>) -> bool
     ensures { result ≡ begins_refused kind src.now }
 {
     match src.peek() {

@@ -5,13 +5,13 @@ ghost use Rattle.std.specs.String.{string_bytes};
 ghost use Rattle.mbe_tt.specs.declared.span.Span.{Span};
 ghost use Rattle.mbe_semantics.specs.Bindings.Account.{Account, IsAccount, HasEntriesOf, pushed};
 ghost use Rattle.mbe_semantics.specs.Expansion.Error.{binding_error, unexpected_token};
-ghost use Rattle.mbe_semantics.specs.Expansion.Failing.{noted, unlike, unlike_puncts, puncts_text, entry_of, kind_text, is_refused, failing_front, failing_variable, failing, bound_if_some, bad_front, failing_command};
+ghost use Rattle.mbe_semantics.specs.Expansion.Failing.{noted, unlike, unlike_puncts, puncts_text, failing_front, failing_variable, failing, bound_if_some, bad_front, failing_command};
 ghost use Rattle.mbe_errors.specs.ErrorViews.{error_of, errors_of, kind_of};
 ghost use Rattle.mbe_ops.specs.Views.{op_of};
 ghost use Rattle.mbe_matcher.specs.Rewriting.{IsRewritten};
 ghost use Rattle.mbe_matcher.specs.Failures.{is_noted};
 
-use crate::eat::begins_refused;
+use crate::eat::is_refused;
 use mbe_errors::error::{ExpandError, ExpandErrorKind};
 use mbe_log::fragment::of_kind;
 use mbe_log::log::{BindingLog, Handle, again};
@@ -65,47 +65,6 @@ fn puncts_text<A: Allocator>(alloc: A, puncts: &[Punct]) -> Result<String<A>, Al
     Ok(text)
 }
 
-// What the grammar is asked for, where it is asked.
-fn entry_of(kind: MetaVarKind) -> Option<PrefixEntryPoint>
-    ensures { result ≡ entry_of kind }
-{
-    match kind {
-        MetaVarKind::Ident | MetaVarKind::Tt | MetaVarKind::Lifetime | MetaVarKind::Literal => None,
-        MetaVarKind::Expr(_) => Some(PrefixEntryPoint::Expr),
-        MetaVarKind::Path => Some(PrefixEntryPoint::Path),
-        MetaVarKind::Ty => Some(PrefixEntryPoint::Ty),
-        MetaVarKind::Pat => Some(PrefixEntryPoint::PatTop),
-        MetaVarKind::PatParam => Some(PrefixEntryPoint::Pat),
-        MetaVarKind::Stmt => Some(PrefixEntryPoint::Stmt),
-        MetaVarKind::Block => Some(PrefixEntryPoint::Block),
-        MetaVarKind::Meta => Some(PrefixEntryPoint::MetaItem),
-        MetaVarKind::Item => Some(PrefixEntryPoint::Item),
-        MetaVarKind::Vis => Some(PrefixEntryPoint::Vis),
-    }
-}
-
-// What is expected of a kind that the grammar isn't asked about.
-fn kind_text(kind: MetaVarKind) -> &'static str
-    ensures { result.now ≡ kind_text kind }
-{
-    match kind {
-        MetaVarKind::Ident => "expected ident",
-        MetaVarKind::Lifetime => "expected lifetime",
-        MetaVarKind::Tt => "expected token tree",
-        MetaVarKind::Literal => "expected literal",
-        _ => "",
-    }
-}
-
-fn is_refused<A: Allocator>(kind: MetaVarKind, here: &TtIter<'_, A>) -> bool
-    ensures { result ≡ is_refused kind here.now }
-{
-    match kind {
-        MetaVarKind::Expr(expr) => begins_refused(expr, here),
-        _ => false,
-    }
-}
-
 // The error of a variable of the kind that takes nothing.
 fn variable_error<A: Allocator + Copy, G: FragmentGrammar>(
     alloc: A,
@@ -121,8 +80,8 @@ fn variable_error<A: Allocator + Copy, G: FragmentGrammar>(
         let error = noted(alloc, ExpandErrorKind::NoMatchingRule, here, around)?;
         return Ok(Some(error));
     }
-    let Some(entry) = entry_of(kind) else {
-        let text = String::from_str(alloc, kind_text(kind))?;
+    let Some(entry) = kind.taker().entry() else {
+        let text = String::from_str(alloc, kind.taker().expected())?;
         let error = noted(alloc, ExpandErrorKind::BindingError(text), here, around)?;
         return Ok(Some(error));
     };
@@ -193,7 +152,7 @@ pub(crate) fn bind_failing<'a, A: Allocator + Copy, G: FragmentGrammar>(
     if is_refused(kind, here) {
         return log.push_missing(handle, name, kind);
     }
-    let Some(entry) = entry_of(kind) else {
+    let Some(entry) = kind.taker().entry() else {
         return log.push_missing(handle, name, kind);
     };
     let mut ahead = here.fork();

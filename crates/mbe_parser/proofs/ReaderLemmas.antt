@@ -17,7 +17,9 @@ use Rattle.mbe_semantics.specs.declared.kinds.MetaVarKind.{MetaVarKind}
 use Rattle.mbe_semantics.specs.Syntax.Op as ops
 use Rattle.mbe_semantics.specs.Syntax.Op.{Name, Op, Ops, op, no_ops, Separator}
 use Rattle.mbe_semantics.specs.declared.kinds.RepeatKind.{RepeatKind}
-use Rattle.mbe_semantics.specs.Syntax.Template.{Mode, Fault, Head, ended, one, typed, opens_group, opens_repetition, head, after_dollar, puncts_at, kind_named, kind_names, pat_kind, expr_kind, Specifies, dated_pat, dated_expr, undated, Template, token, variable, grouped, repeated, TemplateFault, here as at_front, in_group, in_repetition, after_token, after_variable, following_group, after_repetition}
+use Rattle.mbe_semantics.specs.Fragments.Kinds.{kind_named, kind_names}
+use Rattle.mbe_semantics.proofs.KindLemmas.{different}
+use Rattle.mbe_semantics.specs.Syntax.Template.{Mode, Fault, Head, ended, one, typed, opens_group, opens_repetition, head, after_dollar, puncts_at, pat_kind, expr_kind, Specifies, dated_pat, dated_expr, undated, Template, token, variable, grouped, repeated, TemplateFault, here as at_front, in_group, in_repetition, after_token, after_variable, following_group, after_repetition}
 use Rattle.mbe_parser.specs.Reader.{AtHead, FaultAtHead, ReadsOp, Stops}
 use Rattle.mbe_errors.specs.ErrorViews.{fault_of}
 use Rattle.mbe_errors.specs.declared.error.ReadError as why
@@ -29,39 +31,15 @@ use Rattle.mbe_ops.proofs.Fragments.{glued_is}
 
 -- ---- specifiers
 
--- the name is none of these
-abbrev pub IsNoneOf : List (List ℕ × MetaVarKind) → List ℕ → Type 0
-IsNoneOf [] name = Unit {0}
-IsNoneOf (row ∷ rows) name = (name ≡ row.0 → ⊥) × IsNoneOf rows name
-
-false_by : (b : Bool) (P : Type 0) → (b ≡ true → P) → (P → ⊥) → b ≡ false
-false_by true P h n = absurd (n (h refl))
-false_by false P h n = refl
-
-different : (a b : List ℕ) → (b ≡ a → ⊥) → bytes_eq a b ≡ false
-different a b n = false_by (bytes_eq a b) (a ≡ b) (bytes_eq-Decides a b).0 (λ e. n (sym e))
-
-pub kind_named-none : (rows : List (List ℕ × MetaVarKind)) (name : List ℕ) → IsNoneOf rows name
-    → None ≡ kind_named rows name
-kind_named-none [] name n = refl
-kind_named-none (row ∷ rows) name n = rw (different row.0 name n.0) (kind_named-none rows name n.1)
-
 module _ (HasEdition : SyntaxContext → Edition → Type 0) where
-  pub unknown : (specifier : Ident) → (specifier.sym ≡ codes "pat" → ⊥) → (specifier.sym ≡ codes "expr" → ⊥)
-      → IsNoneOf kind_names specifier.sym
-      → Specifies HasEdition specifier None
-  unknown specifier p x n =
-      subst (Specifies HasEdition specifier) (sym (kind_named-none kind_names specifier.sym n))
+  -- a name that isn't `pat` or `expr` means its kind in each edition
+  pub known : (specifier : Ident) (kind : Option MetaVarKind) → (specifier.sym ≡ codes "expr" → ⊥)
+      → (specifier.sym ≡ codes "pat" → ⊥)
+      → kind ≡ kind_named kind_names specifier.sym → Specifies HasEdition specifier kind
+  known specifier kind x p k =
+      subst (Specifies HasEdition specifier) (sym k)
       (undated (different specifier.sym (codes "pat") (λ e. p (sym e)))
       (different specifier.sym (codes "expr") (λ e. x (sym e))))
-
-  -- a name that means its kind in each edition
-  pub known : (specifier : Ident) (name : List ℕ) (kind : Option MetaVarKind) → specifier.sym ≡ name
-      → IsFalse (is_text name (codes "pat"))
-      → IsFalse (is_text name (codes "expr")) → kind_named kind_names name ≡ kind → Specifies HasEdition specifier kind
-  known specifier name kind e p x k =
-      subst (Specifies HasEdition specifier) (ap (kind_named kind_names) e ∙ k)
-      (undated (ap (λ t. is_text t (codes "pat")) e ∙ p) (ap (λ t. is_text t (codes "expr")) e ∙ x))
 
   same_text : (a b : List ℕ) → a ≡ b → IsTrue (is_text a b)
   same_text a b e = (bytes_eq-Decides a b).1 e

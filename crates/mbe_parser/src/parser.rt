@@ -357,25 +357,11 @@ fn fragment_kind<A: Allocator, E: Copy + Fn(SyntaxContext) -> Edition>(
     requires { MayAsk (E.pre edition) }
     ensures { Specifies (E.post edition) (ident_of specifier.now) result }
 {
-    // The commonest come first: each text is one comparison more for those after it.
-    Some(match specifier.sym.as_str() {
-        "ident" => MetaVarKind::Ident,
-        "expr" => expr_kind(edition, specifier.span.ctx),
-        "tt" => MetaVarKind::Tt,
-        "ty" => MetaVarKind::Ty,
-        "literal" => MetaVarKind::Literal,
-        "path" => MetaVarKind::Path,
-        "pat" => pat_kind(edition, specifier.span.ctx),
-        "pat_param" => MetaVarKind::PatParam,
-        "stmt" => MetaVarKind::Stmt,
-        "block" => MetaVarKind::Block,
-        "meta" => MetaVarKind::Meta,
-        "item" => MetaVarKind::Item,
-        "vis" => MetaVarKind::Vis,
-        "expr_2021" => MetaVarKind::Expr(ExprKind::Expr2021),
-        "lifetime" => MetaVarKind::Lifetime,
-        _ => return None,
-    })
+    match specifier.sym.as_str() {
+        "expr" => Some(expr_kind(edition, specifier.span.ctx)),
+        "pat" => Some(pat_kind(edition, specifier.span.ctx)),
+        name => MetaVarKind::named(name),
+    }
 }
 
 // `pat` in the edition of the context.

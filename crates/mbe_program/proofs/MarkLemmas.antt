@@ -8,7 +8,7 @@ use Rattle.mbe_semantics.specs.declared.macro_call_style.MacroCallStyle.{MacroCa
 use Rattle.mbe_semantics.specs.Syntax.Op as ops
 use Rattle.mbe_semantics.specs.Syntax.Op.{Name, Token, Expression, ignore, count, index, len, concat, Op, Ops, no_ops, op}
 use Rattle.mbe_semantics.specs.Syntax.Definition.{Rule}
-use Rattle.mbe_semantics.specs.Readings.Item.{Style, plain, stripped, as_expression, as_path}
+use Rattle.mbe_semantics.specs.Fragments.Kinds.{Style, plain, stripped, as_expression, as_path}
 use Rattle.mbe_semantics.specs.Bindings.Environment.{Value, fragment, missing, Environment, environment_of, value_of}
 use Rattle.mbe_semantics.specs.Writing.Rounds.{Path, followed, Extent, finite, endless, kept_rounds, level}
 use Rattle.mbe_semantics.specs.Writing.Concat.{concat_text}

@@ -48,7 +48,7 @@ pub fn terminal<'t, A: Allocator>(
 }
 
 /// The trees after a word: an identifier of one of those texts that isn't raw.
-#[inline(never)]
+#[inline]
 pub fn word<'t, A: Allocator>(tokens: TokenTreesView<'t, A>, texts: &[&str]) -> Step<'t, A>
     ensures { seen result ≡ or_absent
         (after_one (is_one_of (map (λ t. t.now) texts.now)) (trees tokens.entry)) }
@@ -77,7 +77,7 @@ pub fn is_text_of(text: &str, texts: &[&str]) -> bool
 }
 
 /// The trees after an identifier.
-#[inline(never)]
+#[inline]
 pub fn identifier<'t, A: Allocator>(tokens: TokenTreesView<'t, A>) -> Step<'t, A>
     ensures { seen result ≡ or_absent (after_one is_identifier (trees tokens.entry)) }
 {
@@ -111,7 +111,7 @@ fn is_keyword<A: Allocator>(table: &RuleTable<'_>, ident: &Ident<A>) -> bool
 }
 
 /// The trees after a literal.
-#[inline(never)]
+#[inline]
 pub fn literal<'t, A: Allocator>(tokens: TokenTreesView<'t, A>) -> Step<'t, A>
     ensures { seen result ≡ or_absent (after_one is_literal (trees tokens.entry)) }
 {
@@ -177,7 +177,7 @@ fn since<'t, A: Allocator>(
 }
 
 /// The trees after a punct of that char, whatever would be taken together with it.
-#[inline(never)]
+#[inline]
 pub fn sign<'t, A: Allocator>(tokens: TokenTreesView<'t, A>, char: char) -> Step<'t, A>
     ensures { seen result ≡ or_absent (after_one (is_punct char) (trees tokens.entry)) }
 {
@@ -189,7 +189,7 @@ pub fn sign<'t, A: Allocator>(tokens: TokenTreesView<'t, A>, char: char) -> Step
 }
 
 /// The trees after a group of one of those kinds.
-#[inline(never)]
+#[inline]
 pub fn group<'t, A: Allocator>(
     tokens: TokenTreesView<'t, A>,
     kinds: &[DelimiterKind],

@@ -6,8 +6,9 @@ use Rattle.std.proofs.Common.{subst}
 use Rattle.std.specs.Str.{bytes_eq}
 use Rattle.std.proofs.lemmas.Option.{same_Some}
 use Rattle.mbe_semantics.specs.declared.kinds.MetaVarKind.{MetaVarKind}
-use Rattle.mbe_semantics.specs.declared.kinds.MetaVarKind.TheVariants as kinds
-use Rattle.mbe_tt.specs.declared.grammar.PrefixEntryPoint.TheVariants as entries
+use Rattle.mbe_semantics.specs.declared.kinds.Taker.{Taker}
+use Rattle.mbe_semantics.specs.declared.kinds.Taker.TheVariants as takers
+use Rattle.mbe_semantics.specs.Fragments.Kinds.{facts}
 use Rattle.mbe_tt.specs.Trees.Leaf.{ident, literal, punct}
 use Rattle.mbe_tt.specs.Trees.Tree.{Forest, none, leaf, group, Cut, cut, cut_trees, is_truth}
 use Rattle.mbe_tt.specs.Trees.Glue.{glue, chars_of}
@@ -15,7 +16,7 @@ use Rattle.mbe_semantics.specs.Syntax.Op as ops
 use Rattle.mbe_semantics.specs.Syntax.Op.{Op, Ops, no_ops, op}
 use Rattle.mbe_tt.specs.Fragments.Grammar.{Grammar, good_front}
 use Rattle.mbe_tt.specs.Trees.Leaf.{is_text, is_underscore}
-use Rattle.mbe_semantics.specs.Fragments.Takes.{takes, ident_front, lifetime_front, unsigned_front, literal_front, tree_front, with_leaf, begins_refused}
+use Rattle.mbe_semantics.specs.Fragments.Takes.{takes, takes_by, is_refused, ident_front, lifetime_front, unsigned_front, literal_front, tree_front, with_leaf}
 use Rattle.mbe_semantics.specs.Readings.Fit.{token_front, literal_text_front, ident_text_front, puncts_front, lifetime_text_front, literal_separator_front, between_front}
 
 literal_text_cut : (text : List ℕ) (f : Forest) (c : Cut) → literal_text_front text f ≡ Some c → IsCut f c
@@ -121,23 +122,18 @@ tree_cut (leaf (ident i) rest) c e = subst (IsCut (leaf (ident i) rest)) (same_S
 tree_cut (group d inside rest) c e = subst (IsCut (group d inside rest)) (same_Some _ c e)
     (cut_trees-append 1 (group d inside rest))
 
+takes_by_cut : (g : Grammar) (kind : MetaVarKind) (taker : Taker) (f : Forest) (c : Cut)
+    → takes_by g kind taker f ≡ Some c → IsCut f c
+takes_by_cut g kind (takers.Grammar entry) f c e = go (is_refused kind f) e
+  where
+    go : (b : Bool) → (if b then None else good_front g entry f) ≡ Some c → IsCut f c
+    go true h = no_cut h
+    go false h = good_cut g entry f c h
+takes_by_cut g kind takers.Identifier f c e = ident_cut f c e
+takes_by_cut g kind takers.Lifetime f c e = lifetime_cut f c e
+takes_by_cut g kind takers.Tree f c e = tree_cut f c e
+takes_by_cut g kind takers.Literal f c e = literal_cut f c e
+
 pub takes_cut : (g : Grammar) (kind : Option MetaVarKind) (f : Forest) (c : Cut) → takes g kind f ≡ Some c → IsCut f c
 takes_cut g None f c e = no_cut e
-takes_cut g (Some kinds.Ident) f c e = ident_cut f c e
-takes_cut g (Some kinds.Lifetime) f c e = lifetime_cut f c e
-takes_cut g (Some kinds.Tt) f c e = tree_cut f c e
-takes_cut g (Some kinds.Literal) f c e = literal_cut f c e
-takes_cut g (Some (kinds.Expr kind)) f c e = go (begins_refused kind f) e
-  where
-    go : (b : Bool) → (if b then None else good_front g entries.Expr f) ≡ Some c → IsCut f c
-    go true h = no_cut h
-    go false h = good_cut g entries.Expr f c h
-takes_cut g (Some kinds.Path) f c e = good_cut g entries.Path f c e
-takes_cut g (Some kinds.Ty) f c e = good_cut g entries.Ty f c e
-takes_cut g (Some kinds.Pat) f c e = good_cut g entries.PatTop f c e
-takes_cut g (Some kinds.PatParam) f c e = good_cut g entries.Pat f c e
-takes_cut g (Some kinds.Stmt) f c e = good_cut g entries.Stmt f c e
-takes_cut g (Some kinds.Block) f c e = good_cut g entries.Block f c e
-takes_cut g (Some kinds.Meta) f c e = good_cut g entries.MetaItem f c e
-takes_cut g (Some kinds.Item) f c e = good_cut g entries.Item f c e
-takes_cut g (Some kinds.Vis) f c e = good_cut g entries.Vis f c e
+takes_cut g (Some kind) f c e = takes_by_cut g kind (facts kind).taker f c e

@@ -10,7 +10,8 @@ use Rattle.mbe_tt.specs.Fragments.Grammar.{Grammar, IsLawful}
 use Rattle.mbe_tt.proofs.Places.CutLemmas.{no_true, both_left, flat_len-append}
 use Rattle.mbe_semantics.specs.Syntax.Op.{Token, Separator}
 use Rattle.mbe_semantics.specs.Syntax.Nullable.{is_vis}
-use Rattle.mbe_semantics.specs.Readings.Item.{Fragment, style_of}
+use Rattle.mbe_semantics.specs.Fragments.Kinds.{style_of}
+use Rattle.mbe_semantics.specs.Readings.Item.{Fragment}
 use Rattle.mbe_semantics.specs.Fragments.Takes.{takes}
 use Rattle.mbe_semantics.specs.Readings.Fit.{token_front, separator_front}
 use Rattle.mbe_semantics.specs.Readings.Input.{length_of, fragment_of, is_opening, is_none, input_of}

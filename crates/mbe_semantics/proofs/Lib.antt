@@ -1,3 +1,4 @@
+pub mod KindLemmas
 pub mod FrontLemmas
 pub mod Taken
 pub mod Parents

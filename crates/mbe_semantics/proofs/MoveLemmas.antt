@@ -1,10 +1,12 @@
 -- What is read at a place takes at least one flat token; only a fragment of kind `vis` may take none.
 use Rattle.std.specs.Prelude.{codes, ◌≡◌, ◌≤◌, ◌<◌, ◌+◌, ◌==◌, ◌&&◌, ◌||◌, not, ℕ, zero, suc, Bool, true, false, if◌then◌else◌, List, [], ◌∷◌, length, take, Option, Some, None, refl}
-use Rattle.std.proofs.Common.{arith, ap, sym, ◌∙◌, subst, eqb-true}
+use Rattle.std.proofs.Common.{arith, ap, subst, eqb-true}
 use Rattle.std.specs.Str.{bytes_eq}
 use Rattle.std.proofs.lemmas.Option.{same_Some}
 use Rattle.mbe_semantics.specs.declared.kinds.MetaVarKind.{MetaVarKind}
-use Rattle.mbe_semantics.specs.declared.kinds.MetaVarKind.TheVariants as kinds
+use Rattle.mbe_semantics.specs.declared.kinds.Taker.{Taker}
+use Rattle.mbe_semantics.specs.declared.kinds.Taker.TheVariants as takers
+use Rattle.mbe_semantics.specs.Fragments.Kinds.{facts}
 use Rattle.mbe_tt.specs.declared.tt.Punct.{Punct}
 use Rattle.mbe_tt.specs.declared.grammar.PrefixEntryPoint.{PrefixEntryPoint}
 use Rattle.mbe_tt.specs.declared.grammar.PrefixEntryPoint.TheVariants as entries
@@ -14,8 +16,8 @@ use Rattle.mbe_tt.specs.Trees.Glue.{glue, chars_of, if_joint, joined, longest_op
 use Rattle.mbe_tt.specs.Fragments.Grammar.{Grammar, IsLawful, front, is_good, good_front}
 use Rattle.mbe_tt.proofs.Places.CutLemmas.{no_cut, if_moves, no_true, both_left, both_right}
 use Rattle.mbe_semantics.specs.Syntax.Op as ops
-use Rattle.mbe_semantics.specs.Syntax.Nullable.{is_vis}
-use Rattle.mbe_semantics.specs.Fragments.Takes.{takes, ident_front, lifetime_front, unsigned_front, literal_front, tree_front, with_leaf, begins_refused}
+use Rattle.mbe_semantics.specs.Syntax.Nullable.{is_vis, may_find_nothing}
+use Rattle.mbe_semantics.specs.Fragments.Takes.{takes, takes_by, is_refused, ident_front, lifetime_front, unsigned_front, literal_front, tree_front, with_leaf}
 use Rattle.mbe_semantics.specs.Readings.Fit.{token_front, literal_text_front, ident_text_front, puncts_front, lifetime_text_front, literal_separator_front, separator_front}
 
 pub leaf_moves : (n : ℕ) (l : Leaf) (rest : Forest) → 0 < n → 1 ≤ flat_len (cut_trees n (leaf l rest)).front
@@ -159,36 +161,24 @@ good_empty g w entry f c e z = go (is_good g entry f) refl e
         (both_left (not (g.parse entry (flat f)).fault) _ h)) (omega (arith, same, length, z))
     go false h k = no_cut k
 
-abbrev is_vis_entry : PrefixEntryPoint → Bool
-is_vis_entry entries.Vis = true
-is_vis_entry _ = false
-
-no_vis : {A : Type 0} (entry : PrefixEntryPoint) → is_vis_entry entry ≡ false → entry ≡ entries.Vis → A
-no_vis entry e h = no_true (sym e ∙ ap is_vis_entry h)
-
 some_taken : {A : Type 0} (c : Cut) → 1 ≤ flat_len c.front → flat_len c.front ≡ 0 → A
 some_taken c l z = absurd (omega (arith, l, z))
+
+takes_by_empty : (g : Grammar) → IsLawful g → (kind : MetaVarKind) (taker : Taker) (f : Forest) (c : Cut)
+    → takes_by g kind taker f ≡ Some c → flat_len c.front ≡ 0 → may_find_nothing taker ≡ true
+takes_by_empty g w kind (takers.Grammar entry) f c e z = go (is_refused kind f) e
+  where
+    go : (b : Bool) → (if b then None else good_front g entry f) ≡ Some c
+        → may_find_nothing (takers.Grammar entry) ≡ true
+    go true h = no_cut h
+    go false h = ap (λ x. may_find_nothing (takers.Grammar x)) (good_empty g w entry f c h z)
+takes_by_empty g w kind takers.Identifier f c e z = some_taken c (name_moves f c e) z
+takes_by_empty g w kind takers.Lifetime f c e z = some_taken c (lifetime_moves f c e) z
+takes_by_empty g w kind takers.Tree f c e z = some_taken c (tree_moves f c e) z
+takes_by_empty g w kind takers.Literal f c e z = some_taken c (number_moves f c e) z
 
 -- what a variable takes over no flat token, it takes as a `vis`
 pub takes_empty : (g : Grammar) → IsLawful g → (kind : Option MetaVarKind) (f : Forest) (c : Cut)
     → takes g kind f ≡ Some c → flat_len c.front ≡ 0 → is_vis kind ≡ true
 takes_empty g w None f c e z = no_cut e
-takes_empty g w (Some kinds.Ident) f c e z = some_taken c (name_moves f c e) z
-takes_empty g w (Some kinds.Lifetime) f c e z = some_taken c (lifetime_moves f c e) z
-takes_empty g w (Some kinds.Tt) f c e z = some_taken c (tree_moves f c e) z
-takes_empty g w (Some kinds.Literal) f c e z = some_taken c (number_moves f c e) z
-takes_empty g w (Some (kinds.Expr kind)) f c e z = go (begins_refused kind f) e
-  where
-    go : (b : Bool) → (if b then None else good_front g entries.Expr f) ≡ Some c
-        → is_vis (Some (kinds.Expr kind)) ≡ true
-    go true h = no_cut h
-    go false h = no_vis entries.Expr refl (good_empty g w entries.Expr f c h z)
-takes_empty g w (Some kinds.Path) f c e z = no_vis entries.Path refl (good_empty g w entries.Path f c e z)
-takes_empty g w (Some kinds.Ty) f c e z = no_vis entries.Ty refl (good_empty g w entries.Ty f c e z)
-takes_empty g w (Some kinds.Pat) f c e z = no_vis entries.PatTop refl (good_empty g w entries.PatTop f c e z)
-takes_empty g w (Some kinds.PatParam) f c e z = no_vis entries.Pat refl (good_empty g w entries.Pat f c e z)
-takes_empty g w (Some kinds.Stmt) f c e z = no_vis entries.Stmt refl (good_empty g w entries.Stmt f c e z)
-takes_empty g w (Some kinds.Block) f c e z = no_vis entries.Block refl (good_empty g w entries.Block f c e z)
-takes_empty g w (Some kinds.Meta) f c e z = no_vis entries.MetaItem refl (good_empty g w entries.MetaItem f c e z)
-takes_empty g w (Some kinds.Item) f c e z = no_vis entries.Item refl (good_empty g w entries.Item f c e z)
-takes_empty g w (Some kinds.Vis) f c e z = refl
+takes_empty g w (Some kind) f c e z = takes_by_empty g w kind (facts kind).taker f c e z

@@ -1,2 +1,3 @@
--- What a variable takes of an argument.
+-- The kinds of fragments, and what a variable takes of an argument.
+pub mod Kinds
 pub mod Takes

@@ -9,7 +9,7 @@ use Rattle.mbe_semantics.specs.declared.kinds.MetaVarKind.{MetaVarKind}
 use Rattle.mbe_semantics.specs.declared.kinds.MetaVarKind.TheVariants as kinds
 use Rattle.mbe_log.specs.declared.fragment.TokensOrigin.{TokensOrigin}
 use Rattle.mbe_log.specs.declared.fragment.TokensOrigin.TheVariants.{Raw, Ast}
-use Rattle.mbe_semantics.specs.Readings.Item.{plain, as_path}
+use Rattle.mbe_semantics.specs.Fragments.Kinds.{plain, as_path}
 use Rattle.mbe_semantics.specs.Bindings.Missing.{default_trees}
 use Rattle.mbe_semantics.specs.Writing.Written.{IsWrittenAs, IsExpressionWritten, IsParenthesized, needs_parentheses, in_parentheses}
 use Rattle.mbe_log.specs.BindingViews.{origin_style}
@@ -70,13 +70,3 @@ module _ (Marks : Span → Span → Type 0) (span : Span) where
   enclosed_written f inside marked old opened mid new s h m o w e =
       subst (λ x. Appends (IsParenthesized Marks (needs_parentheses x) span (alone x)) old new) s
       (enclosed (needs_parentheses inside) marked (alone inside) old opened mid new h m o w e)
-
--- ---- defaults
-
-pub nothing_for : (kind : MetaVarKind) (span : Span)
-    → (kind ≡ kinds.Meta) ⊎ ((kind ≡ kinds.Item) ⊎ ((kind ≡ kinds.Tt) ⊎ (kind ≡ kinds.Vis)))
-    → none ≡ default_trees kind span
-nothing_for kind span (inl e) = ap (λ k. default_trees k span) (sym e)
-nothing_for kind span (inr (inl e)) = ap (λ k. default_trees k span) (sym e)
-nothing_for kind span (inr (inr (inl e))) = ap (λ k. default_trees k span) (sym e)
-nothing_for kind span (inr (inr (inr e))) = ap (λ k. default_trees k span) (sym e)

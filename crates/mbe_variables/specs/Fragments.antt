@@ -2,7 +2,7 @@
 use Rattle.std.specs.Prelude.{◌≡◌}
 use Rattle.mbe_tt.specs.Trees.Tree.{Forest, alone, strip_invisible}
 use Rattle.mbe_tt.specs.Buffers.Building.{Levels, put}
-use Rattle.mbe_semantics.specs.Readings.Item.{Style, stripped}
+use Rattle.mbe_semantics.specs.Fragments.Kinds.{Style, stripped}
 
 -- such trees come at the end of the innermost open group
 unfoldable pub Appends : (Forest → Type 0) → Levels → Levels → Type 0

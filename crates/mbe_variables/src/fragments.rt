@@ -25,7 +25,7 @@ ghost use Rattle.mbe_semantics.specs.Writing.Written as spec;
 ghost use Rattle.mbe_semantics.specs.Writing.Written.{IsWrittenAs, path_trees};
 
 use mbe_log::fragment::{Fragment, TokensOrigin};
-use mbe_semantics::kinds::MetaVarKind;
+use mbe_semantics::kinds::{MetaVarKind, Missing};
 use mbe_tt::span::Span;
 use mbe_tt::symbol::Symbol;
 use mbe_tt::tt::{
@@ -179,25 +179,19 @@ pub fn write_default<A: Allocator + Copy>(
     requires { 0 < length builder.old }
     ensures { OnOk result (builder.new ≡ put (default_trees kind span) builder.old) }
 {
-    match kind {
-        MetaVarKind::Meta | MetaVarKind::Item | MetaVarKind::Tt | MetaVarKind::Vis => Ok(()),
-        MetaVarKind::Stmt => builder.push(punct(';', Spacing::Alone, span)),
-        MetaVarKind::Block => {
+    match kind.missing() {
+        Missing::Nothing => Ok(()),
+        Missing::Semicolon => builder.push(punct(';', Spacing::Alone, span)),
+        Missing::Braces => {
             builder.open(DelimiterKind::Brace, span)?;
             builder.close(span);
             Ok(())
         }
-        MetaVarKind::Lifetime => {
+        Missing::Lifetime => {
             builder.push(punct('\'', Spacing::Joint, span))?;
             builder.push(name(Symbol::intern(alloc, "missing")?, span))
         }
-        MetaVarKind::Path
-        | MetaVarKind::Ty
-        | MetaVarKind::Pat
-        | MetaVarKind::PatParam
-        | MetaVarKind::Expr(_)
-        | MetaVarKind::Ident
-        | MetaVarKind::Literal => builder.push(name(Symbol::intern(alloc, "missing")?, span)),
+        Missing::Identifier => builder.push(name(Symbol::intern(alloc, "missing")?, span)),
     }
 }
 

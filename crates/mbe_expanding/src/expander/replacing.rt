@@ -24,7 +24,7 @@ use mbe_calls::splicing::{Replacement, splice};
 use mbe_renaming::contexts::told_apart;
 use mbe_renaming::renaming::Doubt;
 use mbe_tt::span::Span;
-use mbe_tt::tt::{Delimiter, TokenTreesView, TopSubtree, TopSubtreeBuilder, TtElement};
+use mbe_tt::tt::{Delimiter, Leaf, TokenTreesView, TopSubtree, TopSubtreeBuilder, TtElement};
 use mbe_wording::places::{Place, place_of};
 use mbe_wording::wording::{Builtins, worded};
 use std::alloc::{AllocError, Allocator};
@@ -312,8 +312,8 @@ impl<A: Allocator + Copy> Expander<'_, A> {
         let apart = told_apart(self.alloc, &written, rest, self.contexts.as_slice(), mark)?;
         self.note_doubts(texts, apart.undecided.as_slice())?;
         let (around, start) = (text_in(texts, call.start.file), call.start.start as usize);
-        let (place, indentation) = (place_of(around, start), indentation(around, start));
-        let text = self.text_at(&apart.tree, place, indentation)?;
+        let place = place_if_named(&apart.tree, around, start);
+        let text = self.text_at(&apart.tree, place, indentation(around, start))?;
         let replacement = Replacement {
             file: call.start.file,
             start,
@@ -418,15 +418,44 @@ fn text_in<'t>(texts: &[&'t str], file: u32) -> &'t str {
     }
 }
 
+// Where that byte is in a text, if the tree may say so. Lines are counted from the start of the text, so not for each call.
+fn place_if_named<A: Allocator>(tree: &TopSubtree<A>, text: &str, at: usize) -> Place {
+    if names_place(tree.iter().remaining()) {
+        place_of(text, at)
+    } else {
+        Place { line: 1, column: 1 }
+    }
+}
+
+// Whether `line` or `column` is among the words of trees.
+fn names_place<A: Allocator>(trees: TokenTreesView<'_, A>) -> bool {
+    let mut cursor = trees.cursor();
+    for _ in 0..trees.flat_len() {
+        if let Some(TtElement::Leaf(Leaf::Ident(ident))) = cursor.token_tree()
+            && matches!(ident.sym.as_str(), "line" | "column")
+        {
+            return true;
+        }
+        cursor.bump_or_end();
+    }
+    false
+}
+
 // How many times four spaces the line begins with that this byte is in.
 fn indentation(text: &str, at: usize) -> usize {
-    let before = text.get(..at).unwrap_or("");
-    let line = match before.rsplit_once('\n') {
-        Some((_, line)) => line,
-        None => before,
-    };
+    let line = text.get(line_start(text, at)..at).unwrap_or("");
     let spaces = line
         .len()
         .saturating_sub(line.trim_start_matches(' ').len());
     spaces / 4
+}
+
+// Where the line begins that this byte is in. A line is short and the text before it is not, so it is looked for from here.
+fn line_start(text: &str, at: usize) -> usize {
+    let bytes = text.as_bytes();
+    let mut start = at;
+    'bytes: while start > 0 && bytes.get(start - 1).is_some_and(|byte| *byte != b'\n') {
+        start -= 1;
+    }
+    start
 }

@@ -10,12 +10,14 @@ use Rattle.mbe_tt.specs.Trees.Leaf.{Leaf, literal, punct, ident, span_of}
 use Rattle.mbe_tt.specs.Trees.Tree.{Forest, none, leaf, group, append, rest_at, flat_len, Cut, alone, alone_leaf, strip_group, strip_invisible, spans_of}
 use Rattle.mbe_tt.specs.Fragments.Grammar.{Grammar}
 use Rattle.mbe_semantics.specs.declared.kinds.MetaVarKind.{MetaVarKind}
-use Rattle.mbe_semantics.specs.declared.kinds.MetaVarKind.TheVariants as kinds
+use Rattle.mbe_semantics.specs.declared.kinds.Missing.{Missing}
+use Rattle.mbe_semantics.specs.declared.kinds.Missing.TheVariants as defaults
 use Rattle.mbe_semantics.specs.Syntax.Op as ops
 use Rattle.mbe_semantics.specs.Syntax.Op.{Name, Token, Separator, Expression, ignore, count, index, len, concat, Op, Ops, no_ops, op}
-use Rattle.mbe_semantics.specs.Readings.Item.{Fragment, Style, plain, stripped, as_expression, as_path}
+use Rattle.mbe_semantics.specs.Fragments.Kinds.{facts, Style, plain, stripped, as_expression, as_path}
+use Rattle.mbe_semantics.specs.Readings.Item.{Fragment}
 use Rattle.mbe_semantics.specs.Readings.Input.{input_of}
-use Rattle.mbe_semantics.specs.Bindings.Missing.{default_trees}
+use Rattle.mbe_semantics.specs.Bindings.Missing.{missing_trees, default_trees}
 use Rattle.mbe_semantics.specs.Fragments.Takes.{takes}
 use Rattle.mbe_semantics.specs.Bindings.Environment.{Value, fragment, list, empty, missing, Environment, value_of, environment_of}
 use Rattle.mbe_semantics.specs.Writing.Rounds.{Path, Extent, finite, endless, kept_rounds, follow, followed, level}
@@ -150,21 +152,15 @@ module _ (Q : Span → Type 0) where
       go false k = (h.1.0, k)
   each_path s q (group d inside rest) h = (h.0, h.1, h.2, each_path s q rest h.3)
 
+  each_missing : (missing : Missing) (s : Span) → Q s → Each (missing_trees missing s)
+  each_missing defaults.Nothing s q = tt
+  each_missing defaults.Semicolon s q = (q, tt)
+  each_missing defaults.Braces s q = (q, tt, q, tt)
+  each_missing defaults.Lifetime s q = (q, (q, tt))
+  each_missing defaults.Identifier s q = (q, tt)
+
   each_default : (kind : MetaVarKind) (s : Span) → Q s → Each (default_trees kind s)
-  each_default kinds.Stmt s q = (q, tt)
-  each_default kinds.Block s q = (q, tt, q, tt)
-  each_default kinds.Meta s q = tt
-  each_default kinds.Item s q = tt
-  each_default kinds.Tt s q = tt
-  each_default kinds.Vis s q = tt
-  each_default kinds.Lifetime s q = (q, (q, tt))
-  each_default kinds.Path s q = (q, tt)
-  each_default kinds.Ty s q = (q, tt)
-  each_default kinds.Pat s q = (q, tt)
-  each_default kinds.PatParam s q = (q, tt)
-  each_default (kinds.Expr kind) s q = (q, tt)
-  each_default kinds.Ident s q = (q, tt)
-  each_default kinds.Literal s q = (q, tt)
+  each_default kind s q = each_missing (facts kind).missing s q
 
 -- ---- fragments of a reading
 

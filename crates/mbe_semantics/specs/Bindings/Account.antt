@@ -5,7 +5,7 @@ use Rattle.mbe_tt.specs.Trees.Tree.{none}
 use Rattle.mbe_semantics.specs.declared.kinds.MetaVarKind.{MetaVarKind}
 use Rattle.mbe_semantics.specs.declared.log.Part.{Part}
 use Rattle.mbe_semantics.specs.Syntax.Op.{Name}
-use Rattle.mbe_semantics.specs.Readings.Item as items
+use Rattle.mbe_semantics.specs.Fragments.Kinds as fragments
 use Rattle.mbe_semantics.specs.Readings.Item.{Fragment, Item, matched, bound, grouped, skipped, rounds, Items, no_items, item, Rounds, no_rounds, round}
 use Rattle.mbe_semantics.specs.Bindings.Environment.{Value, fragment, list, empty, missing, Values, no_values, value, add_value, Environment, value_of, set_value}
 
@@ -61,7 +61,7 @@ pushed_default a = record { finished = all_rounds a; current = no_commands }
 
 -- the fragment of a variable that took nothing
 abbrev pub nothing_taken : Fragment
-nothing_taken = record { trees = none; style = items.plain }
+nothing_taken = record { trees = none; style = fragments.plain }
 
 -- with empty lists after them, until there are n
 abbrev pub filled : ℕ → Values → Values

@@ -7,23 +7,26 @@ use Rattle.mbe_tt.specs.declared.tt.Spacing.TheVariants.{Alone, Joint}
 use Rattle.mbe_tt.specs.Trees.Leaf.{punct, ident}
 use Rattle.mbe_tt.specs.Trees.Tree.{Forest, none, leaf, group}
 use Rattle.mbe_semantics.specs.declared.kinds.MetaVarKind.{MetaVarKind}
-use Rattle.mbe_semantics.specs.declared.kinds.MetaVarKind.TheVariants as kinds
+use Rattle.mbe_semantics.specs.declared.kinds.Missing.{Missing}
+use Rattle.mbe_semantics.specs.declared.kinds.Missing.TheVariants as defaults
+use Rattle.mbe_semantics.specs.Fragments.Kinds.{facts}
 
 -- the identifier `missing`
 abbrev pub missing_ident : Span → Forest
 missing_ident span = leaf (ident (record { sym = codes "missing"; is_raw = raw.No; span = span })) none
 
--- what each kind is written as; every span is the one given
-abbrev pub default_trees : MetaVarKind → Span → Forest
-default_trees kinds.Stmt span = leaf (punct (record { char = 59; spacing = Alone; span = span })) none
-default_trees kinds.Block span = group (record { opening = span; close = span; kind = Brace }) none none
-default_trees kinds.Meta span = none
-default_trees kinds.Item span = none
-default_trees kinds.Tt span = none
-default_trees kinds.Vis span = none
-default_trees kinds.Lifetime span = leaf (punct (record { char = 39; spacing = Joint; span = span }))
+-- every span is the one given
+abbrev pub missing_trees : Missing → Span → Forest
+missing_trees defaults.Nothing span = none
+missing_trees defaults.Semicolon span = leaf (punct (record { char = 59; spacing = Alone; span = span })) none
+missing_trees defaults.Braces span = group (record { opening = span; close = span; kind = Brace }) none none
+missing_trees defaults.Lifetime span = leaf (punct (record { char = 39; spacing = Joint; span = span }))
     (missing_ident span)
-default_trees _ span = missing_ident span
+missing_trees defaults.Identifier span = missing_ident span
+
+-- what each kind is written as
+abbrev pub default_trees : MetaVarKind → Span → Forest
+default_trees kind span = missing_trees (facts kind).missing span
 
 -- of a text alone the span doesn't matter
 abbrev pub no_span : Span

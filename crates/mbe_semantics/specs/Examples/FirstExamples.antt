@@ -17,7 +17,7 @@ use Rattle.mbe_semantics.specs.Syntax.Op.{Name, Op, Ops, no_ops, op, names_of, p
 use Rattle.mbe_semantics.specs.Syntax.Template.{expected}
 use Rattle.mbe_semantics.specs.Syntax.Definition.{Rule, IsMacroRules}
 use Rattle.mbe_tt.specs.Fragments.Grammar.{Grammar, IsLawful}
-use Rattle.mbe_semantics.specs.Readings.Item as items
+use Rattle.mbe_semantics.specs.Fragments.Kinds as fragments
 use Rattle.mbe_semantics.specs.Readings.Item.{Items, matched, bound, skipped, rounds, no_items, item, no_rounds, round}
 use Rattle.mbe_semantics.specs.Readings.Ambiguity.{IsReading, IsAmbiguousAt, Fits}
 use Rattle.mbe_semantics.specs.Readings.Verdict.{IsVerdict, ambiguous, many_readings, one_reading, stuck}
@@ -77,8 +77,8 @@ pair_argument = word (codes "a") (at 1 0 1)
 abbrev pub pair_items : Items
 pair_items =
     item (item (item (item no_items
-    (bound (codes "x") (record { trees = word (codes "a") (at 1 0 1) none; style = items.stripped }))) (matched 1))
-    (bound (codes "t") (record { trees = number (codes "1") (at 1 4 5) none; style = items.stripped }))) (matched 1)
+    (bound (codes "x") (record { trees = word (codes "a") (at 1 0 1) none; style = fragments.stripped }))) (matched 1))
+    (bound (codes "t") (record { trees = number (codes "1") (at 1 4 5) none; style = fragments.stripped }))) (matched 1)
 
 abbrev pub pair_result : Forest
 pair_result =
@@ -221,12 +221,12 @@ pub record RoundsExample : Type 0 where
 
 -- ---- what a template writes
 
-abbrev pub fragment_of : items.Style → Forest → Value
+abbrev pub fragment_of : fragments.Style → Forest → Value
 fragment_of style f = fragment (record { trees = f; style = style })
 
 -- a value that is one identifier
 abbrev pub one_word : List ℕ → Value
-one_word text = fragment_of items.stripped (word text (at 1 0 1) none)
+one_word text = fragment_of fragments.stripped (word text (at 1 0 1) none)
 
 abbrev pub two : Value → Value → Value
 two v w = list (value v (value w no_values))
@@ -314,15 +314,15 @@ pub record TemplateExamples : Type 0 where
       (group (delimiter_of Invisible (at 1 0 0) (at 1 0 0))
       (mark 36 Alone (at 0 8 9) (word (codes "y") (at 0 8 9) none)) none)
   -- `1 + 2` is written in parentheses, `-1` isn't
-  pub sum : IsWrittenAs same_span (at 1 0 5) items.as_expression (at 0 15 16)
+  pub sum : IsWrittenAs same_span (at 1 0 5) fragments.as_expression (at 0 15 16)
       (number (codes "1") (at 1 0 1) (mark 43 Alone (at 1 2 3) (number (codes "2") (at 1 4 5) none)))
       (group (delimiter_of Parenthesis (at 0 15 16) (at 0 15 16))
       (number (codes "1") (at 1 0 1) (mark 43 Alone (at 1 2 3) (number (codes "2") (at 1 4 5) none))) none)
-  pub negative : IsWrittenAs same_span (at 1 0 2) items.as_expression (at 0 15 16)
+  pub negative : IsWrittenAs same_span (at 1 0 2) fragments.as_expression (at 0 15 16)
       (mark 45 Alone (at 1 0 1) (number (codes "1") (at 1 1 2) none))
       (mark 45 Alone (at 1 0 1) (number (codes "1") (at 1 1 2) none))
   -- an invisible group around `1 + 2` is left out
-  pub opened : IsWrittenAs same_span (at 1 0 5) items.as_expression (at 0 15 16)
+  pub opened : IsWrittenAs same_span (at 1 0 5) fragments.as_expression (at 0 15 16)
       (group (delimiter_of Invisible (at 1 0 0) (at 1 5 5))
       (number (codes "1") (at 1 0 1) (mark 43 Alone (at 1 2 3) (number (codes "2") (at 1 4 5) none))) none)
       (group (delimiter_of Parenthesis (at 0 15 16) (at 0 15 16))
@@ -382,8 +382,8 @@ pub record DefinitionExamples : Type 0 where
       ≡ codes ".."
   -- the later of two bindings stays
   pub twice : environment_of
-      (item (item no_items (bound (codes "x") (record { trees = words (codes "a" ∷ []); style = items.stripped })))
-      (bound (codes "x") (record { trees = words (codes "b" ∷ []); style = items.stripped })))
+      (item (item no_items (bound (codes "x") (record { trees = words (codes "a" ∷ []); style = fragments.stripped })))
+      (bound (codes "x") (record { trees = words (codes "b" ∷ []); style = fragments.stripped })))
       ≡ (codes "x", one_word (codes "b")) ∷ []
   -- a skipped repetition sets each variable of its body, and of the bodies in it
   pub nothing_bound : environment_of (item no_items (skipped (names_of
@@ -394,15 +394,15 @@ pub record DefinitionExamples : Type 0 where
   -- rounds give a list
   pub lists : environment_of (item no_items
       (rounds (round no_rounds (item no_items
-      (bound (codes "x") (record { trees = words (codes "a" ∷ []); style = items.stripped }))) 1)
-      (item no_items (bound (codes "x") (record { trees = words (codes "b" ∷ []); style = items.stripped })))))
+      (bound (codes "x") (record { trees = words (codes "a" ∷ []); style = fragments.stripped }))) 1)
+      (item no_items (bound (codes "x") (record { trees = words (codes "b" ∷ []); style = fragments.stripped })))))
       ≡ (codes "x", two (one_word (codes "a")) (one_word (codes "b"))) ∷ []
   -- no round and one empty round both read `$($v:vis),*` on nothing, by a grammar that lets `vis` take nothing
   pub empty_rounds : (g : Grammar) → (g.parse Vis []) ≡ record { count = 0; fault = false } →
       IsReading g (op (ops.repetition (op (ops.variable (codes "v") (Some kinds.Vis) (at 0 0 1)) no_ops)
       (Some (punct_separator (punct_of 44 Joint (at 0 0 1) ∷ []))) ZeroOrMore) no_ops)
       none (item no_items (rounds no_rounds
-      (item no_items (bound (codes "v") (record { trees = none; style = items.plain })))))
+      (item no_items (bound (codes "v") (record { trees = none; style = fragments.plain })))))
 
 -- ---- verdicts
 

@@ -16,10 +16,11 @@ use Rattle.mbe_semantics.specs.declared.kinds.MetaVarKind.TheVariants as kinds
 use Rattle.mbe_semantics.specs.declared.kinds.RepeatKind.TheVariants.{ZeroOrMore, OneOrMore}
 use Rattle.mbe_semantics.specs.Syntax.Op as ops
 use Rattle.mbe_semantics.specs.Syntax.Op.{Op, Ops, no_ops, op, punct_separator}
-use Rattle.mbe_semantics.specs.Syntax.Template.{Fault, expected, unexpected_token, invalid_repeat, empty_repetition, pat_kind, expr_kind, kind_names, kind_named}
+use Rattle.mbe_semantics.specs.Fragments.Kinds.{kind_names, kind_named}
+use Rattle.mbe_semantics.specs.Syntax.Template.{Fault, expected, unexpected_token, invalid_repeat, empty_repetition, pat_kind, expr_kind}
 use Rattle.mbe_semantics.specs.Syntax.Definition.{Rule, IsMacroRules, IsMacroBody, IsMacroOfArguments}
 use Rattle.mbe_semantics.specs.Fragments.Takes.{takes}
-use Rattle.mbe_semantics.specs.Readings.Item.{stripped, as_expression}
+use Rattle.mbe_semantics.specs.Fragments.Kinds.{stripped, as_expression}
 use Rattle.mbe_semantics.specs.Readings.Verdict.{IsVerdict, stuck}
 use Rattle.mbe_semantics.specs.Bindings.Environment.{fragment, list, value, no_values, Environment}
 use Rattle.mbe_semantics.specs.Writing.Written.{IsWrittenAs}

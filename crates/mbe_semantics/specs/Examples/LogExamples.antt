@@ -5,7 +5,7 @@ use Rattle.mbe_semantics.specs.declared.kinds.MetaVarKind.TheVariants as kinds
 use Rattle.mbe_semantics.specs.declared.kinds.RepeatKind.TheVariants.{ZeroOrMore}
 use Rattle.mbe_semantics.specs.Syntax.Op as ops
 use Rattle.mbe_semantics.specs.Syntax.Op.{no_ops, op}
-use Rattle.mbe_semantics.specs.Readings.Item as items
+use Rattle.mbe_semantics.specs.Fragments.Kinds as fragments
 use Rattle.mbe_semantics.specs.Readings.Item.{Fragment, Items, skipped, rounds, no_items, item, no_rounds, round}
 use Rattle.mbe_semantics.specs.Bindings.Environment.{fragment, list, empty, missing, value, no_values, Environment, environment_of}
 use Rattle.mbe_semantics.specs.Writing.Rounds.{kept_rounds, finite, endless}
@@ -16,7 +16,7 @@ use Rattle.mbe_semantics.specs.Bindings.Missing.{default_trees}
 use Rattle.mbe_semantics.specs.Examples.Sample.{at, taken, text_at, joint_at}
 
 abbrev pub word_of : List ℕ → Fragment
-word_of text = record { trees = text_at 1 0 text none; style = items.stripped }
+word_of text = record { trees = text_at 1 0 text none; style = fragments.stripped }
 
 abbrev pub binds_x : List ℕ → Command
 binds_x text = Command.binds (codes "x") (word_of text)
@@ -26,11 +26,11 @@ one_command c = command no_commands c
 
 abbrev pub first_round : Items
 first_round =
-    item (item no_items (taken (codes "x") items.stripped (text_at 1 0 (codes "a") none)))
-    (rounds no_rounds (item no_items (taken (codes "y") items.stripped (text_at 1 2 (codes "b") none))))
+    item (item no_items (taken (codes "x") fragments.stripped (text_at 1 0 (codes "a") none)))
+    (rounds no_rounds (item no_items (taken (codes "y") fragments.stripped (text_at 1 2 (codes "b") none))))
 
 abbrev pub last_round : Items
-last_round = item (item no_items (taken (codes "x") items.stripped (text_at 1 4 (codes "c") none)))
+last_round = item (item no_items (taken (codes "x") fragments.stripped (text_at 1 4 (codes "c") none)))
     (skipped (codes "y" ∷ []))
 
 abbrev pub rounds_items : Items

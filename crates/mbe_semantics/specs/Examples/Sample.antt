@@ -18,6 +18,7 @@ use Rattle.mbe_semantics.specs.Syntax.Op as ops
 use Rattle.mbe_semantics.specs.Syntax.Op.{Op, Ops}
 use Rattle.mbe_semantics.specs.Syntax.Definition.{Rule, IsMacroRules}
 use Rattle.mbe_semantics.specs.Readings.Item as items
+use Rattle.mbe_semantics.specs.Fragments.Kinds as fragments
 use Rattle.mbe_semantics.specs.Readings.Item.{Item}
 use Rattle.mbe_tt.specs.declared.span.Edition.{Edition}
 use Rattle.mbe_tt.specs.declared.span.Edition.TheVariants.{Edition2024}
@@ -101,7 +102,7 @@ writes_at start name = ops.variable name None (at 0 start (start + length name))
 abbrev pub ident_at : ℕ → List ℕ → Op
 ident_at start text = ops.token (ops.ident (ident_of text (at 0 start (start + length text))))
 
-abbrev pub taken : List ℕ → items.Style → Forest → Item
+abbrev pub taken : List ℕ → fragments.Style → Forest → Item
 taken name style f = items.bound name (record { trees = f; style = style })
 
 abbrev pub fn_like : Ops → Ops → Rule

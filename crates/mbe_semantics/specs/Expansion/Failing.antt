@@ -1,20 +1,18 @@
 -- Which error is noted where an op doesn't fit, and what it binds then (as in rust-analyzer).
-use Rattle.std.specs.Prelude.{Bool, false, List, [], ◌∷◌, ℕ, ◌++◌, ◌==◌, codes, Option, Some, None, if◌then◌else◌}
+use Rattle.std.specs.Prelude.{List, [], ◌∷◌, ℕ, ◌++◌, ◌==◌, codes, Option, Some, None, if◌then◌else◌}
 use Rattle.std.specs.Char.{encode_utf8}
 use Rattle.mbe_tt.specs.declared.span.DelimSpan.{DelimSpan}
 use Rattle.mbe_tt.specs.declared.tt.Punct.{Punct}
 use Rattle.mbe_tt.specs.declared.grammar.PrefixEntryPoint.{PrefixEntryPoint}
-use Rattle.mbe_tt.specs.declared.grammar.PrefixEntryPoint.TheVariants as entries
-use Rattle.mbe_tt.specs.Trees.Leaf.{literal as literal_leaf, ident as ident_leaf, punct as punct_leaf}
+use Rattle.mbe_tt.specs.Trees.Leaf.{punct as punct_leaf}
 use Rattle.mbe_tt.specs.Trees.Literals.{ident_text, literal_output}
 use Rattle.mbe_tt.specs.Trees.Tree.{Forest, none, leaf, group}
 use Rattle.mbe_tt.specs.Fragments.Grammar.{Grammar, front}
 use Rattle.mbe_semantics.specs.declared.kinds.MetaVarKind.{MetaVarKind}
-use Rattle.mbe_semantics.specs.declared.kinds.MetaVarKind.TheVariants as kinds
 use Rattle.mbe_semantics.specs.Syntax.Op as ops
 use Rattle.mbe_semantics.specs.Syntax.Op.{Name, Op, token, group as group_op, variable, repetition, expression}
-use Rattle.mbe_semantics.specs.Fragments.Takes.{begins_refused}
-use Rattle.mbe_semantics.specs.Readings.Item.{style_of}
+use Rattle.mbe_semantics.specs.Fragments.Takes.{is_refused}
+use Rattle.mbe_semantics.specs.Fragments.Kinds.{facts, style_of, entry_of, expected_text}
 use Rattle.mbe_semantics.specs.Bindings.Account.{Command, binds, misses}
 use Rattle.mbe_semantics.specs.Expansion.Error.{ExpandErrorKind, ExpandError, binding_error, no_matching_rule, unexpected_token, front_span, front_error}
 
@@ -38,45 +36,16 @@ abbrev pub puncts_text : List Punct → List ℕ
 puncts_text [] = []
 puncts_text (p ∷ ps) = encode_utf8 p.char ++ puncts_text ps
 
--- what the grammar is asked for, where it is asked
-abbrev pub entry_of : MetaVarKind → Option PrefixEntryPoint
-entry_of kinds.Ident = None
-entry_of kinds.Lifetime = None
-entry_of kinds.Tt = None
-entry_of kinds.Literal = None
-entry_of (kinds.Expr kind) = Some entries.Expr
-entry_of kinds.Path = Some entries.Path
-entry_of kinds.Ty = Some entries.Ty
-entry_of kinds.Pat = Some entries.PatTop
-entry_of kinds.PatParam = Some entries.Pat
-entry_of kinds.Stmt = Some entries.Stmt
-entry_of kinds.Block = Some entries.Block
-entry_of kinds.Meta = Some entries.MetaItem
-entry_of kinds.Item = Some entries.Item
-entry_of kinds.Vis = Some entries.Vis
-
--- what is expected of a kind that the grammar isn't asked about
-abbrev pub kind_text : MetaVarKind → List ℕ
-kind_text kinds.Ident = codes "expected ident"
-kind_text kinds.Lifetime = codes "expected lifetime"
-kind_text kinds.Tt = codes "expected token tree"
-kind_text kinds.Literal = codes "expected literal"
-kind_text _ = []
-
 abbrev pub failing_front : Grammar → MetaVarKind → Option PrefixEntryPoint → Forest → DelimSpan → Option ExpandError
-failing_front g kind None f around = Some (noted (binding_error (kind_text kind)) f around)
+failing_front g kind None f around = Some (noted (binding_error (expected_text (facts kind).taker)) f around)
 failing_front g kind (Some entry) f around = front_error g entry f around
-
--- the first identifier may not begin an expression of the kind
-abbrev pub is_refused : MetaVarKind → Forest → Bool
-is_refused (kinds.Expr kind) f = begins_refused kind f
-is_refused _ f = false
 
 -- a variable of the kind takes nothing
 abbrev pub failing_variable : Grammar → Option MetaVarKind → Forest → DelimSpan → Option ExpandError
 failing_variable g None f around = None
 failing_variable g (Some kind) f around =
-    if is_refused kind f then Some (noted no_matching_rule f around) else failing_front g kind (entry_of kind) f around
+    if is_refused kind f then Some (noted no_matching_rule f around)
+    else failing_front g kind (entry_of (facts kind).taker) f around
 
 -- The error that is noted where the op doesn't fit the trees in front. None at a group, or at a variable of an unknown
 -- kind.
@@ -106,4 +75,5 @@ bad_front g name kind (Some entry) f = bound_if_some name kind (front g entry f)
 
 -- What a variable that takes nothing is bound to in a report: a front that the grammar faults, or it is missing.
 abbrev pub failing_command : Grammar → Name → MetaVarKind → Forest → Command
-failing_command g name kind f = if is_refused kind f then misses name kind else bad_front g name kind (entry_of kind) f
+failing_command g name kind f =
+    if is_refused kind f then misses name kind else bad_front g name kind (entry_of (facts kind).taker) f

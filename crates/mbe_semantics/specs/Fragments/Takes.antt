@@ -5,7 +5,8 @@ use Rattle.mbe_semantics.specs.declared.kinds.MetaVarKind.{MetaVarKind}
 use Rattle.mbe_semantics.specs.declared.kinds.MetaVarKind.TheVariants as kinds
 use Rattle.mbe_semantics.specs.declared.kinds.ExprKind.{ExprKind}
 use Rattle.mbe_semantics.specs.declared.kinds.ExprKind.TheVariants as exprs
-use Rattle.mbe_tt.specs.declared.grammar.PrefixEntryPoint.TheVariants as entries
+use Rattle.mbe_semantics.specs.declared.kinds.Taker.{Taker}
+use Rattle.mbe_semantics.specs.declared.kinds.Taker.TheVariants as takers
 use Rattle.mbe_tt.specs.Trees.Leaf.{ident, literal, punct}
 use Rattle.mbe_tt.specs.declared.tt.IdentIsRaw.{IdentIsRaw}
 use Rattle.mbe_tt.specs.declared.tt.IdentIsRaw.TheVariants.{No, Yes}
@@ -13,6 +14,7 @@ use Rattle.mbe_tt.specs.Trees.Tree.{Forest, none, leaf, Cut, cut_trees, is_truth
 use Rattle.mbe_tt.specs.Trees.Glue.{glue}
 use Rattle.mbe_tt.specs.Trees.Leaf.{is_text, is_underscore}
 use Rattle.mbe_tt.specs.Fragments.Grammar.{Grammar, good_front}
+use Rattle.mbe_semantics.specs.Fragments.Kinds.{facts}
 
 -- an identifier other than `_`
 abbrev pub ident_front : Forest → Option Cut
@@ -67,20 +69,19 @@ abbrev pub begins_refused : ExprKind → Forest → Bool
 begins_refused kind (leaf (ident i) rest) = is_refused_word kind i.is_raw i.sym
 begins_refused kind _ = false
 
+-- the first identifier may not begin an expression of the kind
+abbrev pub is_refused : MetaVarKind → Forest → Bool
+is_refused (kinds.Expr kind) f = begins_refused kind f
+is_refused _ f = false
+
+abbrev pub takes_by : Grammar → MetaVarKind → Taker → Forest → Option Cut
+takes_by g kind (takers.Grammar entry) f = if is_refused kind f then None else good_front g entry f
+takes_by g kind takers.Identifier f = ident_front f
+takes_by g kind takers.Lifetime f = lifetime_front f
+takes_by g kind takers.Tree f = tree_front f
+takes_by g kind takers.Literal f = literal_front f
+
 -- No kind is an unknown one, which takes nothing.
 abbrev pub takes : Grammar → Option MetaVarKind → Forest → Option Cut
 takes g None f = None
-takes g (Some kinds.Ident) f = ident_front f
-takes g (Some kinds.Lifetime) f = lifetime_front f
-takes g (Some kinds.Tt) f = tree_front f
-takes g (Some kinds.Literal) f = literal_front f
-takes g (Some (kinds.Expr kind)) f = if begins_refused kind f then None else good_front g entries.Expr f
-takes g (Some kinds.Path) f = good_front g entries.Path f
-takes g (Some kinds.Ty) f = good_front g entries.Ty f
-takes g (Some kinds.Pat) f = good_front g entries.PatTop f
-takes g (Some kinds.PatParam) f = good_front g entries.Pat f
-takes g (Some kinds.Stmt) f = good_front g entries.Stmt f
-takes g (Some kinds.Block) f = good_front g entries.Block f
-takes g (Some kinds.Meta) f = good_front g entries.MetaItem f
-takes g (Some kinds.Item) f = good_front g entries.Item f
-takes g (Some kinds.Vis) f = good_front g entries.Vis f
+takes g (Some kind) f = takes_by g kind (facts kind).taker f

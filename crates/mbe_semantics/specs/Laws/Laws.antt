@@ -13,7 +13,8 @@ use Rattle.mbe_semantics.specs.Syntax.Op as ops
 use Rattle.mbe_semantics.specs.Syntax.Op.{Name, Token, Separator, Expression, Op, Ops, no_ops, op, has_no_repetition, Use, used_name, uses_of}
 use Rattle.mbe_semantics.specs.Syntax.Template.{Mode, Fault, Template, TemplateFault}
 use Rattle.mbe_semantics.specs.Syntax.Definition.{Rule, IsMacroRules, IsMacroBody, IsMacroOfArguments}
-use Rattle.mbe_semantics.specs.Readings.Item.{Items, items_width, stripped, Fragment}
+use Rattle.mbe_semantics.specs.Fragments.Kinds.{stripped}
+use Rattle.mbe_semantics.specs.Readings.Item.{Items, items_width, Fragment}
 use Rattle.mbe_semantics.specs.Readings.Input.{input_of}
 use Rattle.mbe_semantics.specs.Laws.Lawful.{Lawful}
 use Rattle.mbe_semantics.specs.Matching.Lists.{In, Distinct}

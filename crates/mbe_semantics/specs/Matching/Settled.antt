@@ -1,5 +1,5 @@
 -- What the program's lists stand for.
-use Rattle.std.specs.Prelude.{ℕ, ◌+◌, ◌≡◌, Option, Some, None, Bool, false, ◌||◌, not, nat_eq, List, [], ◌∷◌, map, reverse}
+use Rattle.std.specs.Prelude.{ℕ, ◌≡◌, Option, Some, None, Bool, false, ◌||◌, not, nat_eq, List, [], ◌∷◌, map, reverse}
 use Rattle.mbe_semantics.specs.Syntax.Op.{Ops}
 use Rattle.mbe_semantics.specs.Readings.Input.{Input}
 use Rattle.mbe_semantics.specs.Readings.Reading.{Beginning, At}

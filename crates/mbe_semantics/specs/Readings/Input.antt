@@ -7,7 +7,8 @@ use Rattle.mbe_tt.specs.Fragments.Grammar.{Grammar}
 use Rattle.mbe_semantics.specs.Syntax.Op.{Token, Separator}
 use Rattle.mbe_semantics.specs.Fragments.Takes.{takes}
 use Rattle.mbe_semantics.specs.Readings.Fit.{token_front, separator_front}
-use Rattle.mbe_semantics.specs.Readings.Item.{Fragment, style_of}
+use Rattle.mbe_semantics.specs.Fragments.Kinds.{style_of}
+use Rattle.mbe_semantics.specs.Readings.Item.{Fragment}
 
 -- what is at each place
 pub record Input : Type 0 where

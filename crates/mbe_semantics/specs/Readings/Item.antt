@@ -1,27 +1,8 @@
 -- What a reading holds: an item for each op of the pattern.
-use Rattle.std.specs.Prelude.{ℕ, suc, ◌+◌, List, Option, Some}
-use Rattle.mbe_semantics.specs.declared.kinds.MetaVarKind.{MetaVarKind}
-use Rattle.mbe_semantics.specs.declared.kinds.MetaVarKind.TheVariants as kinds
+use Rattle.std.specs.Prelude.{ℕ, suc, ◌+◌, List}
 use Rattle.mbe_tt.specs.Trees.Tree.{Forest, flat_len}
+use Rattle.mbe_semantics.specs.Fragments.Kinds.{Style}
 use Rattle.mbe_semantics.specs.Syntax.Op.{Name}
-
--- how a fragment is written
-pub data Style : Type 0 where
-  plain : Style
-  -- without an invisible group around it
-  stripped : Style
-  as_expression : Style
-  as_path : Style
-
--- which style a kind is written in
-abbrev pub style_of : Option MetaVarKind → Style
-style_of (Some kinds.Ident) = stripped
-style_of (Some kinds.Tt) = stripped
-style_of (Some kinds.Lifetime) = stripped
-style_of (Some kinds.Literal) = stripped
-style_of (Some (kinds.Expr kind)) = as_expression
-style_of (Some kinds.Path) = as_path
-style_of _ = plain
 
 -- what a variable took from the argument
 pub record Fragment : Type 0 where

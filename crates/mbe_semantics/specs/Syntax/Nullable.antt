@@ -2,15 +2,22 @@
 -- never ends; that all are refused is the project's own choice.
 use Rattle.std.specs.Prelude.{Bool, true, false, ◌&&◌, ◌||◌, ◌≡◌, Option, Some, None}
 use Rattle.mbe_semantics.specs.declared.kinds.MetaVarKind.{MetaVarKind}
-use Rattle.mbe_semantics.specs.declared.kinds.MetaVarKind.TheVariants.{Vis}
+use Rattle.mbe_semantics.specs.declared.kinds.Taker.{Taker}
+use Rattle.mbe_semantics.specs.declared.kinds.Taker.TheVariants.{Grammar}
+use Rattle.mbe_tt.specs.declared.grammar.PrefixEntryPoint.TheVariants.{Vis}
+use Rattle.mbe_semantics.specs.Fragments.Kinds.{facts}
 use Rattle.mbe_semantics.specs.declared.kinds.RepeatKind.{RepeatKind}
 use Rattle.mbe_semantics.specs.declared.kinds.RepeatKind.TheVariants.{OneOrMore}
 use Rattle.mbe_semantics.specs.Syntax.Op.{Separator, Op, Ops, group, variable, repetition, no_ops, op}
 
--- `vis` is the only kind that may take nothing
+-- a `vis` is the only fragment that may be nothing
+abbrev pub may_find_nothing : Taker → Bool
+may_find_nothing (Grammar Vis) = true
+may_find_nothing _ = false
+
 abbrev pub is_vis : Option MetaVarKind → Bool
-is_vis (Some Vis) = true
-is_vis _ = false
+is_vis None = false
+is_vis (Some kind) = may_find_nothing (facts kind).taker
 
 -- without rounds, or with rounds that read nothing
 abbrev pub may_skip : RepeatKind → Bool → Bool

@@ -18,6 +18,7 @@ use Rattle.mbe_tt.specs.declared.tt.DelimiterKind.{DelimiterKind}
 use Rattle.mbe_tt.specs.declared.tt.DelimiterKind.TheVariants as delimiters
 use Rattle.mbe_tt.specs.Trees.Tree.{Forest, none, leaf, group, cut_trees, is_truth}
 use Rattle.mbe_tt.specs.Trees.Glue.{glue}
+use Rattle.mbe_semantics.specs.Fragments.Kinds.{kind_named, kind_names}
 use Rattle.mbe_semantics.specs.Syntax.Op as ops
 use Rattle.mbe_semantics.specs.Syntax.Op.{Name, Separator, ident_separator, literal_separator, punct_separator, lifetime_separator, Element, ident_element, literal_element, variable_element, Expression, Op, Ops, no_ops, op}
 use Rattle.mbe_tt.specs.Trees.Literals.{is_plain, decimal_value, literal_text}
@@ -259,20 +260,6 @@ pat_kind e = if at_least_2021 e then kinds.Pat else kinds.PatParam
 -- as for `pat`
 abbrev pub expr_kind : Edition → MetaVarKind
 expr_kind e = kinds.Expr (if at_least_2024 e then exprs.Expr else exprs.Expr2021)
-
--- the kinds that no edition changes
-abbrev pub kind_names : List (List ℕ × MetaVarKind)
-kind_names =
-    (codes "path", kinds.Path) ∷ (codes "ty", kinds.Ty) ∷ (codes "pat_param", kinds.PatParam)
-    ∷ (codes "stmt", kinds.Stmt)
-    ∷ (codes "block", kinds.Block) ∷ (codes "meta", kinds.Meta) ∷ (codes "item", kinds.Item) ∷ (codes "vis", kinds.Vis)
-    ∷ (codes "expr_2021", kinds.Expr exprs.Expr2021) ∷ (codes "ident", kinds.Ident) ∷ (codes "tt", kinds.Tt)
-    ∷ (codes "lifetime", kinds.Lifetime) ∷ (codes "literal", kinds.Literal) ∷ []
-
--- the kind of a specifier; none of an unknown one
-abbrev pub kind_named : List (List ℕ × MetaVarKind) → List ℕ → Option MetaVarKind
-kind_named [] name = None
-kind_named (row ∷ rows) name = if is_text row.0 name then Some row.1 else kind_named rows name
 
 module _ (HasEdition : SyntaxContext → Edition → Type 0) where
   -- the specifier means this kind, in an edition that its own context may have; no kind is an unknown one

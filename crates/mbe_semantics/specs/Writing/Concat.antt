@@ -6,7 +6,7 @@ use Rattle.mbe_tt.specs.Trees.Leaf.{ident, literal}
 use Rattle.mbe_tt.specs.Trees.Tree.{Forest, none, leaf}
 use Rattle.mbe_tt.specs.Trees.Literals.{literal_text}
 use Rattle.mbe_semantics.specs.Syntax.Op.{Element, ident_element, literal_element, variable_element}
-use Rattle.mbe_semantics.specs.Readings.Item.{Style, as_expression, as_path}
+use Rattle.mbe_semantics.specs.Fragments.Kinds.{Style, as_expression, as_path}
 use Rattle.mbe_semantics.specs.Bindings.Environment.{Value, fragment, missing, Environment}
 use Rattle.mbe_semantics.specs.Bindings.Missing.{default_trees, no_span}
 use Rattle.mbe_semantics.specs.Writing.Rounds.{Path, followed}

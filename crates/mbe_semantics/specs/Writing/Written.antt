@@ -6,7 +6,7 @@ use Rattle.mbe_tt.specs.declared.tt.Spacing.TheVariants.{Alone, Joint}
 use Rattle.mbe_tt.specs.declared.tt.DelimiterKind.{DelimiterKind}
 use Rattle.mbe_tt.specs.declared.tt.DelimiterKind.TheVariants.{Parenthesis, Invisible}
 use Rattle.mbe_tt.specs.Trees.Tree.{Forest, none, leaf, group, alone, strip_invisible}
-use Rattle.mbe_semantics.specs.Readings.Item.{Style, plain, stripped, as_expression, as_path}
+use Rattle.mbe_semantics.specs.Fragments.Kinds.{Style, plain, stripped, as_expression, as_path}
 
 -- nothing shows this group's delimiters
 abbrev pub is_invisible : DelimiterKind → Bool

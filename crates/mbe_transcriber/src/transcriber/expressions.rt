@@ -34,7 +34,7 @@ use crate::transcriber::ExpandCtx;
 use mbe_log::bindings::Bindings;
 use mbe_log::fragment::{Fragment, TokensOrigin};
 use mbe_ops::ops::ConcatMetaVarExprElem;
-use mbe_semantics::kinds::MetaVarKind;
+use mbe_semantics::kinds::{MetaVarKind, Missing};
 use mbe_semantics::rounds::Level;
 use mbe_tt::grammar::FragmentGrammar;
 use mbe_tt::span::Span;
@@ -295,21 +295,9 @@ fn fragment_text<'b, A: Allocator>(fragment: &'b Fragment<'_, A>) -> Option<&'b 
 fn default_text(kind: MetaVarKind) -> Option<&'static str>
     ensures { option_map (λ text. text.now) result ≡ text_of_tree (default_trees kind no_span) }
 {
-    match kind {
-        MetaVarKind::Stmt
-        | MetaVarKind::Block
-        | MetaVarKind::Meta
-        | MetaVarKind::Item
-        | MetaVarKind::Tt
-        | MetaVarKind::Vis
-        | MetaVarKind::Lifetime => None,
-        MetaVarKind::Path
-        | MetaVarKind::Ty
-        | MetaVarKind::Pat
-        | MetaVarKind::PatParam
-        | MetaVarKind::Expr(_)
-        | MetaVarKind::Ident
-        | MetaVarKind::Literal => Some("missing"),
+    match kind.missing() {
+        Missing::Identifier => Some("missing"),
+        Missing::Nothing | Missing::Semicolon | Missing::Braces | Missing::Lifetime => None,
     }
 }
 

@@ -1,4 +1,4 @@
-use Rattle.mbe_log.proofs.ChainLemmas.{places-step, left-falls-at, places-end}
+use Rattle.mbe_log.proofs.ChainLemmas.{collected_there, places-step, left-falls-at, places-end}
 use Rattle.mbe_log.proofs.chain.places.Goals as goal
 
 pub loop-next-smaller : goal.loop-next-smaller
@@ -14,3 +14,8 @@ loop-next-preserved g c =
 
 pub returns : goal.returns
 returns g c = places-end _ _ _ _ _ c.in_default.is c.loop-next.invariant c.reverse.ensures.items
+
+pub bounds-lists-part : goal.bounds-lists-part
+bounds-lists-part g c =
+    collected_there c.args.lists.now c.args.part c.in-Some.part c.loop-next.places.items c.loop-next.next c.in-Some.is
+    c.loop-next.invariant

@@ -1,4 +1,4 @@
-use Rattle.std.proofs.Common.{◌≡◌, ◌<◌, ◌≤◌, ◌∙◌, [], ◌∷◌, length, refl, ap, sym, subst, arith, rules}
+use Rattle.std.proofs.Common.{◌≡◌, ◌<◌, ◌≤◌, ◌-◌, ◌∙◌, [], ◌∷◌, length, refl, ap, sym, subst, arith, rules}
 use Rattle.mbe_semantics.specs.Bindings.Account.{Command, no_commands, no_command_rounds, add_round_in, grown_in, run}
 use Rattle.mbe_semantics.specs.Bindings.Environment.{fragment, value_of}
 use Rattle.mbe_log.specs.Chain.{Flat}
@@ -7,9 +7,9 @@ use Rattle.mbe_log.proofs.BindingLemmas.{seen-fragment, seen-empty, seen-missing
 use Rattle.mbe_log.specs.declared.fragment.Fragment.TheVariants.{Empty}
 use Rattle.mbe_log.specs.BindingViews.{bound_by, fragment_seen}
 use Rattle.mbe_log.specs.Entries.{entry_seen, log_of}
-use Rattle.mbe_log.specs.Sound.{GivesCommand, IsPartGrounded, IsCommandGrounded}
+use Rattle.mbe_log.specs.Sound.{GivesCommand, IsPartGrounded, IsCommandGrounded, AreRoundsGrounded}
 use Rattle.mbe_log.proofs.BuildLemmas.{is_within, is_rounds_within}
-use Rattle.mbe_log.proofs.StepLemmas.{list_there, own_in_list, same_entry, is_false, bound_alone, bound_pair, grounded_command, built-step, built-end, grounded_round, bound-step, bound-end, written_by}
+use Rattle.mbe_log.proofs.StepLemmas.{list_there, own_in_list, same_entry, is_false, bound_alone, bound_pair, grounded_command, built-step, built-end, grounded_round, bound-step, bound-end, written_by, nested_grounded, nested_returns}
 use Rattle.mbe_log.proofs.log.+building.Goals as goal
 
 pub build_part-places-requires-clause-within : goal.build_part-places-requires-clause-within
@@ -209,3 +209,22 @@ bind_command-returns-in-Missing g t c =
     (bound_by c.args.bindings.now) (bound_by c.insert-in-Missing.new.self)
     (rw (seen-missing g.row.A.Denot c.in-Missing.kind) at c.insert-in-Missing.ensures.ok)
     (λ d p. subst (λ x. GivesCommand (log_of c.args.commands.now c.args.rounds.now) (entry_seen x) d) c.in-Missing.is p)
+
+pub bind_command-overflow_sub-depth : goal.bind_command-overflow_sub-depth
+bind_command-overflow_sub-depth g t c =
+    (nested_grounded c.args.commands.now c.args.rounds.now c.args.command.now c.in-Nested.finished c.in-Nested.current
+    c.in-Nested.is c.args.depth c.requires.grounded).1
+
+pub bind_command-bind_rounds-requires : goal.bind_command-bind_rounds-requires
+bind_command-bind_rounds-requires g t c =
+    let inside = nested_grounded c.args.commands.now c.args.rounds.now c.args.command.now c.in-Nested.finished
+    c.in-Nested.current c.in-Nested.is c.args.depth c.requires.grounded in
+    let grounded : AreRoundsGrounded (log_of c.args.commands.now c.args.rounds.now) c.in-Nested.finished
+    c.in-Nested.current (c.args.depth - 1) = inside.0 in
+    let deep : 1 ≤ c.args.depth = inside.1 in search (rules, grounded, deep)
+
+pub bind_command-returns-in-Nested : goal.bind_command-returns-in-Nested
+bind_command-returns-in-Nested g t c =
+    nested_returns c.args.commands.now c.args.rounds.now c.args.command.now c.in-Nested.finished c.in-Nested.current
+    c.in-Nested.is c.bind_rounds.result (bound_by c.args.bindings.now) (bound_by c.bind_rounds.new.bindings)
+    c.bind_rounds.ensures

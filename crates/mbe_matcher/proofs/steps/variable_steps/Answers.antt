@@ -2,7 +2,8 @@ use Rattle.std.proofs.Common.{Some, ◌-◌, refl}
 use Rattle.mbe_tt.specs.Views.View.{trees}
 use Rattle.mbe_tt.specs.Trees.Tree.{rest_at}
 use Rattle.mbe_semantics.specs.Readings.Input.{input_of}
-use Rattle.mbe_semantics.specs.Readings.Item.{Fragment, style_of}
+use Rattle.mbe_semantics.specs.Fragments.Kinds.{style_of}
+use Rattle.mbe_semantics.specs.Readings.Item.{Fragment}
 use Rattle.mbe_semantics.proofs.FrontLemmas.{takes_cut}
 use Rattle.mbe_ops.specs.Views.{ops_of}
 use Rattle.mbe_places.specs.declared.position.Position.{Position}

@@ -1,14 +1,8 @@
 use Rattle.std.proofs.Common.{◌∙◌, ap}
 use Rattle.mbe_tt.specs.Trees.Leaf.{ident}
 use Rattle.mbe_tt.specs.declared.tt.IdentIsRaw.TheVariants.{No}
-use Rattle.mbe_tt.specs.Buffers.Building.{put}
-use Rattle.mbe_variables.proofs.FragmentLemmas.{nothing_for}
-use Rattle.mbe_variables.proofs.PutLemmas.{two_leaves, put-none}
+use Rattle.mbe_variables.proofs.PutLemmas.{two_leaves}
 use Rattle.mbe_variables.proofs.fragments.write_default.Goals as goal
-
-pub returns-in-Meta : goal.returns-in-Meta
-returns-in-Meta g c = put-none c.args.builder.now
-    ∙ ap (λ f. put f c.args.builder.now) (nothing_for c.args.kind c.args.span c.in-Meta.is)
 
 pub returns-in_ok-intern-in-Lifetime : goal.returns-in_ok-intern-in-Lifetime
 returns-in_ok-intern-in-Lifetime g c =

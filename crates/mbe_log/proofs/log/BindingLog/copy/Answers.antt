@@ -3,7 +3,22 @@ use Rattle.std.specs.Prelude.{slice_get}
 use Rattle.mbe_log.specs.Chain.{link_to, link_len, chain_len}
 use Rattle.mbe_log.specs.Sound.{IsSound}
 use Rattle.mbe_log.proofs.CodeLemmas.{within-at, current_within, finished_within, copy-sound, copy-gives, lists-commands, lists-rounds, lists-given, lists-account, link-few}
+use Rattle.mbe_log.proofs.ChainLemmas.{part_there}
 use Rattle.mbe_log.proofs.log.BindingLog.copy.Goals as goal
+
+pub index-requires : goal.index-requires
+index-requires g c =
+    let k = part_there c.self.inside.commands.items c.handle.inside.current
+    (current_within c.self.inside.commands.items c.self.inside.rounds.items c.args.self.now c.self.view_is
+    c.handle.inside.current c.handle.inside.finished c.args.handle.now c.handle.view_is c.requires) in
+    let o = c.self.inside.commands.ok in omega (arith, k, o)
+
+pub index-requires-2 : goal.index-requires-2
+index-requires-2 g c =
+    let k = part_there c.self.inside.rounds.items c.handle.inside.finished
+    (finished_within c.self.inside.commands.items c.self.inside.rounds.items c.args.self.now c.self.view_is
+    c.handle.inside.current c.handle.inside.finished c.args.handle.now c.handle.view_is c.requires) in
+    let o = c.self.inside.rounds.ok in omega (arith, k, o)
 
 pub invariant_of-self-2 : goal.invariant_of-self-2
 invariant_of-self-2 g c =
