@@ -500,10 +500,7 @@ impl<A: Allocator + Copy> Scope<A> {
     }
 
     /// The same of the definition that a call names.
-    pub fn fault_called(
-        &self,
-        call: Call<'_, A>,
-    ) -> Result<Option<(Span, String<A>)>, AllocError>
+    pub fn fault_called(&self, call: Call<'_, A>) -> Result<Option<(Span, String<A>)>, AllocError>
         ensures { IfOk result (λ f. option_map (λ x. (x.0, string_bytes x.1)) f
             ≡ faults.fault_called (scope_of self.now) (call_shown call.entry)) }
     {

@@ -322,7 +322,15 @@ pub fn know_others(
     ensures notes { OnOk result (expander.new.notes.items ≡ expander.old.notes.items) }
 {
     let mut exports = Vec::new(alloc);
-    define_others(alloc, follows, expander, &mut exports, files, given, externs)?;
+    define_others(
+        alloc,
+        follows,
+        expander,
+        &mut exports,
+        files,
+        given,
+        externs,
+    )?;
     expander.link(exports.as_slice(), externs.len())
 }
 

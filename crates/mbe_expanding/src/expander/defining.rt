@@ -149,8 +149,8 @@ impl<A: Allocator + Copy> Expander<'_, A> {
             ++ all_noted (drop (length (state_of self.old).scope.definitions)
             (state_of self.new).scope.definitions)) }
     {
-        let first = self.scope.count();
-        self.define_in(tokens, true, LEVELS)?;
+        let (first, is_top) = (self.scope.count(), true);
+        self.define_in(tokens, is_top, LEVELS)?;
         self.note_definitions(first)
     }
 
