@@ -18,12 +18,12 @@ use Rattle.mbe_semantics.specs.Expansion.Expansion.{Applies, FirstThatApplies, t
 use Rattle.mbe_semantics.specs.Examples.Sample.{at, ident_of, taken}
 use Rattle.mbe_semantics.specs.Examples.Examples.{ConcatExample, concat_rule, concat_of, foo}
 use Rattle.mbe_examples.proofs.RuleLemmas.{applies_once, faulty_once, parts, defines_one}
-use Rattle.mbe_semantics.specs.Fragments.Kinds as fragments
+use Rattle.mbe_semantics.specs.Fragments.Kinds as styles
 use Rattle.mbe_semantics.specs.Readings.Item.{Fragment, Item, matched, bound, skipped, rounds, Items, no_items, item, no_rounds, round, items_width}
 use Rattle.mbe_semantics.specs.Readings.Ambiguity.{IsReading}
 
 abbrev foo_items : Items
-foo_items = item no_items (taken (codes "x") fragments.stripped foo)
+foo_items = item no_items (taken (codes "x") styles.stripped foo)
 
 foo_read : (g : Grammar) (e : ops.Element) → IsReading g (concat_of e).reads foo foo_items
 foo_read g e = ((_, refl, (refl, refl)), refl)

@@ -15,7 +15,7 @@ use Rattle.mbe_semantics.specs.Expansion.Expansion.{Applies, FirstThatApplies, t
 use Rattle.mbe_semantics.specs.Examples.Sample.{taken, at, text_at, joint_at, alone_at}
 use Rattle.mbe_semantics.specs.Examples.Examples.{EndlessExample, endless_rule, simple_rule, one_a, StyledExample, attr_rule, plain_rule, PathExample, path_rule, path_argument, TextExample, literal_rule, raw_rule, UnboundExample, unbound_rule, RefusedExample, TwiceExample, twice_rule, PunctsExample, puncts_rule, DoubleExample, double_rule, sum_argument, LetExample, FrontExample, front_argument, NoRuleExample, let_rule, let_argument}
 use Rattle.mbe_examples.proofs.RuleLemmas.{answer_cut, answer_fragment, by_run, fits_once, applies_once, faulty_once, closest_alone, parts, defines_one, defines_two}
-use Rattle.mbe_semantics.specs.Fragments.Kinds as fragments
+use Rattle.mbe_semantics.specs.Fragments.Kinds as styles
 use Rattle.mbe_semantics.specs.Readings.Item.{Fragment, Item, matched, bound, skipped, rounds, Items, no_items, item, no_rounds, round, items_width}
 use Rattle.mbe_semantics.specs.Readings.Ambiguity.{IsReading}
 use Rattle.mbe_semantics.specs.declared.kinds.MetaVarKind.TheVariants as kinds
@@ -29,7 +29,7 @@ use Rattle.mbe_semantics.proofs.PlainLemmas.{one_reading}
 -- ---- a template without an end
 
 abbrev a_items : Items
-a_items = item no_items (taken (codes "x") fragments.stripped one_a)
+a_items = item no_items (taken (codes "x") styles.stripped one_a)
 
 endless_read : (g : Grammar) → IsReading g endless_rule.reads one_a a_items
 endless_read g = ((_, refl, (refl, refl)), refl)
@@ -99,7 +99,7 @@ path_example = record {
       (token _ _ _ _ refl (nothing _ refl))) refl refl;
   expands = λ g e. (
     path_rule,
-    applies_once g FnLike path_argument path_rule (item no_items (taken (codes "p") fragments.as_path path_argument)) refl
+    applies_once g FnLike path_argument path_rule (item no_items (taken (codes "p") styles.as_path path_argument)) refl
         refl
         (((_, refl, (refl, ap (answer_fragment (Some kinds.Path) path_argument) e)), refl)) refl,
     this_one _ _ _,
@@ -181,8 +181,8 @@ twice_example = record {
   expands = λ g. (
     twice_rule,
     applies_once g FnLike _ twice_rule (item
-        (item no_items (taken (codes "x") fragments.stripped (text_at 1 0 (codes "a") none)))
-        (taken (codes "x") fragments.stripped (text_at 1 2 (codes "b") none))) refl refl
+        (item no_items (taken (codes "x") styles.stripped (text_at 1 0 (codes "a") none)))
+        (taken (codes "x") styles.stripped (text_at 1 2 (codes "b") none))) refl refl
         (((_, (_, refl, (refl, refl)), (refl, refl)), refl)) refl,
     this_one _ _ _,
     (_, (_, _, refl, refl, refl), refl),
@@ -197,8 +197,8 @@ puncts_example = record {
       (token _ _ _ _ refl (token _ _ _ _ refl (nothing _ refl)))) refl refl;
   expands = λ g. (
     puncts_rule,
-    applies_once g FnLike _ puncts_rule (item (item no_items (taken (codes "a") fragments.stripped (joint_at 1 0 59 none)))
-        (taken (codes "b") fragments.stripped (alone_at 1 1 43 none))) refl refl
+    applies_once g FnLike _ puncts_rule (item (item no_items (taken (codes "a") styles.stripped (joint_at 1 0 59 none)))
+        (taken (codes "b") styles.stripped (alone_at 1 1 43 none))) refl refl
         (((_, (_, refl, (refl, refl)), (refl, refl)), refl)) refl,
     this_one _ _ _,
     (_, (_, _, refl, (_, _, refl, refl, refl), refl), refl),
@@ -214,7 +214,7 @@ double_example = record {
       (token _ _ _ _ refl (token _ _ _ _ refl (token _ _ _ _ refl (nothing _ refl))))) refl refl;
   expands = λ g e. (
     double_rule,
-    applies_once g FnLike sum_argument double_rule (item no_items (taken (codes "e") fragments.as_expression sum_argument))
+    applies_once g FnLike sum_argument double_rule (item no_items (taken (codes "e") styles.as_expression sum_argument))
         refl refl
         (((_, refl, (refl, ap (answer_fragment (Some (kinds.Expr exprs.Expr)) sum_argument) e)), refl)) refl,
     this_one _ _ _,

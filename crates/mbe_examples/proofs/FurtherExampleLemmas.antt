@@ -7,7 +7,7 @@ use Rattle.mbe_tt.specs.Fragments.Grammar.{Grammar, IsLawful}
 use Rattle.mbe_semantics.specs.declared.macro_call_style.MacroCallStyle.TheVariants.{FnLike}
 use Rattle.mbe_semantics.specs.Syntax.Template.{nothing, token, variable, repeated, undated}
 use Rattle.mbe_semantics.specs.Syntax.Definition.{Rule, ended, separated}
-use Rattle.mbe_semantics.specs.Fragments.Kinds as fragments
+use Rattle.mbe_semantics.specs.Fragments.Kinds as styles
 use Rattle.mbe_semantics.specs.Readings.Item.{Item, matched, bound, grouped, skipped, rounds, Items, no_items, item, no_rounds, round}
 use Rattle.mbe_semantics.specs.Readings.Ambiguity.{IsReading, Fits}
 use Rattle.mbe_semantics.specs.Bindings.Environment.{environment_of, binding_total}
@@ -64,7 +64,7 @@ sign_example = record {
   taken = λ g w. (
     any_literal_rule,
     applies_once g FnLike signed_argument any_literal_rule
-        (item (item no_items (matched 1)) (taken (codes "lit") fragments.stripped
+        (item (item no_items (matched 1)) (taken (codes "lit") styles.stripped
         (alone_at 1 1 45 (number_at 1 2 (codes "1") none)))) refl refl
         ((_, (_, refl, refl), (refl, refl)), refl) refl,
     a_later_one _ _ _ 2 3 _ (never_at g w one_rule signed_argument (no_one g w))
@@ -116,7 +116,7 @@ pub invisible_example : InvisibleExample
 invisible_example = record {
   opened = λ g. (
     tree_rule,
-    applies_once g FnLike hidden_a tree_rule (item no_items (taken (codes "x") fragments.stripped hidden_a)) refl refl
+    applies_once g FnLike hidden_a tree_rule (item no_items (taken (codes "x") styles.stripped hidden_a)) refl refl
         ((_, refl, (refl, refl)), refl) refl,
     this_one _ _ _,
     (_, (_, _, refl, refl, refl), refl),
@@ -125,8 +125,8 @@ invisible_example = record {
   entered = λ g. (
     hidden_rule,
     applies_once g FnLike hidden_a hidden_rule
-        (item no_items (grouped (item no_items (taken (codes "x") fragments.stripped (text_at 1 0 (codes "a") none))))) refl
-        refl
+        (item no_items (grouped (item no_items (taken (codes "x") styles.stripped (text_at 1 0 (codes "a") none)))))
+        refl refl
         ((_, refl, (refl, (_, refl, (refl, refl)), refl)), refl) refl,
     this_one _ _ _,
     (_, (_, _, refl, refl, refl), refl),
@@ -136,7 +136,7 @@ invisible_example = record {
 -- ---- a name that comes twice
 
 abbrev word_item : ℕ → List ℕ → Item
-word_item start text = taken (codes "x") fragments.stripped (text_at 1 start text none)
+word_item start text = taken (codes "x") styles.stripped (text_at 1 start text none)
 
 abbrev stays_argument : Forest
 stays_argument = a_at 0 (text_at 1 2 (codes "b") (text_at 1 4 (codes "c") none))
@@ -256,7 +256,7 @@ names_example = record {
     applies_once g FnLike (a_at 0 (group (delimiter_of Parenthesis (at 1 2 3) (at 1 4 5)) (text_at 1 3 (codes "b") none)
         none)) beside_rule
         (item (item no_items (word_item 0 (codes "a")))
-        (grouped (item no_items (taken (codes "y") fragments.stripped (text_at 1 3 (codes "b") none))))) refl refl
+        (grouped (item no_items (taken (codes "y") styles.stripped (text_at 1 3 (codes "b") none))))) refl refl
         ((_, (_, refl, (refl, refl)), (refl, (_, refl, (refl, refl)), refl)), refl) refl,
     this_one _ _ _,
     (_, (_, _, refl, (_, _, refl, refl, refl), refl), refl),
@@ -376,11 +376,11 @@ module _ (g : Grammar) (argument : Forest) (r q : Rule) (is js : Items) (r_fits 
       go (◌⊎◌.inr (d, ◌⊎◌.inr l)) e x y = let z = l.1 in omega (arith, z)
 
 abbrev first_items : Items
-first_items = item (item no_items (matched 1)) (taken (codes "x") fragments.stripped (text_at 1 2 (codes "q") none))
+first_items = item (item no_items (matched 1)) (taken (codes "x") styles.stripped (text_at 1 2 (codes "q") none))
 
 abbrev second_items : Items
-second_items = item (item no_items (taken (codes "x") fragments.stripped (text_at 1 0 (codes "p") none)))
-    (taken (codes "y") fragments.stripped (text_at 1 2 (codes "q") none))
+second_items = item (item no_items (taken (codes "x") styles.stripped (text_at 1 0 (codes "p") none)))
+    (taken (codes "y") styles.stripped (text_at 1 2 (codes "q") none))
 
 first_fits : (g : Grammar) → Fits g one_binding.reads pq_argument first_items
 first_fits g = fits_once g one_binding.reads pq_argument first_items refl ((_, (_, refl, refl), (refl, refl)), refl)
@@ -398,7 +398,7 @@ most_bindings_example = record {
 }
 
 abbrev p_items : List ℕ → Items
-p_items name = item no_items (taken name fragments.stripped p_argument)
+p_items name = item no_items (taken name styles.stripped p_argument)
 
 earlier_fits : (g : Grammar) → Fits g earlier_rule.reads p_argument (p_items (codes "x"))
 earlier_fits g = fits_once g earlier_rule.reads p_argument (p_items (codes "x")) refl (

@@ -13,7 +13,7 @@ use Rattle.mbe_semantics.specs.Expansion.Expansion.{Applies, this_one, a_later_o
 use Rattle.mbe_semantics.specs.Examples.Sample.{taken, text_at}
 use Rattle.mbe_semantics.specs.Examples.Examples.{ListExample, list_rule, list_argument, IndexExample, index_rule, two_words, UnknownExample, unknown_rule, any_rule, one_a, EmptyExample, empty_rule, ZipExample, zip_rule, zip_argument, CountExample, count_rule, count_argument}
 use Rattle.mbe_examples.proofs.RuleLemmas.{answer_fragment, fits_by_run, applies_by_run, by_run, closest_alone, parts, defines_one, defines_two}
-use Rattle.mbe_semantics.specs.Fragments.Kinds as fragments
+use Rattle.mbe_semantics.specs.Fragments.Kinds as styles
 use Rattle.mbe_semantics.specs.Readings.Item.{Fragment, Item, matched, bound, skipped, rounds, Items, no_items, item, no_rounds, round, items_width}
 use Rattle.mbe_semantics.specs.Readings.Ambiguity.{IsReading}
 use Rattle.mbe_semantics.specs.Readings.Input.{input_of}
@@ -31,8 +31,8 @@ use Rattle.mbe_tt.specs.Fragments.Grammar.{IsLawful}
 
 abbrev list_items : Items
 list_items = item no_items (rounds (round no_rounds
-    (item no_items (taken (codes "x") fragments.stripped (text_at 1 0 (codes "a") none))) 1)
-    (item no_items (taken (codes "x") fragments.stripped (text_at 1 3 (codes "b") none))))
+    (item no_items (taken (codes "x") styles.stripped (text_at 1 0 (codes "a") none))) 1)
+    (item no_items (taken (codes "x") styles.stripped (text_at 1 3 (codes "b") none))))
 
 list_applies : (g : Grammar) → IsLawful g → Applies g FnLike list_argument list_rule
 unfolding verdict run tree
@@ -68,12 +68,12 @@ index_applies : (g : Grammar) → IsLawful g → Applies g FnLike two_words inde
 index_applies g w = record {
   styled = refl;
   items = (item no_items (rounds (round no_rounds
-      (item no_items (taken (codes "x") fragments.stripped (text_at 1 0 (codes "a") none))) 0)
-      (item no_items (taken (codes "x") fragments.stripped (text_at 1 2 (codes "b") none)))));
+      (item no_items (taken (codes "x") styles.stripped (text_at 1 0 (codes "a") none))) 0)
+      (item no_items (taken (codes "x") styles.stripped (text_at 1 2 (codes "b") none)))));
   fits = fits_by_run g index_rule.reads two_words
       (item no_items (rounds (round no_rounds
-      (item no_items (taken (codes "x") fragments.stripped (text_at 1 0 (codes "a") none))) 0)
-      (item no_items (taken (codes "x") fragments.stripped (text_at 1 2 (codes "b") none))))) w refl
+      (item no_items (taken (codes "x") styles.stripped (text_at 1 0 (codes "a") none))) 0)
+      (item no_items (taken (codes "x") styles.stripped (text_at 1 2 (codes "b") none))))) w refl
       (index_applies_run g) (
         (_, refl, ((tt, tt, (_, refl, (refl, refl)), refl), (_, refl, (refl, refl)))),
         refl,
@@ -127,9 +127,9 @@ any_applies_run g = refl
 any_applies : (g : Grammar) → IsLawful g → Applies g FnLike one_a any_rule
 any_applies g w = record {
   styled = refl;
-  items = (item no_items (rounds no_rounds (item no_items (taken (codes "t") fragments.stripped one_a))));
+  items = (item no_items (rounds no_rounds (item no_items (taken (codes "t") styles.stripped one_a))));
   fits = fits_by_run g any_rule.reads one_a
-      (item no_items (rounds no_rounds (item no_items (taken (codes "t") fragments.stripped one_a)))) w refl
+      (item no_items (rounds no_rounds (item no_items (taken (codes "t") styles.stripped one_a)))) w refl
       (any_applies_run g) ((_, refl, (tt, (_, refl, (refl, refl)))), refl);
   faultless = refl;
 }
@@ -153,11 +153,11 @@ unknown_example = record {
 abbrev zip_items : Items
 zip_items =
     item (item (item no_items (rounds (round
-    (round no_rounds (item no_items (taken (codes "a") fragments.stripped (text_at 1 0 (codes "p") none))) 0)
-    (item no_items (taken (codes "a") fragments.stripped (text_at 1 2 (codes "q") none))) 0)
-    (item no_items (taken (codes "a") fragments.stripped (text_at 1 4 (codes "r") none))))) (matched 1))
-    (rounds (round no_rounds (item no_items (taken (codes "b") fragments.stripped (text_at 1 8 (codes "s") none))) 0)
-    (item no_items (taken (codes "b") fragments.stripped (text_at 1 10 (codes "t") none))))
+    (round no_rounds (item no_items (taken (codes "a") styles.stripped (text_at 1 0 (codes "p") none))) 0)
+    (item no_items (taken (codes "a") styles.stripped (text_at 1 2 (codes "q") none))) 0)
+    (item no_items (taken (codes "a") styles.stripped (text_at 1 4 (codes "r") none))))) (matched 1))
+    (rounds (round no_rounds (item no_items (taken (codes "b") styles.stripped (text_at 1 8 (codes "s") none))) 0)
+    (item no_items (taken (codes "b") styles.stripped (text_at 1 10 (codes "t") none))))
 
 zip_read : (g : Grammar) → IsReading g zip_rule.reads zip_argument zip_items
 zip_read g = (
@@ -223,10 +223,10 @@ abbrev count_items : Items
 count_items =
     item no_items (rounds (round no_rounds
     (item no_items (rounds (round no_rounds
-    (item no_items (taken (codes "x") fragments.stripped (text_at 1 0 (codes "a") none))) 0)
-    (item no_items (taken (codes "x") fragments.stripped (text_at 1 2 (codes "b") none))))) 1)
+    (item no_items (taken (codes "x") styles.stripped (text_at 1 0 (codes "a") none))) 0)
+    (item no_items (taken (codes "x") styles.stripped (text_at 1 2 (codes "b") none))))) 1)
     (item no_items (rounds no_rounds (item no_items
-    (taken (codes "x") fragments.stripped (text_at 1 5 (codes "c") none))))))
+    (taken (codes "x") styles.stripped (text_at 1 5 (codes "c") none))))))
 
 count_read : (g : Grammar) → IsReading g count_rule.reads count_argument count_items
 count_read g = (
@@ -274,7 +274,7 @@ skipped_round : Items
 skipped_round = item no_items (skipped (codes "v" ∷ []))
 
 empty_round : Items
-empty_round = item no_items (rounds no_rounds (item no_items (taken (codes "v") fragments.plain none)))
+empty_round = item no_items (rounds no_rounds (item no_items (taken (codes "v") styles.plain none)))
 
 abbrev has_round : Items → Bool
 has_round (item is (rounds rs last)) = true

@@ -2,7 +2,7 @@
 // caller's text, 1 and 2 are two steps, and 3 is one whose macro step 1 wrote. What is expected is what rustc's hygiene says that the
 // names mean.
 use crate::texts::{is_written, rust};
-use mbe_renaming::renaming::{Nesting, Renamed, rename};
+use mbe_renaming::renaming::{Nestings, Renamed, rename};
 use mbe_tt::span::{Span, SyntaxContext};
 use mbe_tt::symbol::Symbol;
 use mbe_tt::tt::{Ident, Leaf, Literal, TopSubtree, TopSubtreeBuilder, TtElement};
@@ -401,11 +401,11 @@ fn with_contexts(alloc: Global, tree: &TopSubtree) -> Result<TopSubtree, AllocEr
 fn renamed(alloc: Global, text: &str) -> Result<Renamed, AllocError> {
     let tree = with_contexts(alloc, &rust(alloc, text)?)?;
     let names = [Symbol::intern(alloc, "outside")?];
-    let nestings = [Nesting {
-        inner: SyntaxContext(3),
-        outer: SyntaxContext(1),
-    }];
-    rename(alloc, &tree, &names, &nestings)
+    let nestings = Nestings {
+        contexts: &[0, 0, 1],
+        mark: 0,
+    };
+    rename(alloc, &tree, &names, nestings)
 }
 
 #[derive(Clone, Copy)]

@@ -1,4 +1,5 @@
 pub mod ApartLemmas
+pub mod BesideLemmas
 pub mod FreshLemmas
 pub mod NestLemmas
 pub mod SameLemmas

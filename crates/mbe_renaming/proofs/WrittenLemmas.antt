@@ -9,8 +9,7 @@ use Rattle.mbe_tt.specs.Trees.Tree.{Forest, Tree, Leaf_tree, Group_tree, none, l
 use Rattle.mbe_tt.specs.declared.tt.Delimiter.{Delimiter}
 use Rattle.mbe_renaming.specs.declared.sites.Site.{Site}
 use Rattle.mbe_renaming.specs.declared.naming.Doubt.{Doubt}
-use Rattle.mbe_renaming.specs.declared.naming.Nesting.{Nesting}
-use Rattle.mbe_renaming.specs.Naming.{Word, Naming, words, locals, names_from, namings, undecided_of, undecided}
+use Rattle.mbe_renaming.specs.Naming.{Word, Naming, words, locals, names_from, namings, undecided_of, undecided, Nestings}
 use Rattle.mbe_renaming.specs.Renaming.{renamed_leaf, renamed, closed_inside, written, words_in, namings_in, renamed_tree, undecided_in}
 use Rattle.mbe_renaming.specs.Sites.{start, after_leaf, after_group, inside_group}
 use Rattle.mbe_renaming.specs.Steps.{Step, closing, leaf_role, steps}
@@ -69,19 +68,19 @@ all_written given f s d =
 
 -- ---- one call after another
 
-words_found : (ns : List Nesting) (f : Forest) (xs : List Step) (ws : List Word) → xs ≡ steps start f → ws ≡ words ns xs
+words_found : (ns : Nestings) (f : Forest) (xs : List Step) (ws : List Word) → xs ≡ steps start f → ws ≡ words ns xs
     → ws ≡ words_in ns f
 words_found ns f xs ws x w = w ∙ ap (words ns) x
 
 -- what is renamed
-pub all_given : (names : List (List ℕ)) (ns : List Nesting) (f : Forest) (xs : List Step) (ws bound : List Word)
+pub all_given : (names : List (List ℕ)) (ns : Nestings) (f : Forest) (xs : List Step) (ws bound : List Word)
     (given : List Naming) → xs ≡ steps start f → ws ≡ words ns xs → bound ≡ locals ws
     → given ≡ names_from ws names [] bound → given ≡ namings_in names ns f
 all_given names ns f xs ws bound given x w b g =
     g ∙ ap (names_from ws names []) b ∙ ap (λ k. namings k names) (words_found ns f xs ws x w)
 
 -- what isn't decided
-pub all_undecided : (names : List (List ℕ)) (ns : List Nesting) (t : Top) (xs : List Step) (ws bound : List Word)
+pub all_undecided : (names : List (List ℕ)) (ns : Nestings) (t : Top) (xs : List Step) (ws bound : List Word)
     (places : List Doubt) → xs ≡ steps start t.1 → ws ≡ words ns xs → bound ≡ locals ws
     → places ≡ undecided_of ws names bound → places ≡ undecided_in names ns t
 all_undecided names ns t xs ws bound places x w b p =
@@ -94,7 +93,7 @@ whole_written given f xs d b after x e w =
     w ∙ ap (λ k. written given k b) x ∙ ap (written given (steps start f)) e ∙ all_written given f start d
 
 -- the only tree that is built
-pub built : (names : List (List ℕ)) (ns : List Nesting) (t r : Top) (given : List Naming) (after : Levels)
+pub built : (names : List (List ℕ)) (ns : Nestings) (t r : Top) (given : List Naming) (after : Levels)
     → given ≡ namings_in names ns t.1 → after ≡ (t.0, renamed given start t.1) ∷ [] → after ≡ r ∷ []
     → r ≡ renamed_tree names ns t
 built names ns t r given after g w b =

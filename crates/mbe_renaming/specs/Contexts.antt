@@ -1,10 +1,8 @@
 -- Which contexts the tokens of a step have, and with which names its locals are told apart from others.
-use Rattle.std.specs.Prelude.{ℕ, zero, suc, ◌+◌, ◌-◌, Bool, false, ◌==◌, ◌||◌, nat_lt, min, if◌then◌else◌, codes, List, [], ◌∷◌, ◌++◌, length, unwrap_or}
-use Rattle.std.specs.List.{slice_get}
+use Rattle.std.specs.Prelude.{ℕ, ◌+◌, Bool, false, ◌==◌, ◌||◌, min, if◌then◌else◌, codes, List, [], ◌∷◌, ◌++◌}
 use Rattle.mbe_tt.specs.Trees.Leaf.{Leaf, literal, punct, ident, is_text}
 use Rattle.mbe_tt.specs.Trees.Tree.{Forest, none, leaf, group}
 use Rattle.mbe_tt.specs.declared.span.Span.{Span}
-use Rattle.mbe_renaming.specs.declared.naming.Nesting.{Nesting}
 use Rattle.mbe_renaming.specs.Renaming.{renamed_trees}
 use Rattle.mbe_renaming.specs.Sites.{start}
 use Rattle.mbe_renaming.specs.Steps.{Step, token, opening, closing, steps}
@@ -52,36 +50,6 @@ step_context n (c ∷ cs) context = if c == context then n else step_context (nu
 abbrev pub marked : ℕ → List ℕ → Span → Span
 marked n cs span = record span { ctx = record { 0 = step_context n cs (span.ctx).0 } }
 
--- ---- steps in steps
-
--- A list of contexts has, for each context of a step, from 1 on, the one that the macro's token had: 0 in a file.
-abbrev pub context_before : List ℕ → ℕ → ℕ
-context_before contexts n = unwrap_or (slice_get contexts (n - 1)) 0
-
-abbrev pub nesting : ℕ → ℕ → Nesting
-nesting inner outer = record { inner = record { 0 = inner }; outer = record { 0 = outer } }
-
--- the context `inner` with those that it was made of, one of another, down to the mark
-unfoldable pub nestings_of : List ℕ → ℕ → ℕ → ℕ → ℕ → List Nesting
-nestings_of contexts mark inner zero n = []
-nestings_of contexts mark inner (suc left) n =
-    if nat_lt mark (context_before contexts n)
-    then nesting inner (context_before contexts n)
-    ∷ nestings_of contexts mark inner left (context_before contexts n)
-    else []
-
--- each two of so many contexts of which one's macro was written by a step of the other, from the last down to the mark
-unfoldable pub nestings_down : List ℕ → ℕ → ℕ → List Nesting
-nestings_down contexts mark zero = []
-nestings_down contexts mark (suc n) =
-    if nat_lt mark (suc n)
-    then nestings_of contexts (numbered mark) (numbered (suc n)) (length contexts) (numbered (suc n))
-    ++ nestings_down contexts mark n
-    else []
-
-abbrev pub nestings_after : List ℕ → ℕ → List Nesting
-nestings_after contexts mark = nestings_down contexts mark (length contexts)
-
 -- ---- names beside an expansion
 
 abbrev pub is_let : Leaf → Bool
@@ -119,4 +87,5 @@ names_beside out left = if has_let out then words_in left else []
 
 -- an expansion whose locals are told apart from others of their names, by the contexts of its steps
 abbrev pub told_apart : List ℕ → ℕ → Forest → Forest → Forest
-told_apart contexts mark left out = renamed_trees (names_beside out left) (nestings_after contexts mark) out
+told_apart contexts mark left out =
+    renamed_trees (names_beside out left) (record { contexts = contexts; mark = numbered mark }) out

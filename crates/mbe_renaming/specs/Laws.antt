@@ -2,9 +2,8 @@
 use Rattle.std.specs.Prelude.{◌≡◌, ◌↔◌, ℕ, ◌+◌, ◌*◌, ◌^◌, ◌<◌, ◌⊎◌, true, false, List, [], ◌∷◌, ◌++◌, length}
 use Rattle.mbe_tt.specs.Trees.Leaf.{Leaf, literal, punct, ident}
 use Rattle.mbe_tt.specs.Trees.Tree.{Forest, none, leaf, group}
-use Rattle.mbe_renaming.specs.declared.naming.Nesting.{Nesting}
 use Rattle.mbe_renaming.specs.declared.naming.Progress.TheVariants.{Unbound}
-use Rattle.mbe_renaming.specs.Naming.{Word, Naming, is_same, is_same_sort, is_shared, is_doubted, locals, new_name}
+use Rattle.mbe_renaming.specs.Naming.{Word, Naming, is_same, is_same_sort, is_shared, is_doubted, locals, new_name, Nestings}
 use Rattle.mbe_renaming.specs.Renaming.{new_name_of, words_in, namings_in, renamed_trees}
 use Rattle.mbe_renaming.specs.Sites.{start}
 use Rattle.mbe_renaming.specs.Steps.{Step, token, opening, closing, steps}
@@ -24,7 +23,7 @@ without_words (group d inside rest) = group d (without_words inside) (without_wo
 
 -- Renaming changes no tree but the texts of words: shapes, delimiters, puncts, literals, spans, spacing and `r#` stay.
 abbrev pub KeepsShapes : Type 0
-KeepsShapes = (names : List (List ℕ)) (ns : List Nesting) (f : Forest)
+KeepsShapes = (names : List (List ℕ)) (ns : Nestings) (f : Forest)
     → without_words (renamed_trees names ns f) ≡ without_words f
 
 -- ---- the texts of words
@@ -54,7 +53,7 @@ new_texts given (x ∷ xs) = step_texts given x ++ new_texts given xs
 
 -- Each word has its own new name after renaming: one that is no local and no label keeps its name.
 abbrev pub RenamesEach : Type 0
-RenamesEach = (names : List (List ℕ)) (ns : List Nesting) (f : Forest)
+RenamesEach = (names : List (List ℕ)) (ns : Nestings) (f : Forest)
     → texts (renamed_trees names ns f) ≡ new_texts (namings_in names ns f) (steps start f)
 
 -- ---- one name for one local
@@ -72,13 +71,13 @@ pub record IsDecided (names : List (List ℕ)) (ws : List Word) (b : Word) : Typ
 -- Of two words that may be locals, or labels, one of which is such a local: after renaming they have one name exactly
 -- where they had one name and one context before. (There are fewer words than numbers for new names.)
 abbrev pub OneNameEach : Type 0
-OneNameEach = (names : List (List ℕ)) (ns : List Nesting) (f : Forest) (b v w : Word)
+OneNameEach = (names : List (List ℕ)) (ns : Nestings) (f : Forest) (b v w : Word)
     → IsDecided names (words_in ns f) b → 2 * length (words_in ns f) + length names < 2 ^ 63
     → IsIn v (words_in ns f) → IsIn w (words_in ns f) → is_same b v ≡ true → is_same_sort v.role w.role ≡ true
     → (new_name (namings_in names ns f) v ≡ new_name (namings_in names ns f) w) ↔ (is_same v w ≡ true)
 
 -- Such a local has no name after renaming that is among those around the trees.
 abbrev pub NoNameAround : Type 0
-NoNameAround = (names : List (List ℕ)) (ns : List Nesting) (f : Forest) (b v : Word)
+NoNameAround = (names : List (List ℕ)) (ns : Nestings) (f : Forest) (b v : Word)
     → IsDecided names (words_in ns f) b → 2 * length (words_in ns f) + length names < 2 ^ 63 → is_same b v ≡ true
     → ¬ IsIn (new_name (namings_in names ns f) v) names

@@ -1,10 +1,10 @@
 -- Which locals and labels get names of their own, and which.
-use Rattle.std.specs.Prelude.{◌≡◌, ◌<◌, ℕ, zero, suc, ◌+◌, ◌-◌, ◌^◌, Bool, true, false, not, ◌==◌, ◌&&◌, ◌||◌, if◌then◌else◌, codes, decimal, List, [], ◌∷◌, ◌++◌, Option, Some, None}
+use Rattle.std.specs.Prelude.{◌≡◌, ◌<◌, ℕ, zero, suc, ◌+◌, ◌-◌, ◌^◌, Bool, true, false, not, ◌==◌, ◌&&◌, ◌||◌, if◌then◌else◌, codes, decimal, List, [], ◌∷◌, ◌++◌, Option, Some, None, nat_lt, length, unwrap_or}
+use Rattle.std.specs.List.{slice_get}
 use Rattle.std.specs.Str.{bytes_eq}
 use Rattle.mbe_tt.specs.Trees.Leaf.{Leaf, literal, punct, ident}
 use Rattle.mbe_tt.specs.declared.span.Span.{Span}
 use Rattle.mbe_renaming.specs.declared.naming.Doubt.{Doubt}
-use Rattle.mbe_renaming.specs.declared.naming.Nesting.{Nesting}
 use Rattle.mbe_renaming.specs.declared.naming.Progress.{Progress}
 use Rattle.mbe_renaming.specs.declared.naming.Progress.TheVariants as progress
 use Rattle.mbe_renaming.specs.declared.sites.Role.{Role}
@@ -66,21 +66,40 @@ is_inner_role Inner = true
 is_inner_role InnerLabel = true
 is_inner_role _ = false
 
-abbrev pub inner_word : Word → Nesting → List Word
-inner_word w n =
-    if n.inner.0 == (w.span.ctx).0 && is_aside (inner_role w.role)
-    then word w.text (record w.span { ctx = n.outer }) (inner_role w.role) ∷ [] else []
+-- which steps wrote the macros of which
+pub record Nestings : Type 0 where
+  -- for each context of a step, from 1 on, the one that the macro's token had: 0 in a file
+  pub contexts : List ℕ
+  -- contexts up to this one are of earlier calls
+  pub mark : ℕ
+
+abbrev pub context_before : List ℕ → ℕ → ℕ
+context_before contexts n = unwrap_or (slice_get contexts (n - 1)) 0
+
+-- a word as it is to the step of that context
+abbrev pub inner_word : Word → ℕ → Word
+inner_word w outer = word w.text (record w.span { ctx = record { 0 = outer } }) (inner_role w.role)
+
+-- a word to each step that the context `n` was made by, one of another, down to the mark
+unfoldable pub outer_words : Nestings → Word → ℕ → ℕ → List Word
+outer_words ns w zero n = []
+outer_words ns w (suc left) n =
+    if nat_lt ns.mark (context_before ns.contexts n)
+    then inner_word w (context_before ns.contexts n) ∷ outer_words ns w left (context_before ns.contexts n)
+    else []
 
 -- that word again, to each step that it may know locals of
-abbrev pub inner_words : List Nesting → Word → List Word
-inner_words [] w = []
-inner_words (n ∷ ns) w = inner_word w n ++ inner_words ns w
+abbrev pub inner_words : Nestings → Word → List Word
+inner_words ns w =
+    if is_aside (inner_role w.role) && nat_lt ns.mark (w.span.ctx).0
+    then outer_words ns w (length ns.contexts) (w.span.ctx).0
+    else []
 
 -- a word of a macro's rules, as one that is no local
 abbrev pub words_of_rules : Word → List Word
 words_of_rules w = if is_inner_role w.role then word w.text w.span Other ∷ [] else []
 
-abbrev pub with_inner : List Nesting → Word → List Word
+abbrev pub with_inner : Nestings → Word → List Word
 with_inner ns w = w ∷ (words_of_rules w ++ inner_words ns w)
 
 -- ---- words
@@ -93,18 +112,18 @@ is_end _ = false
 abbrev pub end_words : Span → Role → List Word
 end_words span r = if is_end r then word [] span r ∷ [] else []
 
-abbrev pub leaf_words : List Nesting → Leaf → Role → List Word
+abbrev pub leaf_words : Nestings → Leaf → Role → List Word
 leaf_words ns (ident i) r = with_inner ns (word i.sym i.span r)
 leaf_words ns (literal l) r = if is_text_role r then with_inner ns (word l.text_and_suffix l.span r) else []
 leaf_words ns (punct p) r = end_words p.span r
 
-abbrev pub step_words : List Nesting → Step → List Word
+abbrev pub step_words : Nestings → Step → List Word
 step_words ns (token l r) = leaf_words ns l r
 step_words ns (opening k span r) = end_words span r
 step_words ns (closing span) = []
 
 -- the words and strings of steps
-abbrev pub words : List Nesting → List Step → List Word
+abbrev pub words : Nestings → List Step → List Word
 words ns [] = []
 words ns (x ∷ xs) = step_words ns x ++ words ns xs
 
@@ -222,6 +241,16 @@ abbrev pub after_word : Word → Progress → Word → Progress
 after_word w progress.Unbound v = unbound (is_same w v) v.role
 after_word w (progress.Later n) v = later n (is_same w v) v.role
 after_word w progress.Bound v = progress.Bound
+
+-- where a value begins or ends
+abbrev pub is_edge : Role → Bool
+is_edge Begin = true
+is_edge End = true
+is_edge _ = false
+
+-- a word of the local's context, or where a value begins or ends: no other changes anything
+abbrev pub concerns : Word → Word → Bool
+concerns w v = context w == context v || is_edge v.role
 
 abbrev pub doubt_at : Word → Progress → Word → List Doubt
 doubt_at w p v = if is_doubt w p v then record { bound = w.span; place = v.span } ∷ [] else []

@@ -6,10 +6,9 @@ use Rattle.mbe_tt.specs.Trees.Top.{Top}
 use Rattle.mbe_tt.specs.Trees.Tree.{Forest, none, leaf, group, one_leaf}
 use Rattle.mbe_tt.specs.declared.span.Span.{Span}
 use Rattle.mbe_renaming.specs.declared.naming.Doubt.{Doubt}
-use Rattle.mbe_renaming.specs.declared.naming.Nesting.{Nesting}
 use Rattle.mbe_renaming.specs.declared.sites.Role.{Role}
 use Rattle.mbe_renaming.specs.declared.sites.Site.{Site}
-use Rattle.mbe_renaming.specs.Naming.{Word, word, words, Naming, namings, new_name, undecided}
+use Rattle.mbe_renaming.specs.Naming.{Word, word, words, Naming, namings, new_name, undecided, Nestings}
 use Rattle.mbe_renaming.specs.Sites.{start, after_leaf, after_group, inside_group}
 use Rattle.mbe_renaming.specs.Steps.{Step, token, opening, closing, leaf_role, steps}
 
@@ -31,21 +30,21 @@ renamed given s (group d inside rest) =
     group d (renamed given (inside_group s d.kind inside) inside) (renamed given (after_group s d.kind rest) rest)
 
 -- the words and strings of trees
-abbrev pub words_in : List Nesting → Forest → List Word
+abbrev pub words_in : Nestings → Forest → List Word
 words_in ns f = words ns (steps start f)
 
 -- what is renamed in trees that are among these names
-abbrev pub namings_in : List (List ℕ) → List Nesting → Forest → List Naming
+abbrev pub namings_in : List (List ℕ) → Nestings → Forest → List Naming
 namings_in names ns f = namings (words_in ns f) names
 
-abbrev pub renamed_trees : List (List ℕ) → List Nesting → Forest → Forest
+abbrev pub renamed_trees : List (List ℕ) → Nestings → Forest → Forest
 renamed_trees names ns f = renamed (namings_in names ns f) start f
 
-abbrev pub renamed_tree : List (List ℕ) → List Nesting → Top → Top
+abbrev pub renamed_tree : List (List ℕ) → Nestings → Top → Top
 renamed_tree names ns t = (t.0, renamed_trees names ns t.1)
 
 -- the places that keep locals from being renamed
-abbrev pub undecided_in : List (List ℕ) → List Nesting → Top → List Doubt
+abbrev pub undecided_in : List (List ℕ) → Nestings → Top → List Doubt
 undecided_in names ns t = undecided (words_in ns t.1) names
 
 -- ---- steps, as they are written

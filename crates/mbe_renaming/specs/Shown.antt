@@ -1,9 +1,10 @@
 -- What the program's values mean, whatever memory holds their texts.
 use Rattle.mbe_tt.specs.Views.Shown.{leaf_of}
 use Rattle.mbe_renaming.specs.declared.naming.Naming as code_naming
+use Rattle.mbe_renaming.specs.declared.naming.Nestings as code_nestings
 use Rattle.mbe_renaming.specs.declared.naming.Word as code_word
 use Rattle.mbe_renaming.specs.declared.walking.Step as code
-use Rattle.mbe_renaming.specs.Naming.{Word, word, Naming, naming}
+use Rattle.mbe_renaming.specs.Naming.{Word, word, Naming, naming, Nestings}
 use Rattle.mbe_renaming.specs.Steps.{Step, token, opening, closing}
 
 abbrev pub step_of : {A : Type 0} → code.Step A → Step
@@ -16,3 +17,6 @@ word_of w = word w.text.now w.span w.role
 
 abbrev pub naming_of : {A : Type 0} → code_naming.Naming A → Naming
 naming_of n = naming (word_of n.local) n.name
+
+abbrev pub nestings_of : code_nestings.Nestings → Nestings
+nestings_of n = record { contexts = n.contexts.now; mark = n.mark }

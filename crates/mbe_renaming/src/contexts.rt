@@ -1,11 +1,11 @@
 // Which contexts the tokens of a step have, and with which names its locals are told apart from others.
-ghost use Rattle.std.specs.Prelude.{◌≡◌, ◌++◌, [], IfOk, OnOk, length, map};
+ghost use Rattle.std.specs.Prelude.{◌≡◌, ◌++◌, [], IfOk, OnOk, map};
 ghost use Rattle.mbe_tt.specs.Views.Shown.{leaf_of};
 ghost use Rattle.mbe_tt.specs.Views.View.{trees};
 ghost use Rattle.mbe_renaming.specs.Contexts as spec;
 ghost use Rattle.mbe_renaming.specs.Shown.{step_of};
 
-use crate::naming::Nesting;
+use crate::naming::Nestings;
 use crate::renaming::{Renamed, rename};
 use crate::walking::{Step, steps_of};
 use mbe_tt::span::{Span, SyntaxContext};
@@ -112,60 +112,6 @@ pub fn marked(number: u32, contexts: &[u32], span: Span) -> Span
     }
 }
 
-// ---- steps in steps
-
-// The context that the macro's token had, of one of a step.
-fn context_before(contexts: &[u32], number: u32) -> u32
-    ensures { result ≡ spec.context_before contexts.now number }
-{
-    let place = (number as usize).saturating_sub(1);
-    contexts.get(place).copied().unwrap_or(0)
-}
-
-// A context with those that it was made of, one of another, down to the mark.
-fn push_nestings<A: Allocator>(
-    found: &mut Vec<Nesting, A>,
-    contexts: &[u32],
-    mark: u32,
-    inner: u32,
-) -> Result<(), AllocError>
-    ensures { OnOk result (found.new.items ≡ found.old.items
-        ++ spec.nestings_of contexts.now mark inner (length contexts.now) inner) }
-{
-    let mut number = inner;
-    let mut left = contexts.len();
-    'contexts: while left > 0 {
-        let before = context_before(contexts, number);
-        if before <= mark {
-            return Ok(());
-        }
-        found.push(Nesting {
-            inner: SyntaxContext(inner),
-            outer: SyntaxContext(before),
-        })?;
-        number = before;
-        left -= 1;
-    }
-    Ok(())
-}
-
-// Each two contexts after the mark of which one's macro was written by a step of the other.
-fn nestings_after<A: Allocator + Copy>(
-    alloc: A,
-    contexts: &[u32],
-    mark: usize,
-) -> Result<Vec<Nesting, A>, AllocError>
-    ensures { IfOk result (λ v. v.items ≡ spec.nestings_after contexts.now mark) }
-{
-    let mut found = Vec::new(alloc);
-    let mut number = contexts.len();
-    'contexts: while number > mark {
-        push_nestings(&mut found, contexts, numbered(mark), numbered(number))?;
-        number -= 1;
-    }
-    Ok(found)
-}
-
 // ---- names beside an expansion
 
 fn is_let<A: Allocator>(leaf: &Leaf<A>) -> bool
@@ -269,6 +215,9 @@ pub fn told_apart<A: Allocator + Copy>(
         ≡ spec.told_apart contexts.now mark (trees left.entry) tree.now.1) }
 {
     let names = names_beside(alloc, tree, left)?;
-    let nestings = nestings_after(alloc, contexts, mark)?;
-    rename(alloc, tree, names.as_slice(), nestings.as_slice())
+    let nestings = Nestings {
+        contexts,
+        mark: numbered(mark),
+    };
+    rename(alloc, tree, names.as_slice(), nestings)
 }

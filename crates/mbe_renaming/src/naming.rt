@@ -1,8 +1,8 @@
 // Which locals and labels get names of their own, and which.
-ghost use Rattle.std.specs.Prelude.{◌≡◌, ◌≤◌, ◌++◌, [], IfOk, OnOk, length, map, option_map};
+ghost use Rattle.std.specs.Prelude.{◌≡◌, ◌≤◌, ◌++◌, ◌∷◌, [], IfOk, OnOk, length, map, option_map};
 ghost use Rattle.mbe_tt.specs.Trees.Leaf as tree;
 ghost use Rattle.mbe_tt.specs.Views.Shown.{leaf_of, literal_of};
-ghost use Rattle.mbe_renaming.specs.Shown.{step_of, word_of, naming_of};
+ghost use Rattle.mbe_renaming.specs.Shown.{step_of, word_of, naming_of, nestings_of};
 ghost use Rattle.mbe_renaming.specs.Naming as spec;
 ghost use Rattle.mbe_renaming.specs.declared.naming.Progress.TheVariants.{Unbound};
 
@@ -38,11 +38,13 @@ pub struct Doubt {
     pub place: Span,
 }
 
-/// The macro of the steps of `inner` was written by a step of `outer`, so that a word of `inner` may be a local of `outer`.
-#[derive(Clone, Copy, Debug, Drop, PartialEq, Eq)]
-pub struct Nesting {
-    pub inner: SyntaxContext,
-    pub outer: SyntaxContext,
+/// Which steps wrote the macros of which.
+#[derive(Clone, Copy, Drop)]
+pub struct Nestings<'c> {
+    /// For each context of a step, from 1 on, the one that the macro's token had: 0 in a file.
+    pub contexts: &'c [u32],
+    /// Contexts up to this one are of earlier calls.
+    pub mark: u32,
 }
 
 // Whether a local is bound.
@@ -195,24 +197,69 @@ fn push_of_rules<'t, A: Allocator>(
     Ok(())
 }
 
+// The context that the macro's token had, of one of a step.
+fn context_before(contexts: &[u32], number: u32) -> u32
+    ensures { result ≡ spec.context_before contexts.now number }
+{
+    let place = (number as usize).saturating_sub(1);
+    contexts.get(place).copied().unwrap_or(0)
+}
+
+// A word as it is to the step of that context.
 fn push_inner<'t, A: Allocator>(
     found: &mut Vec<Word<'t>, A>,
     word: Word<'t>,
-    nesting: Nesting,
+    outer: u32,
 ) -> Result<(), AllocError>
     ensures { OnOk result (map word_of found.new.items
-        ≡ map word_of found.old.items ++ spec.inner_word (word_of word.entry) nesting) }
+        ≡ map word_of found.old.items ++ (spec.inner_word (word_of word.entry) outer ∷ [])) }
 {
-    let role = inner_role(word.role);
-    if nesting.inner.0 == word.span.ctx.0 && is_aside(role) {
-        found.push(Word {
-            text: word.text,
-            span: Span {
-                ctx: nesting.outer,
-                ..word.span
-            },
-            role,
-        })?;
+    found.push(Word {
+        text: word.text,
+        span: Span {
+            ctx: SyntaxContext(outer),
+            ..word.span
+        },
+        role: inner_role(word.role),
+    })?;
+    Ok(())
+}
+
+// A word to each step that its context was made by, one of another, down to the mark.
+fn push_outer<'t, A: Allocator>(
+    found: &mut Vec<Word<'t>, A>,
+    nestings: Nestings<'_>,
+    word: Word<'t>,
+) -> Result<(), AllocError>
+    ensures { OnOk result (map word_of found.new.items ≡ map word_of found.old.items
+        ++ spec.outer_words (nestings_of nestings.entry) (word_of word.entry)
+        (length nestings.entry.contexts.now) (word.entry.span.ctx).0) }
+{
+    let mut number = word.span.ctx.0;
+    let mut left = nestings.contexts.len();
+    'contexts: while left > 0 {
+        let before = context_before(nestings.contexts, number);
+        if before <= nestings.mark {
+            return Ok(());
+        }
+        push_inner(found, word, before)?;
+        number = before;
+        left -= 1;
+    }
+    Ok(())
+}
+
+// A word again, to each step that it may know locals of.
+fn push_inner_words<'t, A: Allocator>(
+    found: &mut Vec<Word<'t>, A>,
+    nestings: Nestings<'_>,
+    word: Word<'t>,
+) -> Result<(), AllocError>
+    ensures { OnOk result (map word_of found.new.items ≡ map word_of found.old.items
+        ++ spec.inner_words (nestings_of nestings.entry) (word_of word.entry)) }
+{
+    if is_aside(inner_role(word.role)) && nestings.mark < word.span.ctx.0 {
+        push_outer(found, nestings, word)?;
     }
     Ok(())
 }
@@ -220,18 +267,15 @@ fn push_inner<'t, A: Allocator>(
 // A word, and that word again to each step that it may know locals of.
 fn push_word<'t, A: Allocator>(
     found: &mut Vec<Word<'t>, A>,
-    nestings: &[Nesting],
+    nestings: Nestings<'_>,
     word: Word<'t>,
 ) -> Result<(), AllocError>
-    ensures { OnOk result (map word_of found.new.items
-        ≡ map word_of found.old.items ++ spec.with_inner nestings.now (word_of word.entry)) }
+    ensures { OnOk result (map word_of found.new.items ≡ map word_of found.old.items
+        ++ spec.with_inner (nestings_of nestings.entry) (word_of word.entry)) }
 {
     found.push(word)?;
     push_of_rules(found, word)?;
-    for nesting in nestings {
-        push_inner(found, word, *nesting)?;
-    }
-    Ok(())
+    push_inner_words(found, nestings, word)
 }
 
 // ---- words
@@ -257,12 +301,12 @@ fn push_end<A: Allocator>(
 // The text of a string, if it is one that may name locals.
 fn push_text<'t, A: Allocator>(
     found: &mut Vec<Word<'t>, A>,
-    nestings: &[Nesting],
+    nestings: Nestings<'_>,
     literal: &'t Literal<A>,
     role: Role,
 ) -> Result<(), AllocError>
     ensures { OnOk result (map word_of found.new.items ≡ map word_of found.old.items
-        ++ spec.leaf_words nestings.now (tree.literal (literal_of literal.now)) role) }
+        ++ spec.leaf_words (nestings_of nestings.entry) (tree.literal (literal_of literal.now)) role) }
 {
     if !is_text_role(role) {
         return Ok(());
@@ -277,12 +321,12 @@ fn push_text<'t, A: Allocator>(
 
 fn push_leaf<'t, A: Allocator>(
     found: &mut Vec<Word<'t>, A>,
-    nestings: &[Nesting],
+    nestings: Nestings<'_>,
     leaf: &'t Leaf<A>,
     role: Role,
 ) -> Result<(), AllocError>
     ensures { OnOk result (map word_of found.new.items ≡ map word_of found.old.items
-        ++ spec.leaf_words nestings.now (leaf_of leaf.now) role) }
+        ++ spec.leaf_words (nestings_of nestings.entry) (leaf_of leaf.now) role) }
 {
     match leaf {
         Leaf::Ident(ident) => {
@@ -300,11 +344,11 @@ fn push_leaf<'t, A: Allocator>(
 
 fn push_step<'t, A: Allocator>(
     found: &mut Vec<Word<'t>, A>,
-    nestings: &[Nesting],
+    nestings: Nestings<'_>,
     step: Step<'t, A>,
 ) -> Result<(), AllocError>
     ensures { OnOk result (map word_of found.new.items
-        ≡ map word_of found.old.items ++ spec.step_words nestings.now (step_of step.entry)) }
+        ≡ map word_of found.old.items ++ spec.step_words (nestings_of nestings.entry) (step_of step.entry)) }
 {
     match step {
         Step::Leaf(leaf, role) => push_leaf(found, nestings, leaf, role),
@@ -316,11 +360,11 @@ fn push_step<'t, A: Allocator>(
 /// The words and strings of steps.
 pub(crate) fn words_of<'t, A: Allocator + Copy>(
     alloc: A,
-    nestings: &[Nesting],
+    nestings: Nestings<'_>,
     steps: &[Step<'t, A>],
 ) -> Result<Vec<Word<'t>, A>, AllocError>
     ensures { IfOk result (λ v. map word_of v.items
-        ≡ spec.words nestings.now (map step_of steps.now)) }
+        ≡ spec.words (nestings_of nestings.entry) (map step_of steps.now)) }
 {
     let mut found = Vec::new(alloc);
     for step in steps {
@@ -452,17 +496,36 @@ fn may_be(local: Word<'_>, word: Word<'_>) -> bool
         && local.text == word.text
 }
 
+fn is_edge(role: Role) -> bool
+    ensures { result ≡ spec.is_edge role }
+{
+    matches!(role, Role::Begin | Role::End)
+}
+
+// Whether a word tells something of a local. Most don't, and each local looks at all words.
+fn concerns(local: Word<'_>, word: Word<'_>) -> bool
+    ensures { result ≡ spec.concerns (word_of local.entry) (word_of word.entry) }
+{
+    local.span.ctx.0 == word.span.ctx.0 || is_edge(word.role)
+}
+
+#[tactic(auto, using(crate::proofs::BesideLemmas::no_doubt))]
 fn is_doubt(local: Word<'_>, progress: Progress, word: Word<'_>) -> bool
     ensures { result ≡ spec.is_doubt (word_of local.entry) progress (word_of word.entry) }
 {
-    is_same(local, word) && is_doubtful(progress, word.role)
-        || mentions(local, word)
-        || may_be(local, word)
+    concerns(local, word)
+        && (is_same(local, word) && is_doubtful(progress, word.role)
+            || mentions(local, word)
+            || may_be(local, word))
 }
 
+#[tactic(auto, using(crate::proofs::BesideLemmas::as_before))]
 fn after_word(local: Word<'_>, progress: Progress, word: Word<'_>) -> Progress
     ensures { result ≡ spec.after_word (word_of local.entry) progress (word_of word.entry) }
 {
+    if !concerns(local, word) {
+        return progress;
+    }
     match progress {
         Progress::Unbound => unbound(is_same(local, word), word.role),
         Progress::Later(lets) => later(lets, is_same(local, word), word.role),

@@ -3,11 +3,11 @@ ghost use Rattle.std.specs.Prelude.{◌≡◌, ◌<◌, IfOk, OnOk, length, map}
 ghost use Rattle.mbe_tt.specs.Buffers.Building.{put};
 ghost use Rattle.mbe_tt.specs.Views.Shown.{leaf_of};
 ghost use Rattle.mbe_tt.specs.Views.View.{trees};
-ghost use Rattle.mbe_renaming.specs.Shown.{step_of, naming_of};
+ghost use Rattle.mbe_renaming.specs.Shown.{step_of, naming_of, nestings_of};
 ghost use Rattle.mbe_renaming.specs.Renaming as spec;
 
 use crate::naming::{Naming, Word, locals, name_in, namings, undecided, words_of};
-pub use crate::naming::{Doubt, Nesting};
+pub use crate::naming::{Doubt, Nestings};
 use crate::sites::Role;
 use crate::walking::{Step, steps_of};
 use mbe_tt::span::Span;
@@ -103,7 +103,7 @@ fn write<A: Allocator>(
 
 /// The trees with the locals and labels renamed that a step binds, a token of another context than 0, where another token of the
 /// trees has the same name and another context, or one of `names` is that name. Each gets the first of `a_1`, `a_2` and so on that
-/// the trees and `names` don't have. `nestings` has each two contexts of which one's macro was written by a step of the other.
+/// the trees and `names` don't have. `nestings` says which steps wrote the macros of which.
 ///
 /// A local is the same wherever its name and its context are: where its block ends isn't looked at. What isn't surely bound isn't
 /// renamed, as a parameter of a function; and a local isn't that may be named where that can't be decided: `undecided` lists these
@@ -112,12 +112,12 @@ pub fn rename<A: Allocator + Copy>(
     alloc: A,
     tree: &TopSubtree<A>,
     names: &[Symbol<A>],
-    nestings: &[Nesting],
+    nestings: Nestings<'_>,
 ) -> Result<Renamed<A>, AllocError>
     ensures tree { IfOk result (λ r. r.tree
-        ≡ spec.renamed_tree names.now nestings.now tree.now) }
+        ≡ spec.renamed_tree names.now (nestings_of nestings.entry) tree.now) }
     ensures undecided { IfOk result (λ r. r.undecided.items
-        ≡ spec.undecided_in names.now nestings.now tree.now) }
+        ≡ spec.undecided_in names.now (nestings_of nestings.entry) tree.now) }
 {
     let steps = steps_of(alloc, tree.iter().remaining())?;
     let words = words_of(alloc, nestings, steps.as_slice())?;

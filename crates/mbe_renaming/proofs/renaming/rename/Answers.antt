@@ -3,7 +3,7 @@ use Rattle.mbe_tt.specs.Trees.Tree.{Forest, none}
 use Rattle.mbe_tt.specs.declared.tt.Delimiter.{Delimiter}
 use Rattle.mbe_renaming.specs.Naming.{words, locals, names_from, undecided_of}
 use Rattle.mbe_renaming.specs.Renaming.{written}
-use Rattle.mbe_renaming.specs.Shown.{step_of, word_of, naming_of}
+use Rattle.mbe_renaming.specs.Shown.{step_of, word_of, naming_of, nestings_of}
 use Rattle.mbe_renaming.specs.Sites.{start}
 use Rattle.mbe_renaming.specs.Steps.{steps}
 use Rattle.mbe_renaming.proofs.WrittenLemmas.{all_given, all_undecided, whole_written, built}
@@ -24,7 +24,7 @@ build-requires g c =
 
 pub returns-clause-tree : goal.returns-clause-tree
 returns-clause-tree g c =
-    let ns = c.args.nestings.now in
+    let ns = nestings_of c.args.nestings in
     let x = c.in_ok-steps.ensures ∙ ap (steps start) (c.remaining.ensures ∙ c.iter.ensures) in
     let e = c.in_ok-builder.ensures
     ∙ ap (λ (k : Delimiter). let y : Delimiter × Forest = (k, none) in y ∷ []) c.top_subtree.ensures in
@@ -50,7 +50,7 @@ returns-clause-tree g c =
 
 pub returns-clause-undecided : goal.returns-clause-undecided
 returns-clause-undecided g c =
-    let ns = c.args.nestings.now in
+    let ns = nestings_of c.args.nestings in
     all_undecided c.args.names.now ns c.args.tree.now (map step_of c.in_ok-steps.steps.items)
     (map word_of c.in_ok-words.words.items) (map word_of c.in_ok-bound.bound.items) c.in_ok-places.places.items
     (c.in_ok-steps.ensures ∙ ap (steps start) (c.remaining.ensures ∙ c.iter.ensures))
