@@ -1,5 +1,5 @@
 // Which definition a call names.
-ghost use Rattle.std.specs.Prelude.{◌≡◌, ◌∷◌, [], length, IfOk, OnOk, option_map, false};
+ghost use Rattle.std.specs.Prelude.{◌≡◌, ◌&&◌, ◌∷◌, [], length, IfOk, OnOk, option_map, false};
 ghost use Rattle.std.specs.String.{string_bytes};
 ghost use Rattle.std.specs.List.{list_any, slice_get};
 ghost use Rattle.mbe_tt.specs.Views.View.{trees};
@@ -382,6 +382,14 @@ impl<A: Allocator + Copy> Scope<A> {
         }
     }
 
+    // Whether that definition is one of these, has the name, and is found by what is asked for. Few have the name.
+    fn is_asked(&self, number: usize, name: &str, asked: Reach, among: Among<'_>) -> bool
+        ensures { result ≡ (spec.is_among (scope_of self.now).crates (among_shown among.entry) number
+            && is_found name.now asked (spec.definition_at (scope_of self.now) number)) }
+    {
+        self.is_found(number, name, asked) && self.is_among(number, among)
+    }
+
     // The number of the last definition of that name among those that is found by what is asked for.
     fn last_found(&self, name: &str, asked: Reach, among: Among<'_>) -> Option<usize>
         ensures { result ≡ spec.last_found (among_shown among.entry)
@@ -390,7 +398,7 @@ impl<A: Allocator + Copy> Scope<A> {
         let mut left = self.definitions.len();
         'numbers: while left > 0 {
             left -= 1;
-            if self.is_among(left, among) && self.is_found(left, name, asked) {
+            if self.is_asked(left, name, asked, among) {
                 return Some(left);
             }
         }
