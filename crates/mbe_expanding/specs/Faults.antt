@@ -1,5 +1,5 @@
--- What is wrong with definitions, and where that is said: of the file's own where they are, and of those of another crate
--- only where a call finds one.
+-- What is wrong with definitions, and where that is said: of the file's own where they are, and of those of another
+-- crate only where a call finds one.
 use Rattle.std.specs.Prelude.{ℕ, Bool, false, is_some, ◌++◌, codes, if◌then◌else◌, List, [], ◌∷◌, Option, Some, None, option_map, option_and_then}
 use Rattle.mbe_tt.specs.declared.span.Span.{Span}
 use Rattle.mbe_semantics.specs.Expansion.Error.{text_of_fault}

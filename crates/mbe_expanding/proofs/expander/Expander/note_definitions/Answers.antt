@@ -14,7 +14,8 @@ loop-number-preserved g c = (
   one_said (state_of c.args.self.now).scope c.loop-number.number (map note_seen c.loop-number.self.notes.items)
       (map note_seen c.note_definition.new.self.notes.items) _ c.loop-number.invariant.0
       (c.in_ok-note_definition.ensures.notes
-      ∙ ap (λ (s : State). map note_seen c.loop-number.self.notes.items ++ noted (fault_at s.scope c.loop-number.number))
+      ∙ ap (λ (s : State). map note_seen c.loop-number.self.notes.items
+      ++ noted (fault_at s.scope c.loop-number.number))
       c.loop-number.invariant.1),
   c.in_ok-note_definition.ensures.state ∙ c.loop-number.invariant.1,
   c.in_ok-note_definition.ensures.setting ∙ c.loop-number.invariant.2,
