@@ -30,6 +30,7 @@ kind_number (Some kinds.Ident) = 12
 kind_number (Some kinds.Tt) = 13
 kind_number (Some kinds.Lifetime) = 14
 kind_number (Some kinds.Literal) = 15
+kind_number (Some kinds.Adt) = 16
 
 abbrev pub repeat_number : RepeatKind → ℕ
 repeat_number ZeroOrMore = 0

@@ -29,6 +29,7 @@ fn kind_number(kind: Option<MetaVarKind>) -> u8
         Some(MetaVarKind::Tt) => 13,
         Some(MetaVarKind::Lifetime) => 14,
         Some(MetaVarKind::Literal) => 15,
+        Some(MetaVarKind::Adt) => 16,
     }
 }
 

@@ -29,6 +29,7 @@ pub enum MetaVarKind {
     Tt,
     Lifetime,
     Literal,
+    Adt,
 }
 
 /// What finds a fragment at the front of trees: the grammar, or the expander itself.
@@ -82,6 +83,7 @@ impl MetaVarKind {
             "block" => MetaVarKind::Block,
             "meta" => MetaVarKind::Meta,
             "item" => MetaVarKind::Item,
+            "adt" => MetaVarKind::Adt,
             "vis" => MetaVarKind::Vis,
             "expr_2021" => MetaVarKind::Expr(ExprKind::Expr2021),
             "lifetime" => MetaVarKind::Lifetime,
@@ -108,6 +110,7 @@ impl MetaVarKind {
             MetaVarKind::Tt => "tt",
             MetaVarKind::Lifetime => "lifetime",
             MetaVarKind::Literal => "literal",
+            MetaVarKind::Adt => "adt",
         }
     }
 
@@ -124,7 +127,7 @@ impl MetaVarKind {
             MetaVarKind::Stmt => Taker::Grammar(PrefixEntryPoint::Stmt),
             MetaVarKind::Block => Taker::Grammar(PrefixEntryPoint::Block),
             MetaVarKind::Meta => Taker::Grammar(PrefixEntryPoint::MetaItem),
-            MetaVarKind::Item => Taker::Grammar(PrefixEntryPoint::Item),
+            MetaVarKind::Item | MetaVarKind::Adt => Taker::Grammar(PrefixEntryPoint::Item),
             MetaVarKind::Vis => Taker::Grammar(PrefixEntryPoint::Vis),
             MetaVarKind::Expr(_) => Taker::Grammar(PrefixEntryPoint::Expr),
             MetaVarKind::Ident => Taker::Identifier,
@@ -139,9 +142,11 @@ impl MetaVarKind {
         ensures { result ≡ (facts self).missing }
     {
         match self {
-            MetaVarKind::Meta | MetaVarKind::Item | MetaVarKind::Tt | MetaVarKind::Vis => {
-                Missing::Nothing
-            }
+            MetaVarKind::Meta
+            | MetaVarKind::Item
+            | MetaVarKind::Adt
+            | MetaVarKind::Tt
+            | MetaVarKind::Vis => Missing::Nothing,
             MetaVarKind::Stmt => Missing::Semicolon,
             MetaVarKind::Block => Missing::Braces,
             MetaVarKind::Lifetime => Missing::Lifetime,
@@ -168,6 +173,7 @@ impl MetaVarKind {
             MetaVarKind::Block
             | MetaVarKind::Meta
             | MetaVarKind::Item
+            | MetaVarKind::Adt
             | MetaVarKind::Ident
             | MetaVarKind::Tt
             | MetaVarKind::Lifetime

@@ -370,6 +370,7 @@ static ENTRY_POINTS: [(&str, Edition, PrefixEntryPoint); 14] = [
     ("block", Edition::Edition2024, PrefixEntryPoint::Block),
     ("meta", Edition::Edition2024, PrefixEntryPoint::MetaItem),
     ("item", Edition::Edition2024, PrefixEntryPoint::Item),
+    ("adt", Edition::Edition2024, PrefixEntryPoint::Item),
     ("vis", Edition::Edition2024, PrefixEntryPoint::Vis),
 ];
 

@@ -46,6 +46,7 @@ facts kinds.Stmt = row (codes "stmt") (Grammar entries.Stmt) plain Semicolon Aft
 facts kinds.Block = row (codes "block") (Grammar entries.Block) plain Braces Anything
 facts kinds.Meta = row (codes "meta") (Grammar entries.MetaItem) plain Nothing Anything
 facts kinds.Item = row (codes "item") (Grammar entries.Item) plain Nothing Anything
+facts kinds.Adt = row (codes "adt") (Grammar entries.Item) plain Nothing Anything
 facts kinds.Vis = row (codes "vis") (Grammar entries.Vis) plain Nothing AfterVisibility
 facts (kinds.Expr kind) = row (codes "expr") (Grammar entries.Expr) as_expression Identifier AfterExpression
 facts kinds.Ident = row (codes "ident") takers.Identifier stripped Identifier Anything
@@ -79,7 +80,7 @@ abbrev pub kind_names : List (List ℕ × MetaVarKind)
 kind_names =
     (codes "path", kinds.Path) ∷ (codes "ty", kinds.Ty) ∷ (codes "pat_param", kinds.PatParam)
     ∷ (codes "stmt", kinds.Stmt)
-    ∷ (codes "block", kinds.Block) ∷ (codes "meta", kinds.Meta) ∷ (codes "item", kinds.Item) ∷ (codes "vis", kinds.Vis)
+    ∷ (codes "block", kinds.Block) ∷ (codes "meta", kinds.Meta) ∷ (codes "item", kinds.Item) ∷ (codes "adt", kinds.Adt) ∷ (codes "vis", kinds.Vis)
     ∷ (codes "expr_2021", kinds.Expr exprs.Expr2021) ∷ (codes "ident", kinds.Ident) ∷ (codes "tt", kinds.Tt)
     ∷ (codes "lifetime", kinds.Lifetime) ∷ (codes "literal", kinds.Literal) ∷ []
 
