@@ -1,4 +1,4 @@
-use Rattle.std.proofs.Common.{◌≡◌, ℕ, List, [], ◌∷◌, ◌++◌, map, option_map, Some, ap, sym, subst, ◌∙◌, append-nil, arith}
+use Rattle.std.proofs.Common.{◌≡◌, ℕ, List, ◌∷◌, ◌++◌, map, option_map, Some, ap, sym, subst, ◌∙◌, arith}
 use Rattle.std.specs.Prelude.{None, OnOk, IfSome}
 use Rattle.mbe_semantics.specs.Matching.Dots.{op_dots}
 use Rattle.mbe_semantics.specs.Syntax.Op.{no_ops}
@@ -28,7 +28,7 @@ pushed g t c inside e =
     (op-spots o ∙ ap (λ l. before o (op_dots o) ∷ l) (sym e))
 
 pub push_op-inside-requires : goal.push_op-inside-requires
-push_op-inside-requires g t c = counted g t (goal.at.push_op-inside-requires g t c).push_op-In_ok-push
+push_op-inside-requires g t c = counted g t (goal.at.push_op-inside-requires g t c).In_ok-push
 
 pub push_op-push_spots-requires : goal.push_op-push_spots-requires
 push_op-push_spots-requires g t c κs within =
@@ -83,15 +83,8 @@ push_op-returns-in-Some g t c =
     let seen : inside_of (op_of c.args.op.now) ≡ Some (ops_of here.ops.now, spot_seen here.end) =
     sym c.inside.ensures ∙ ap (option_map (λ p. (ops_of p.0.now, spot_seen p.1))) here.is in
     subst (λ v. OnOk c.push_spots.result (map spot_seen c.push_spots.new.all.items ≡ v))
-    (pushed g t (goal.at.push_op-returns-in-Some g t c).push_op-In_ok-push
+    (pushed g t (goal.at.push_op-returns-in-Some g t c).In_ok-push
     (spots (ops_of here.ops.now) (spot_seen here.end)) (ap spots_in (sym seen))) c.push_spots.ensures
-
-pub push_op-returns : goal.push_op-returns
-push_op-returns g t c =
-    let none : inside_of (op_of c.args.op.now) ≡ None =
-    sym c.inside.ensures ∙ ap (option_map (λ p. (ops_of p.0.now, spot_seen p.1))) c.in-None.is in
-    sym (append-nil (map spot_seen c.push.new.self.items))
-    ∙ pushed g t (goal.at.push_op-returns g t c).push_op-In_ok-push [] (ap spots_in (sym none))
 
 pub push_spots-returns : goal.push_spots-returns
 push_spots-returns g t c =
