@@ -23,7 +23,7 @@ module _ (room : ℕ) (at_start : Bool) (cs : List ℕ) (n c : ℕ) (here : (n <
   opened =
       at_drop_more (excerpt_in room at_start) cs n c here.0
       ∙ ap (λ x. if is_indent at_start x then excerpt_in room at_start (drop (n + 1) cs) else shown
-          (nat_lt room (columns x)) x)
+      (nat_lt room (columns x)) x)
       (sym here.1)
 
   pub passed_over : is_indent at_start c ≡ true

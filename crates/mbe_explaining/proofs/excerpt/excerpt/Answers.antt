@@ -25,9 +25,9 @@ loop-char-preserved-then-is_indent g c =
     let start = c.loop-char.at_start in
     let holds = sym c.is_indent.ensures ∙ c.if-is_indent.true in
     ap (λ k. string_bytes c.loop-char.shown ++ spec.excerpt_in room start (drop k (chars c.args.text.now)))
-        (length_push yielded char)
+    (length_push yielded char)
     ∙ (ap (λ r. string_bytes c.loop-char.shown ++ r)
-        (sym (passed_over room start (chars c.args.text.now) (length yielded) char turn holds))
+    (sym (passed_over room start (chars c.args.text.now) (length yielded) char turn holds))
     ∙ c.loop-char.invariant)
 
 pub returns-then-room-columns : goal.returns-then-room-columns
@@ -42,7 +42,7 @@ returns-then-room-columns g c =
     let full : room < spec.columns char = omega (arith, test, width) in
     c.in_ok-push.ensures.bytes
     ∙ (ap (λ r. string_bytes c.loop-char.shown ++ r)
-        (sym (no_room room c.loop-char.at_start (chars c.args.text.now) (length yielded) char turn stays full))
+    (sym (no_room room c.loop-char.at_start (chars c.args.text.now) (length yielded) char turn stays full))
     ∙ c.loop-char.invariant)
 
 pub loop-char-preserved : goal.loop-char-preserved
@@ -64,7 +64,7 @@ loop-char-preserved g c =
     ∙ (ap (λ b. b ++ rest) c.in_ok-push_in_line.ensures
     ∙ (append_assoc (string_bytes c.loop-char.shown) (spec.in_line char) rest
     ∙ (ap (λ r. string_bytes c.loop-char.shown ++ r)
-        (sym (one_more room c.loop-char.at_start (chars c.args.text.now) (length yielded) char turn stays fits))
+    (sym (one_more room c.loop-char.at_start (chars c.args.text.now) (length yielded) char turn stays fits))
     ∙ c.loop-char.invariant))))
 
 pub returns : goal.returns

@@ -42,7 +42,7 @@ trees-preserved-then-left-within g c =
     let test = c.if-left-within.true in
     let within : c.trees.left - 1 ≤ flat_len inside = omega (arith, len, test) in
     sym (span_inside c.trees.close c.trees.iter d inside c.trees.left (is_group g here) (some_left g here) within)
-        ∙ c.trees.invariant
+    ∙ c.trees.invariant
 
 pub trees-preserved : goal.trees-preserved
 trees-preserved g c =
@@ -55,7 +55,7 @@ trees-preserved g c =
     ap (λ f. span_at c.trees.close f (c.trees.left - 1 - (c.flat_len-within.result + 1))) c.in-Some.ensures.rest
     ∙ ap (λ n. span_at c.trees.close (rest_of c.trees.iter) (c.trees.left - 1 - (n + 1))) len
     ∙ sym (span_past c.trees.close c.trees.iter d inside c.trees.left (is_group g here) (some_left g here) past)
-        ∙ c.trees.invariant
+    ∙ c.trees.invariant
 
 pub returns : goal.returns
 returns g c = sym (span_none c.trees.close c.trees.iter c.trees.left (sym c.in_default.ensures.value))

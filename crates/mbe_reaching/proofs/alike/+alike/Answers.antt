@@ -24,7 +24,7 @@ is_like-returns-then-goes_round_alike g t c =
     let two = ap op_of here.is-1 ∙ view-open_repeat here.ts here.k here.s in
     repetitions_alike _ _ (ops_of here.tokens.0.items) (ops_of here.ts.0.items) _ _
     (option_map separator_seen here.separator) (option_map separator_seen here.s) here.kind here.k
-        c.goes_round_alike.result c.are_alike.result one two
+    c.goes_round_alike.result c.are_alike.result one two
     (ap ops_of c.deref.ensures.value) (ap ops_of c.deref-then-goes_round_alike.ensures.value) c.goes_round_alike.ensures
     c.if-goes_round_alike.true c.are_alike.ensures
 

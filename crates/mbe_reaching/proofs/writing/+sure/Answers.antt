@@ -12,7 +12,7 @@ is_sure-returns g t c =
     let holds : c.in_ok-is_sure_op.field-0 ≡ true = search rules in
     let bound = map bound_seen c.args.bound.now in
     let step = sure_first bound c.args.depth (op_of c.in-Some.op.now) (ops_of c.args.ops.now)
-        (ops_of c.in-Some.rest.now)
+    (ops_of c.in-Some.rest.now)
     c.in_ok-is_sure_op.field-0 (ap ops_of c.in-Some.ensures.cases.0) c.in_ok-is_sure_op.ensures holds in
     IfOk-weaker c.is_sure.result _ _ (λ sure h. h ∙ step) c.is_sure.ensures
 
