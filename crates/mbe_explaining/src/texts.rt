@@ -80,11 +80,7 @@ fn op_text<A: Allocator + Copy>(alloc: A, op: &Op<A>) -> Result<String<A>, Alloc
         Op::Ident(ident) => format!(in alloc; "`{ident}`"),
         Op::Punct(puncts) => puncts_quoted(alloc, puncts.as_slice()),
         Op::Repeat { .. } => Ok(String::new(alloc)),
-        Op::Ignore { .. }
-        | Op::Index { .. }
-        | Op::Len { .. }
-        | Op::Count { .. }
-        | Op::Concat { .. } => Ok(String::new(alloc)),
+        Op::Expression(_) => Ok(String::new(alloc)),
     }
 }
 
@@ -145,11 +141,7 @@ fn op_span<A: Allocator>(op: &Op<A>) -> Option<Span>
         Op::Ident(ident) => Some(ident.span),
         Op::Punct(puncts) => first_span(puncts.as_slice()),
         Op::Repeat { .. } => None,
-        Op::Ignore { .. }
-        | Op::Index { .. }
-        | Op::Len { .. }
-        | Op::Count { .. }
-        | Op::Concat { .. } => None,
+        Op::Expression(_) => None,
     }
 }
 

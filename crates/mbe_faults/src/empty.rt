@@ -43,11 +43,7 @@ fn op_reads_nothing<A: Allocator>(op: &Op<A>) -> bool
         Op::Var { kind, .. } => is_vis(*kind),
         Op::Repeat { tokens, kind, .. } => may_skip(*kind, reads_nothing(&tokens.0)),
         Op::Subtree { .. } | Op::Literal(_) | Op::Punct(_) | Op::Ident(_) => false,
-        Op::Ignore { .. }
-        | Op::Index { .. }
-        | Op::Len { .. }
-        | Op::Count { .. }
-        | Op::Concat { .. } => false,
+        Op::Expression(_) => false,
     }
 }
 

@@ -41,11 +41,7 @@ pub(crate) fn inner_of<'a, A: Allocator>(op: &'a Op<A>) -> Option<Inner<'a, A>>
             before: 2,
         }),
         Op::Var { .. } | Op::Literal(_) | Op::Ident(_) | Op::Punct(_) => None,
-        Op::Ignore { .. }
-        | Op::Index { .. }
-        | Op::Len { .. }
-        | Op::Count { .. }
-        | Op::Concat { .. } => None,
+        Op::Expression(_) => None,
     }
 }
 

@@ -89,11 +89,7 @@ fn look_at_op<A: Allocator>(op: &Op<A>) -> Look<'_>
         Op::Subtree { delimiter, .. } => Look::Opening(delimiter.kind),
         Op::Var { kind, .. } => Look::Fragment(*kind),
         Op::Repeat { .. } => Look::Other,
-        Op::Ignore { .. }
-        | Op::Index { .. }
-        | Op::Len { .. }
-        | Op::Count { .. }
-        | Op::Concat { .. } => Look::Other,
+        Op::Expression(_) => Look::Other,
     }
 }
 
@@ -336,11 +332,7 @@ fn push_firsts_of_op<'a, A: Allocator>(
         Op::Punct(_) => push_op(next, op),
         Op::Subtree { .. } => push_op(next, op),
         Op::Var { .. } => push_op(next, op),
-        Op::Ignore { .. }
-        | Op::Index { .. }
-        | Op::Len { .. }
-        | Op::Count { .. }
-        | Op::Concat { .. } => Ok(false),
+        Op::Expression(_) => Ok(false),
     }
 }
 
@@ -485,11 +477,7 @@ fn push_forbidden_in_op<'a, A: Allocator + Copy>(
             push_forbidden(alloc, found, &tokens.0, after.as_slice())
         }
         Op::Literal(_) | Op::Ident(_) | Op::Punct(_) => Ok(()),
-        Op::Ignore { .. }
-        | Op::Index { .. }
-        | Op::Len { .. }
-        | Op::Count { .. }
-        | Op::Concat { .. } => Ok(()),
+        Op::Expression(_) => Ok(()),
     }
 }
 

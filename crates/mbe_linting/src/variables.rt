@@ -1,10 +1,10 @@
 // The variables of a pattern, and their uses in a template.
 ghost use Rattle.std.specs.Prelude.{◌≡◌, ◌+◌, ◌++◌, [], ◌∷◌, map, Some, None, OnOk, IfOk};
-ghost use Rattle.mbe_ops.specs.Views.{op_of, ops_of, elements_seen, template_of};
+ghost use Rattle.mbe_ops.specs.Views.{op_of, ops_of, elements_seen, expression_seen, template_of};
 ghost use Rattle.mbe_linting.specs.Variables as spec;
 ghost use Rattle.mbe_linting.specs.Variables.{bound_seen, used_seen};
 
-use mbe_ops::ops::{ConcatMetaVarExprElem, MetaTemplate, Op};
+use mbe_ops::ops::{ConcatMetaVarExprElem, Expression, MetaTemplate, Op};
 use mbe_semantics::kinds::MetaVarKind;
 use mbe_tt::span::Span;
 use std::alloc::{AllocError, Allocator};
@@ -80,11 +80,7 @@ fn push_bound_op<'a, A: Allocator>(
             push_bound(bound, &tokens.0, deeper)
         }
         Op::Literal(_) | Op::Punct(_) | Op::Ident(_) => Ok(()),
-        Op::Ignore { .. }
-        | Op::Index { .. }
-        | Op::Len { .. }
-        | Op::Count { .. }
-        | Op::Concat { .. } => Ok(()),
+        Op::Expression(_) => Ok(()),
     }
 }
 
@@ -128,6 +124,25 @@ fn push_unwritten<'a, A: Allocator>(
     Ok(())
 }
 
+fn push_used_expression<'a, A: Allocator>(
+    used: &mut Vec<Used<'a>, A>,
+    expression: &'a Expression<A>,
+    depth: usize,
+) -> Result<(), AllocError>
+    ensures { OnOk result (map used_seen used.new.items ≡ map used_seen used.old.items
+        ++ spec.used_in_expression depth (expression_seen expression.now)) }
+{
+    match expression {
+        Expression::Ignore { name, .. } | Expression::Count { name, .. } => {
+            push_unwritten(used, name.as_str(), depth)
+        }
+        Expression::Concat { elements, .. } => {
+            push_used_elements(used, elements.as_slice(), depth)
+        }
+        Expression::Index { .. } | Expression::Len { .. } => Ok(()),
+    }
+}
+
 #[cycle(used)]
 fn push_used<'a, A: Allocator>(
     used: &mut Vec<Used<'a>, A>,
@@ -164,16 +179,12 @@ fn push_used_op<'a, A: Allocator>(
             })?;
             Ok(())
         }
-        Op::Ignore { name, .. } | Op::Count { name, .. } => {
-            push_unwritten(used, name.as_str(), depth)
-        }
-        Op::Concat { elements, .. } => push_used_elements(used, elements.as_slice(), depth),
+        Op::Expression(expression) => push_used_expression(used, expression, depth),
         Op::Subtree { tokens, .. } => push_used(used, &tokens.0, depth),
         Op::Repeat { tokens, .. } => {
             let deeper = one_deeper(depth)?;
             push_used(used, &tokens.0, deeper)
         }
-        Op::Index { .. } | Op::Len { .. } => Ok(()),
         Op::Literal(_) | Op::Punct(_) | Op::Ident(_) => Ok(()),
     }
 }

@@ -238,11 +238,7 @@ fn op_part<A: Allocator + Copy>(
         Op::Ident(_) => described(alloc, Wanted::Op(op)),
         Op::Punct(_) => described(alloc, Wanted::Op(op)),
         Op::Repeat { .. } => described(alloc, Wanted::Op(op)),
-        Op::Ignore { .. }
-        | Op::Index { .. }
-        | Op::Len { .. }
-        | Op::Count { .. }
-        | Op::Concat { .. } => described(alloc, Wanted::Op(op)),
+        Op::Expression(_) => described(alloc, Wanted::Op(op)),
     }
 }
 

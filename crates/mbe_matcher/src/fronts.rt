@@ -43,11 +43,7 @@ pub fn token_width<A: Allocator>(op: &Op<A>, src: &TtIter<'_, A>) -> Option<usiz
         Op::Ident(ident) => ident_width(ident, src),
         Op::Punct(puncts) => puncts_width(puncts.as_slice(), src),
         Op::Var { .. } | Op::Subtree { .. } | Op::Repeat { .. } => None,
-        Op::Ignore { .. }
-        | Op::Index { .. }
-        | Op::Len { .. }
-        | Op::Count { .. }
-        | Op::Concat { .. } => None,
+        Op::Expression(_) => None,
     }
 }
 

@@ -67,11 +67,7 @@ fn skip_op<A: Allocator + Copy>(
         Op::Subtree { tokens, .. } => skip_ops(log, &tokens.0, handle),
         Op::Repeat { tokens, .. } => skip_ops(log, &tokens.0, handle),
         Op::Literal(_) | Op::Ident(_) | Op::Punct(_) => Ok(0),
-        Op::Ignore { .. }
-        | Op::Index { .. }
-        | Op::Len { .. }
-        | Op::Count { .. }
-        | Op::Concat { .. } => Ok(0),
+        Op::Expression(_) => Ok(0),
     }
 }
 
@@ -100,10 +96,6 @@ pub fn op_dots_of<A: Allocator>(op: &Op<A>) -> Option<usize>
         Op::Subtree { tokens, .. } => dots_of(&tokens.0),
         Op::Repeat { tokens, .. } => dots_of(&tokens.0),
         Op::Var { .. } | Op::Literal(_) | Op::Ident(_) | Op::Punct(_) => Some(0),
-        Op::Ignore { .. }
-        | Op::Index { .. }
-        | Op::Len { .. }
-        | Op::Count { .. }
-        | Op::Concat { .. } => Some(0),
+        Op::Expression(_) => Some(0),
     }
 }

@@ -75,11 +75,7 @@ fn op_steps<'a, A: Allocator + Copy, G: FragmentGrammar>(
         }
         Op::Literal(_) | Op::Ident(_) | Op::Punct(_) => Ok(plain_steps(source, op, rest, position)),
         // No metavariable expression is in a pattern.
-        Op::Ignore { .. }
-        | Op::Index { .. }
-        | Op::Len { .. }
-        | Op::Count { .. }
-        | Op::Concat { .. } => { Ok(plain_steps(source, op, rest, position)) }
+        Op::Expression(_) => { Ok(plain_steps(source, op, rest, position)) }
     }
 }
 

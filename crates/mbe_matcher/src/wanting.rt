@@ -87,11 +87,7 @@ pub fn op_next<A: Allocator>(op: &Op<A>) -> Option<Wanted<'_, A>>
         Op::Var { .. } | Op::Subtree { .. } => Some(Wanted::Op(op)),
         Op::Literal(_) | Op::Ident(_) | Op::Punct(_) => Some(Wanted::Op(op)),
         Op::Repeat { .. } => None,
-        Op::Ignore { .. }
-        | Op::Index { .. }
-        | Op::Len { .. }
-        | Op::Count { .. }
-        | Op::Concat { .. } => None,
+        Op::Expression(_) => None,
     }
 }
 

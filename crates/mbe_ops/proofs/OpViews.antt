@@ -11,36 +11,21 @@ use Rattle.mbe_semantics.specs.declared.kinds.MetaVarKind.{MetaVarKind}
 use Rattle.mbe_ops.specs.declared.ops.MetaTemplate.{MetaTemplate, roll-MetaTemplate}
 use Rattle.mbe_semantics.specs.declared.kinds.RepeatKind.{RepeatKind}
 use Rattle.mbe_ops.specs.declared.ops.Separator.{Separator}
-use Rattle.mbe_ops.specs.declared.ops.ConcatMetaVarExprElem.{ConcatMetaVarExprElem}
-use Rattle.mbe_ops.specs.declared.ops.Op.{Op, Var, Ignore, Index, Len, Count, Concat, Repeat, Subtree, Literal, Punct, Ident, the_lemmas}
+use Rattle.mbe_ops.specs.declared.ops.Expression.{Expression}
+use Rattle.mbe_ops.specs.declared.ops.Op.{Op, Var, Repeat, Subtree, Literal, Punct, Ident, the_lemmas}
 use Rattle.mbe_ops.specs.declared.ops.Op as code
 use Rattle.mbe_ops.specs.declared.ops.Op.TheOpen.{MetaTemplate-F}
 use Rattle.mbe_ops.specs.declared.ops.Op.TheViews as views_of
 use Rattle.mbe_semantics.specs.Syntax.Op as ops
 use Rattle.mbe_semantics.specs.Syntax.Op.{token, group, variable, repetition, expression, literal, ident, puncts}
-use Rattle.mbe_ops.specs.Views.{op_of, ops_of, template_of, separator_seen, element_seen}
+use Rattle.mbe_ops.specs.Views.{op_of, ops_of, template_of, separator_seen, expression_seen}
 
 pub view-var : (A : Type 0) (name : List ℕ) (kind : Option MetaVarKind) (id : Span)
     → op_of {A = A} (Var name kind id) ≡ variable name kind id
 view-var A name kind id = search (rules, the_lemmas)
 
-pub view-ignore : (A : Type 0) (name : List ℕ) (id : Span)
-    → op_of {A = A} (Ignore name id) ≡ expression (ops.ignore name id)
-view-ignore A name id = search (rules, the_lemmas)
-
-pub view-index : (A : Type 0) (depth : ℕ) → op_of {A = A} (Index depth) ≡ expression (ops.index depth)
-view-index A depth = search (rules, the_lemmas)
-
-pub view-len : (A : Type 0) (depth : ℕ) → op_of {A = A} (Len depth) ≡ expression (ops.len depth)
-view-len A depth = search (rules, the_lemmas)
-
-pub view-count : (A : Type 0) (name : List ℕ) (depth : ℕ)
-    → op_of {A = A} (Count name depth) ≡ expression (ops.count name depth)
-view-count A name depth = search (rules, the_lemmas)
-
-pub view-concat : {A : Type 0} (es : Vec (ConcatMetaVarExprElem A) A) (span : Span)
-    → op_of (Concat es span) ≡ expression (ops.concat (map element_seen es.items) span)
-view-concat es span = search (rules, the_lemmas)
+pub view-expression : {A : Type 0} (e : Expression A) → op_of (code.Expression e) ≡ expression (expression_seen e)
+view-expression e = search (rules, the_lemmas)
 
 pub view-repeat : {A : Type 0} (t : MetaTemplate A) (kind : RepeatKind) (s : Option (Separator A))
     → op_of (Repeat t kind s) ≡ repetition (template_of t) (option_map separator_seen s) kind
@@ -64,11 +49,7 @@ view-template v = search (rules, the_lemmas)
 
 pub ruleset views = (
   view-var,
-  view-ignore,
-  view-index,
-  view-len,
-  view-count,
-  view-concat,
+  view-expression,
   view-repeat,
   view-subtree,
   view-literal,

@@ -10,8 +10,9 @@ use Rattle.mbe_ops.specs.declared.ops.Op.TheOpen.{Op-F}
 use Rattle.mbe_ops.specs.declared.ops.MetaTemplate.{MetaTemplate, out-MetaTemplate}
 use Rattle.mbe_ops.specs.declared.ops.Separator as between
 use Rattle.mbe_ops.specs.declared.ops.ConcatMetaVarExprElem as part
+use Rattle.mbe_ops.specs.declared.ops.Expression as between_braces
 use Rattle.mbe_semantics.specs.Syntax.Op as ops
-use Rattle.mbe_semantics.specs.Syntax.Op.{Op, Ops, no_ops, op, token, group, variable, repetition, expression, literal, ident, puncts, Separator, Element}
+use Rattle.mbe_semantics.specs.Syntax.Op.{Op, Ops, no_ops, op, token, group, variable, repetition, expression, literal, ident, puncts, Separator, Element, Expression}
 
 abbrev pub all_of : List Op → Ops
 all_of [] = no_ops
@@ -31,14 +32,17 @@ element_seen (part.TheVariants.Literal l) = ops.literal_element (literal_of l)
 abbrev pub elements_seen : {A : Type 0} → List (part.ConcatMetaVarExprElem A) → List Element
 elements_seen es = map element_seen es
 
+abbrev pub expression_seen : {A : Type 0} → between_braces.Expression A → Expression
+expression_seen (between_braces.TheVariants.Ignore name id) = ops.ignore name id
+expression_seen (between_braces.TheVariants.Index depth) = ops.index depth
+expression_seen (between_braces.TheVariants.Len depth) = ops.len depth
+expression_seen (between_braces.TheVariants.Count name depth) = ops.count name depth
+expression_seen (between_braces.TheVariants.Concat elements span) = ops.concat (map element_seen elements.items) span
+
 -- one level, with the ops inside already seen
 abbrev pub op_step : {A : Type 0} → Op-F A Op Ops → Op
 op_step (Op-F.Var name kind id) = variable name kind id
-op_step (Op-F.Ignore name id) = expression (ops.ignore name id)
-op_step (Op-F.Index depth) = expression (ops.index depth)
-op_step (Op-F.Len depth) = expression (ops.len depth)
-op_step (Op-F.Count name depth) = expression (ops.count name depth)
-op_step (Op-F.Concat elements span) = expression (ops.concat (map element_seen elements.items) span)
+op_step (Op-F.Expression e) = expression (expression_seen e)
 op_step (Op-F.Repeat tokens kind separator) = repetition tokens (option_map separator_seen separator) kind
 op_step (Op-F.Subtree tokens delimiter) = group delimiter tokens
 op_step (Op-F.Literal l) = token (literal (literal_of l))

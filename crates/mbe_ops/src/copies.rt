@@ -1,9 +1,9 @@
 // Copies of patterns and templates.
 ghost use Rattle.std.specs.Prelude.{◌≡◌, IfOk, option_map};
-ghost use Rattle.mbe_ops.specs.Views.{separator_seen, elements_seen, op_of, ops_of, template_of};
+ghost use Rattle.mbe_ops.specs.Views.{separator_seen, elements_seen, expression_seen, op_of, ops_of, template_of};
 
 use crate::held::Between;
-use crate::ops::{ConcatMetaVarExprElem, MetaTemplate, Op, Separator};
+use crate::ops::{ConcatMetaVarExprElem, Expression, MetaTemplate, Op, Separator};
 use arrayvec::ArrayVec;
 use mbe_tt::tt::Punct;
 use std::alloc::{AllocError, Allocator};
@@ -40,20 +40,7 @@ fn copied_op<A: Allocator + Copy>(alloc: A, op: &Op<A>) -> Result<Op<A>, AllocEr
             kind: *kind,
             id: *id,
         }),
-        Op::Ignore { name, id } => Ok(Op::Ignore {
-            name: name.clone()?,
-            id: *id,
-        }),
-        Op::Index { depth } => Ok(Op::Index { depth: *depth }),
-        Op::Len { depth } => Ok(Op::Len { depth: *depth }),
-        Op::Count { name, depth } => Ok(Op::Count {
-            name: name.clone()?,
-            depth: *depth,
-        }),
-        Op::Concat { elements, span } => Ok(Op::Concat {
-            elements: copied_elements(elements)?,
-            span: *span,
-        }),
+        Op::Expression(expression) => Ok(Op::Expression(copied_expression(expression)?)),
         Op::Repeat {
             tokens,
             kind,
@@ -70,6 +57,29 @@ fn copied_op<A: Allocator + Copy>(alloc: A, op: &Op<A>) -> Result<Op<A>, AllocEr
         Op::Literal(literal) => Ok(Op::Literal(literal.clone()?)),
         Op::Punct(puncts) => Ok(Op::Punct(puncts.try_clone(alloc)?)),
         Op::Ident(ident) => Ok(Op::Ident(ident.clone()?)),
+    }
+}
+
+fn copied_expression<A: Allocator + Copy>(
+    expression: &Expression<A>,
+) -> Result<Expression<A>, AllocError>
+    ensures { IfOk result (λ copy. expression_seen copy ≡ expression_seen expression.now) }
+{
+    match expression {
+        Expression::Ignore { name, id } => Ok(Expression::Ignore {
+            name: name.clone()?,
+            id: *id,
+        }),
+        Expression::Index { depth } => Ok(Expression::Index { depth: *depth }),
+        Expression::Len { depth } => Ok(Expression::Len { depth: *depth }),
+        Expression::Count { name, depth } => Ok(Expression::Count {
+            name: name.clone()?,
+            depth: *depth,
+        }),
+        Expression::Concat { elements, span } => Ok(Expression::Concat {
+            elements: copied_elements(elements)?,
+            span: *span,
+        }),
     }
 }
 

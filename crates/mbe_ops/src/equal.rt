@@ -2,10 +2,10 @@
 ghost use Rattle.std.specs.Prelude.{◌≡◌, ◌↔◌, IsTrue, option_map};
 ghost use Rattle.mbe_tt.specs.Views.Shown.{ident_of, literal_of};
 ghost use Rattle.mbe_ops.specs.Equality.{IsSameBetween, IsSameOp, AreSameOps};
-ghost use Rattle.mbe_ops.specs.Views.{separator_seen, element_seen, elements_seen, op_of, ops_of, template_of};
+ghost use Rattle.mbe_ops.specs.Views.{separator_seen, element_seen, elements_seen, expression_seen, op_of, ops_of, template_of};
 
 use crate::held::Between;
-use crate::ops::{ConcatMetaVarExprElem, MetaTemplate, Op, same_separator};
+use crate::ops::{ConcatMetaVarExprElem, Expression, MetaTemplate, Op, same_separator};
 use mbe_semantics::kinds::RepeatKind;
 use mbe_tt::tt::{Delimiter, Ident, Literal, Punct};
 use std::alloc::Allocator;
@@ -48,17 +48,7 @@ fn same_op<A: Allocator>(one: &Op<A>, two: &Op<A>) -> bool
                 id: i,
             },
         ) => name == n && kind == k && id == i,
-        (Op::Ignore { name, id }, Op::Ignore { name: n, id: i }) => name == n && id == i,
-        (Op::Index { depth }, Op::Index { depth: d }) => depth == d,
-        (Op::Len { depth }, Op::Len { depth: d }) => depth == d,
-        (Op::Count { name, depth }, Op::Count { name: n, depth: d }) => name == n && depth == d,
-        (
-            Op::Concat { elements, span },
-            Op::Concat {
-                elements: es,
-                span: s,
-            },
-        ) => same_elements(elements, es) && span == s,
+        (Op::Expression(one), Op::Expression(two)) => same_expression(one, two),
         (
             Op::Repeat {
                 tokens,
@@ -81,6 +71,29 @@ fn same_op<A: Allocator>(one: &Op<A>, two: &Op<A>) -> bool
         (Op::Literal(one), Op::Literal(two)) => same_literal(one, two),
         (Op::Punct(one), Op::Punct(two)) => same_puncts(one.as_slice(), two.as_slice()),
         (Op::Ident(one), Op::Ident(two)) => same_ident(one, two),
+        _ => false,
+    }
+}
+
+fn same_expression<A: Allocator>(one: &Expression<A>, two: &Expression<A>) -> bool
+    ensures { IsTrue result ↔ (expression_seen one.now ≡ expression_seen two.now) }
+{
+    match (one, two) {
+        (Expression::Ignore { name, id }, Expression::Ignore { name: n, id: i }) => {
+            name == n && id == i
+        }
+        (Expression::Index { depth }, Expression::Index { depth: d }) => depth == d,
+        (Expression::Len { depth }, Expression::Len { depth: d }) => depth == d,
+        (Expression::Count { name, depth }, Expression::Count { name: n, depth: d }) => {
+            name == n && depth == d
+        }
+        (
+            Expression::Concat { elements, span },
+            Expression::Concat {
+                elements: es,
+                span: s,
+            },
+        ) => same_elements(elements, es) && span == s,
         _ => false,
     }
 }

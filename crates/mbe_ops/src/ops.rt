@@ -82,22 +82,10 @@ pub enum ConcatMetaVarExprElem<A: Allocator = Global> {
     Literal(Literal<A>),
 }
 
-/// A pattern or a template.
-#[cycle(ops)]
+/// What is between the braces of `${..}`.
 #[derive(Drop)]
 #[derive_where(Debug)]
-pub struct MetaTemplate<A: Allocator = Global>(pub Vec<Op<A>, A>);
-
-/// What a pattern or a template is made of.
-#[cycle(ops)]
-#[derive(Drop)]
-#[derive_where(Debug)]
-pub enum Op<A: Allocator = Global> {
-    Var {
-        name: Symbol<A>,
-        kind: Option<MetaVarKind>,
-        id: Span,
-    },
+pub enum Expression<A: Allocator = Global> {
     Ignore {
         name: Symbol<A>,
         id: Span,
@@ -116,6 +104,26 @@ pub enum Op<A: Allocator = Global> {
         elements: Vec<ConcatMetaVarExprElem<A>, A>,
         span: Span,
     },
+}
+
+/// A pattern or a template.
+#[cycle(ops)]
+#[derive(Drop)]
+#[derive_where(Debug)]
+pub struct MetaTemplate<A: Allocator = Global>(pub Vec<Op<A>, A>);
+
+/// What a pattern or a template is made of.
+#[cycle(ops)]
+#[derive(Drop)]
+#[derive_where(Debug)]
+pub enum Op<A: Allocator = Global> {
+    Var {
+        name: Symbol<A>,
+        kind: Option<MetaVarKind>,
+        id: Span,
+    },
+    /// In a template alone.
+    Expression(Expression<A>),
     Repeat {
         tokens: MetaTemplate<A>,
         kind: RepeatKind,

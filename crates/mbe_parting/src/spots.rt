@@ -69,11 +69,7 @@ fn inside<A: Allocator>(op: &Op<A>, dots: usize) -> Option<(&[Op<A>], Spot<'_, A
             Some((&tokens.0, end))
         }
         Op::Var { .. } | Op::Literal(_) | Op::Ident(_) | Op::Punct(_) => None,
-        Op::Ignore { .. }
-        | Op::Index { .. }
-        | Op::Len { .. }
-        | Op::Count { .. }
-        | Op::Concat { .. } => None,
+        Op::Expression(_) => None,
     }
 }
 

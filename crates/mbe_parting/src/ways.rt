@@ -151,11 +151,7 @@ fn op_ways<'a, A: Allocator, G: FragmentGrammar>(
         Op::Literal(_) | Op::Ident(_) | Op::Punct(_) => {
             Ok(only(over(front, token_width(op, &source.here()))))
         }
-        Op::Ignore { .. }
-        | Op::Index { .. }
-        | Op::Len { .. }
-        | Op::Count { .. }
-        | Op::Concat { .. } => Ok(only(None)),
+        Op::Expression(_) => Ok(only(None)),
     }
 }
 

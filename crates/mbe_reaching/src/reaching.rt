@@ -41,11 +41,7 @@ fn is_tree<A: Allocator>(op: &Op<A>) -> bool
         Op::Var { kind, .. } => is_tt(*kind),
         Op::Subtree { .. } | Op::Repeat { .. } => false,
         Op::Literal(_) | Op::Punct(_) | Op::Ident(_) => false,
-        Op::Ignore { .. }
-        | Op::Index { .. }
-        | Op::Len { .. }
-        | Op::Count { .. }
-        | Op::Concat { .. } => false,
+        Op::Expression(_) => false,
     }
 }
 
@@ -90,11 +86,7 @@ fn are_trees<A: Allocator>(op: &Op<A>) -> bool
         } => is_list(separator, *kind) && is_some_tree(only_op(&tokens.0)),
         Op::Var { .. } | Op::Subtree { .. } => false,
         Op::Literal(_) | Op::Punct(_) | Op::Ident(_) => false,
-        Op::Ignore { .. }
-        | Op::Index { .. }
-        | Op::Len { .. }
-        | Op::Count { .. }
-        | Op::Concat { .. } => false,
+        Op::Expression(_) => false,
     }
 }
 

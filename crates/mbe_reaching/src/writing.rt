@@ -56,11 +56,7 @@ fn has_rounds_op<A: Allocator>(bound: &[Bound<'_>], depth: usize, op: &Op<A>) ->
         Op::Subtree { tokens, .. } => has_rounds(bound, depth, &tokens.0),
         Op::Repeat { tokens, .. } => has_rounds(bound, depth, &tokens.0),
         Op::Literal(_) | Op::Punct(_) | Op::Ident(_) => false,
-        Op::Ignore { .. }
-        | Op::Index { .. }
-        | Op::Len { .. }
-        | Op::Count { .. }
-        | Op::Concat { .. } => false,
+        Op::Expression(_) => false,
     }
 }
 
@@ -107,11 +103,7 @@ fn is_sure_op<A: Allocator>(
             is_sure(bound, deeper, &tokens.0)
         }
         Op::Literal(_) | Op::Punct(_) | Op::Ident(_) => Ok(true),
-        Op::Ignore { .. }
-        | Op::Index { .. }
-        | Op::Len { .. }
-        | Op::Count { .. }
-        | Op::Concat { .. } => Ok(false),
+        Op::Expression(_) => Ok(false),
     }
 }
 

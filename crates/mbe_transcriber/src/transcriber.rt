@@ -10,11 +10,12 @@ ghost use Rattle.mbe_tt.specs.Views.Shown.{literal_of, ident_of};
 ghost use Rattle.mbe_tt.specs.Trees.Top.{top_group};
 ghost use Rattle.mbe_errors.specs.ErrorViews.{errors_of};
 ghost use Rattle.mbe_semantics.specs.Laws.Marking.{MayMark};
+ghost use Rattle.mbe_semantics.specs.Syntax.Op as ops;
 ghost use Rattle.mbe_semantics.specs.Syntax.Op.{group, repetition, lifetime_separator};
 ghost use Rattle.mbe_semantics.specs.Writing.Substitution.{IsSubstitution, faults, op_faults};
 ghost use Rattle.mbe_semantics.specs.Writing.Substitution.{variable_faults, separator_trees};
 ghost use Rattle.mbe_semantics.specs.Writing.Substitution.{integer, punct_trees};
-ghost use Rattle.mbe_ops.specs.Views.{op_of, ops_of, template_of, separator_seen};
+ghost use Rattle.mbe_ops.specs.Views.{op_of, ops_of, template_of, separator_seen, expression_seen};
 ghost use Rattle.mbe_log.specs.BindingViews.{bound_by};
 ghost use Rattle.mbe_transcriber.specs.Writing.{AreMarked, IsMarkedLiteral, IsMarkedIdent};
 ghost use Rattle.mbe_variables.specs.Fragments.{Appends};
@@ -30,7 +31,7 @@ mod expressions;
 use crate::transcriber::expressions::{find_ignored, write_concat, write_count, write_number};
 use mbe_errors::value_result::{ExpandResult, ValueResult};
 use mbe_log::bindings::Bindings;
-use mbe_ops::ops::{MetaTemplate, Op, Separator};
+use mbe_ops::ops::{Expression, MetaTemplate, Op, Separator};
 use mbe_semantics::kinds::RepeatKind;
 use mbe_semantics::rounds::Level;
 use mbe_tt::grammar::FragmentGrammar;
@@ -155,11 +156,44 @@ fn expand_op<'t, A: Allocator + Copy, G: FragmentGrammar, M: Fn(Span) -> Span + 
             separator,
         } => expand_repeat(ctx, &tokens.0, *kind, separator.as_ref(), path, builder),
         Op::Var { name, id, .. } => write_var(ctx, name, *id, path, builder),
-        Op::Ignore { name, id } => Ok(find_ignored(ctx.bindings, name, *id, path)),
-        Op::Index { depth } => write_at_call(ctx, index_at(path, *depth), builder).and(Ok(None)),
-        Op::Len { depth } => write_at_call(ctx, rounds_at(path, *depth), builder).and(Ok(None)),
-        Op::Count { name, depth } => write_count(ctx, name, *depth, path, builder),
-        Op::Concat { elements, span } => { write_concat(ctx, elements, *span, path, builder) }
+        Op::Expression(expression) => write_expression(ctx, expression, path, builder),
+    }
+}
+
+fn write_expression<'t, A: Allocator + Copy, G: FragmentGrammar, M: Fn(Span) -> Span + Copy>(
+    ctx: &ExpandCtx<'_, '_, A, G, M>,
+    expression: &'t Expression<A>,
+    path: &[Level],
+    builder: &mut TopSubtreeBuilder<A>,
+) -> Result<Option<WritingFault<'t, A>>, AllocError>
+    requires marks { MayMark (M.pre ctx.now.marker) }
+    requires some_group { 0 < length builder.old }
+    ensures wrote { IfOk result (λ fault. Wrote (is_some fault)
+        (op_faults (bound_by ctx.now.bindings.now) path.now
+        (ops.expression (expression_seen expression.now)))
+        (IsWritten (G.grammar ctx.now.grammar.now) (M.post ctx.now.marker) ctx.now.call_site
+        (bound_by ctx.now.bindings.now) path.now
+        (ops.expression (expression_seen expression.now))) builder.old builder.new) }
+    ensures first { IfOk result (λ fault. option_map error_of_fault fault
+        ≡ op_fault ctx.now.call_site (bound_by ctx.now.bindings.now) path.now
+        (ops.expression (expression_seen expression.now))) }
+    ensures left { IfOk result (λ _. Appends
+        (IsLeft (G.grammar ctx.now.grammar.now) (M.post ctx.now.marker) ctx.now.call_site
+        (bound_by ctx.now.bindings.now) path.now
+        (ops.expression (expression_seen expression.now))) builder.old builder.new) }
+{
+    match expression {
+        Expression::Ignore { name, id } => Ok(find_ignored(ctx.bindings, name, *id, path)),
+        Expression::Index { depth } => {
+            write_at_call(ctx, index_at(path, *depth), builder).and(Ok(None))
+        }
+        Expression::Len { depth } => {
+            write_at_call(ctx, rounds_at(path, *depth), builder).and(Ok(None))
+        }
+        Expression::Count { name, depth } => write_count(ctx, name, *depth, path, builder),
+        Expression::Concat { elements, span } => {
+            write_concat(ctx, elements, *span, path, builder)
+        }
     }
 }
 

@@ -6,19 +6,19 @@ ghost use Rattle.mbe_variables.specs.Counting.{shortest, shorter, extent_seen, u
 ghost use Rattle.mbe_variables.specs.Counting.{simple_value};
 ghost use Rattle.mbe_variables.specs.FaultViews.{kind_of_fault, error_of_fault};
 ghost use Rattle.mbe_variables.specs.Lost.{at, lost, simple_fault, extent_fault};
-ghost use Rattle.mbe_semantics.specs.Syntax.Op.{uses_of, uses_of_op, uses_of_elements};
+ghost use Rattle.mbe_semantics.specs.Syntax.Op.{uses_of, uses_of_op, uses_of_elements, uses_of_expression};
 ghost use Rattle.mbe_semantics.specs.Writing.Rounds as spec;
 ghost use Rattle.mbe_semantics.specs.Writing.Rounds.{follow, reach, kept, finite, level_at};
 ghost use Rattle.mbe_semantics.specs.Writing.Rounds.{rounds_of, value_total, totals};
 ghost use Rattle.mbe_semantics.specs.Writing.Substitution.{is_simple, extent_faults, index_of};
 ghost use Rattle.mbe_semantics.specs.Writing.Substitution.{rounds_in};
 ghost use Rattle.mbe_log.specs.BindingViews.{bound_by, value_seen, values_seen};
-ghost use Rattle.mbe_ops.specs.Views.{op_of, ops_of, elements_seen};
+ghost use Rattle.mbe_ops.specs.Views.{op_of, ops_of, elements_seen, expression_seen};
 
 use crate::fault::{FaultKind, WritingFault};
 use mbe_log::bindings::{Binding, Bindings};
 use mbe_log::fragment::Fragment;
-use mbe_ops::ops::{ConcatMetaVarExprElem, Op};
+use mbe_ops::ops::{ConcatMetaVarExprElem, Expression, Op};
 use mbe_ops::walk::{OpDelimited, OpDelimitedIter};
 use mbe_semantics::kinds::{MetaVarKind, RepeatKind};
 use mbe_semantics::rounds::Level;
@@ -260,14 +260,28 @@ fn shortest_of_op<A: Allocator>(
         (uses_of_op (op_of op.now))) }
 {
     match op {
-        Op::Literal(_) | Op::Ident(_) | Op::Punct(_) | Op::Index { .. } | Op::Len { .. } => None,
-        Op::Var { name, .. } | Op::Ignore { name, .. } => {
-            extent_under(bindings, path, Want::Fragment, name)
-        }
-        Op::Count { name, .. } => extent_under(bindings, path, Want::Number, name),
-        Op::Concat { elements, .. } => shortest_of_elements(bindings, path, elements),
+        Op::Literal(_) | Op::Ident(_) | Op::Punct(_) => None,
+        Op::Var { name, .. } => extent_under(bindings, path, Want::Fragment, name),
+        Op::Expression(expression) => shortest_of_expression(bindings, path, expression),
         Op::Subtree { tokens, .. } => shortest(bindings, path, &tokens.0),
         Op::Repeat { tokens, .. } => shortest(bindings, path, &tokens.0),
+    }
+}
+
+fn shortest_of_expression<A: Allocator>(
+    bindings: &Bindings<'_, A>,
+    path: &[Level],
+    expression: &Expression<A>,
+) -> Option<Extent>
+    ensures { option_map extent_seen result
+        ≡ shortest (filter_map (spec.extent_under (bound_by bindings.now) path.now)
+        (uses_of_expression (expression_seen expression.now))) }
+{
+    match expression {
+        Expression::Index { .. } | Expression::Len { .. } => None,
+        Expression::Ignore { name, .. } => extent_under(bindings, path, Want::Fragment, name),
+        Expression::Count { name, .. } => extent_under(bindings, path, Want::Number, name),
+        Expression::Concat { elements, .. } => shortest_of_elements(bindings, path, elements),
     }
 }
 

@@ -6,10 +6,10 @@ ghost use Rattle.mbe_tt.specs.Trees.Tree.{none, flat_len};
 ghost use Rattle.mbe_semantics.specs.Syntax.Op.{expression};
 ghost use Rattle.mbe_parser.specs.Reader.{NotExpression};
 ghost use Rattle.mbe_semantics.specs.Syntax.Template.{expression_of, arguments_of, ignore_of, count_of, concat_of, dollar_name, depth_of, depth_after_comma, elements_of, elements_after_comma, element_before};
-ghost use Rattle.mbe_ops.specs.Views.{op_of, element_seen};
+ghost use Rattle.mbe_ops.specs.Views.{op_of, element_seen, expression_seen};
 
 use mbe_errors::error::{ReadError, SyntaxFault};
-use mbe_ops::ops::{ConcatMetaVarExprElem, Op};
+use mbe_ops::ops::{ConcatMetaVarExprElem, Expression, Op};
 use mbe_tt::span::Span;
 use mbe_tt::tt::{DelimiterKind, Ident, Leaf, Literal, TtElement, TtIter};
 use std::alloc::Allocator;
@@ -20,6 +20,7 @@ use std::alloc::Allocator;
 /// `Err` is `SyntaxFault::InvalidExpression` where the trees are none of these, or `Memory` if out of
 /// memory. The forms are those of the unstable features `macro_metavar_expr` and
 /// `macro_metavar_expr_concat`, as rust-analyzer reads them.
+#[tactic(auto, using(mbe_ops::proofs::OpViews::views))]
 pub fn parse_metavar_expr<A: Allocator + Copy>(
     alloc: A,
     src: TtIter<'_, A>,
@@ -29,7 +30,7 @@ pub fn parse_metavar_expr<A: Allocator + Copy>(
     ensures fault { IfErr result (λ e. NotExpression e (expression_of src.entry)) }
 {
     let (func, args) = func_and_args(src).ok_or(SyntaxFault::InvalidExpression)?;
-    parse_args(alloc, func, args)
+    Ok(Op::Expression(parse_args(alloc, func, args)?))
 }
 
 // The name of the function, and the arguments, which are in parentheses.
@@ -47,14 +48,13 @@ fn func_and_args<'a, A: Allocator>(src: TtIter<'a, A>) -> Option<(&'a Ident<A>, 
     }
 }
 
-#[tactic(auto, using(mbe_ops::proofs::OpViews::views))]
 fn parse_args<A: Allocator + Copy>(
     alloc: A,
     func: &Ident<A>,
     args: TtIter<'_, A>,
-) -> Result<Op<A>, ReadError>
-    ensures op { IfOk result (λ o.
-        option_map expression (arguments_of (ident_of func.now) args.entry) ≡ Some (op_of o)) }
+) -> Result<Expression<A>, ReadError>
+    ensures expression { IfOk result (λ e.
+        arguments_of (ident_of func.now) args.entry ≡ Some (expression_seen e)) }
     ensures fault { IfErr result (λ e. NotExpression e
         (arguments_of (ident_of func.now) args.entry)) }
 {
@@ -63,11 +63,11 @@ fn parse_args<A: Allocator + Copy>(
         "count" => parse_count(args),
         "index" => {
             let depth = parse_depth(args).ok_or(SyntaxFault::InvalidExpression)?;
-            Ok(Op::Index { depth })
+            Ok(Expression::Index { depth })
         }
         "len" => {
             let depth = parse_depth(args).ok_or(SyntaxFault::InvalidExpression)?;
-            Ok(Op::Len { depth })
+            Ok(Expression::Len { depth })
         }
         "concat" => parse_concat(alloc, func.span, args),
         _ => Err(ReadError::Fault(SyntaxFault::InvalidExpression)),
@@ -75,9 +75,8 @@ fn parse_args<A: Allocator + Copy>(
 }
 
 // A variable, alone.
-#[tactic(auto, using(mbe_ops::proofs::OpViews::views))]
-fn parse_ignore<A: Allocator>(args: TtIter<'_, A>) -> Result<Op<A>, ReadError>
-    ensures op { IfOk result (λ o. option_map expression (ignore_of args.entry) ≡ Some (op_of o)) }
+fn parse_ignore<A: Allocator>(args: TtIter<'_, A>) -> Result<Expression<A>, ReadError>
+    ensures expression { IfOk result (λ e. ignore_of args.entry ≡ Some (expression_seen e)) }
     ensures fault { IfErr result (λ e. NotExpression e (ignore_of args.entry)) }
 {
     let mut args = args;
@@ -85,22 +84,21 @@ fn parse_ignore<A: Allocator>(args: TtIter<'_, A>) -> Result<Op<A>, ReadError>
     if !args.is_empty() {
         return Err(ReadError::Fault(SyntaxFault::InvalidExpression));
     }
-    Ok(Op::Ignore {
+    Ok(Expression::Ignore {
         name: name.sym.clone()?,
         id: name.span,
     })
 }
 
 // A variable, and after a comma a depth.
-#[tactic(auto, using(mbe_ops::proofs::OpViews::views))]
-fn parse_count<A: Allocator>(args: TtIter<'_, A>) -> Result<Op<A>, ReadError>
-    ensures op { IfOk result (λ o. option_map expression (count_of args.entry) ≡ Some (op_of o)) }
+fn parse_count<A: Allocator>(args: TtIter<'_, A>) -> Result<Expression<A>, ReadError>
+    ensures expression { IfOk result (λ e. count_of args.entry ≡ Some (expression_seen e)) }
     ensures fault { IfErr result (λ e. NotExpression e (count_of args.entry)) }
 {
     let mut args = args;
     let name = eat_name(&mut args).ok_or(SyntaxFault::InvalidExpression)?;
     let depth = parse_depth_after_comma(args).ok_or(SyntaxFault::InvalidExpression)?;
-    Ok(Op::Count {
+    Ok(Expression::Count {
         name: name.sym.clone()?,
         depth,
     })
@@ -152,21 +150,20 @@ fn parse_usize<A: Allocator>(literal: &Literal<A>) -> Option<usize>
 }
 
 // Two elements or more, with commas between them. There may be a last comma.
-#[tactic(auto, using(mbe_ops::proofs::OpViews::views))]
 fn parse_concat<A: Allocator + Copy>(
     alloc: A,
     span: Span,
     args: TtIter<'_, A>,
-) -> Result<Op<A>, ReadError>
-    ensures op { IfOk result (λ o. option_map expression (concat_of span args.entry)
-        ≡ Some (op_of o)) }
+) -> Result<Expression<A>, ReadError>
+    ensures expression { IfOk result (λ e. concat_of span args.entry
+        ≡ Some (expression_seen e)) }
     ensures fault { IfErr result (λ e. NotExpression e (concat_of span args.entry)) }
 {
     let elements = parse_elements(alloc, args)?;
     if elements.len() < 2 {
         return Err(ReadError::Fault(SyntaxFault::InvalidExpression));
     }
-    Ok(Op::Concat { elements, span })
+    Ok(Expression::Concat { elements, span })
 }
 
 fn parse_elements<A: Allocator + Copy>(

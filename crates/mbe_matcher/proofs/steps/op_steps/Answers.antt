@@ -1,7 +1,7 @@
 use Rattle.std.proofs.Common.{◌∙◌, sym, ap, subst, inl, inr, option_map}
 use Rattle.mbe_semantics.specs.Syntax.Op.{op, group, repetition}
 use Rattle.mbe_ops.specs.Views.{op_of, ops_of, separator_seen}
-use Rattle.mbe_ops.proofs.OpViews.{view-var, view-subtree, view-repeat, view-literal, view-punct, view-ident, view-ignore, view-index, view-len, view-count, view-concat}
+use Rattle.mbe_ops.proofs.OpViews.{view-var, view-subtree, view-repeat, view-literal, view-punct, view-ident, view-expression}
 use Rattle.mbe_matcher.specs.Positions.{IsPlain}
 use Rattle.mbe_matcher.proofs.Keeping.{keeps_not}
 use Rattle.mbe_matcher.proofs.StepLemmas.{has_entries, has_number, has_more, separator_same}
@@ -61,8 +61,8 @@ pub returns-in-Subtree : goal.returns-in-Subtree
 returns-in-Subtree g c = λ o s. c.group_steps.ensures (g.G.FragmentGrammar.grammar c.args.grammar.now) c.args.log.now o
     s
 
-pub returns-in-Ignore : goal.returns-in-Ignore
-returns-in-Ignore g c = λ o s. record {
+pub returns-in-Expression : goal.returns-in-Expression
+returns-in-Expression g c = λ o s. record {
   now = c.plain_steps.ensures (g.G.FragmentGrammar.grammar c.args.grammar.now) c.args.log.now c.args.outers.now.items o
       s;
   kept = keeps_not c.args.log.now c.args.outers.now.items;
@@ -77,13 +77,7 @@ returns-in-Literal g c = λ o s. record {
 
 pub plain_steps-requires-clause-plain : goal.plain_steps-requires-clause-plain
 plain_steps-requires-clause-plain g c =
-    elim c.in-Ignore.is [
-      | inl w ↦ subst IsPlain (sym (ap op_of w.2 ∙ view-ignore _ w.0 w.1)) tt
-      | inr (inl w) ↦ subst IsPlain (sym (ap op_of w.1 ∙ view-index _ w.0)) tt
-      | inr (inr (inl w)) ↦ subst IsPlain (sym (ap op_of w.1 ∙ view-len _ w.0)) tt
-      | inr (inr (inr (inl w))) ↦ subst IsPlain (sym (ap op_of w.2 ∙ view-count _ w.0 w.1)) tt
-      | inr (inr (inr (inr w))) ↦ subst IsPlain (sym (ap op_of w.2 ∙ view-concat w.0 w.1)) tt
-    ]
+    subst IsPlain (sym (ap op_of c.in-Expression.is ∙ view-expression _)) tt
 
 pub plain_steps-requires-clause-number : goal.plain_steps-requires-clause-number
 plain_steps-requires-clause-number g c =

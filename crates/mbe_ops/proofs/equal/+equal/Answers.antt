@@ -10,7 +10,7 @@ pub same_op-same_ops-requires : goal.same_op-same_ops-requires
 same_op-same_ops-requires g t c κs within =
     let here = c.in-Repeat-Repeat in
     let seen = ap op_weight (ap op_of here.is-0 ∙ view-open_repeat here.tokens here.kind here.separator) in
-    let inside = ap (λ xs. ops_weight (ops_of xs)) c.deref-then-same_suffix.ensures.value in
+    let inside = ap (λ xs. ops_weight (ops_of xs)) c.deref.ensures.value in
     (omega (arith, c.decreases, seen, inside), within)
 
 pub same_ops-same_op-requires : goal.same_ops-same_op-requires
@@ -23,8 +23,8 @@ same_op-returns-then-same_suffix g t c =
     let here = c.in-Repeat-Repeat in
     let one = ap op_of here.is-0 ∙ view-open_repeat here.tokens here.kind here.separator in
     let two = ap op_of here.is-1 ∙ view-open_repeat here.ts here.k here.s in
-    let inside = inside_tells _ _ _ _ _ (ap ops_of c.deref-then-same_suffix.ensures.value)
-    (ap ops_of c.deref-then-same_suffix-2.ensures.value) c.same_ops.ensures in
+    let inside = inside_tells _ _ _ _ _ (ap ops_of c.deref.ensures.value)
+    (ap ops_of c.deref-then-same_suffix.ensures.value) c.same_ops.ensures in
     repetitions_tell _ _ (ops_of here.tokens.0.items) (ops_of here.ts.0.items)
     (option_map separator_seen here.separator) (option_map separator_seen here.s) here.kind here.k
     c.same_suffix.result c.same_ops.result one two c.same_suffix.ensures c.if-same_suffix.true inside

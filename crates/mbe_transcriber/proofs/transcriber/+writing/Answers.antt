@@ -5,7 +5,7 @@ use Rattle.mbe_semantics.specs.Writing.Rounds.{level, kept, kept_rounds, finite}
 use Rattle.mbe_ops.specs.Views.{op_of, ops_of, separator_seen, elements_seen}
 use Rattle.mbe_log.specs.BindingViews.{bound_by}
 use Rattle.mbe_ops.proofs.EqualityLemmas.{op_no_heavier}
-use Rattle.mbe_ops.proofs.OpViews.{view-repeat, view-var, view-subtree, view-literal, view-punct, view-ident, view-index, view-len, view-count, view-concat, view-ignore}
+use Rattle.mbe_ops.proofs.OpViews.{view-repeat, view-var, view-subtree, view-literal, view-punct, view-ident, view-expression}
 use Rattle.mbe_variables.proofs.FollowLemmas.{ops_split, ops_over}
 use Rattle.mbe_variables.proofs.FollowLemmas.{seen_copied}
 use Rattle.mbe_variables.specs.FaultViews.{error_of_fault}
@@ -60,38 +60,13 @@ expand_op-returns-in-Var-clause-wrote g t c =
     c.write_var.new.builder w)
     c.write_var.ensures.wrote)
 
-pub expand_op-returns-in-Ignore-clause-wrote : goal.expand_op-returns-in-Ignore-clause-wrote
-expand_op-returns-in-Ignore-clause-wrote g t c =
-    rw (c.in-Ignore.is, view-ignore) (lemmas.wrote_ignored _ _ _ _ _ (is_some c.find_ignored.result) c.in-Ignore.name
-    c.in-Ignore.id c.args.builder.now c.find_ignored.ensures.reported)
+pub expand_op-returns-in-Expression-clause-wrote : goal.expand_op-returns-in-Expression-clause-wrote
+expand_op-returns-in-Expression-clause-wrote g t c =
+    rw (c.in-Expression.is, view-expression) c.write_expression.ensures.wrote
 
-pub expand_op-returns-in-Index-clause-wrote : goal.expand_op-returns-in-Index-clause-wrote
-expand_op-returns-in-Index-clause-wrote g t c =
-    rw (c.in-Index.is, view-index) (lemmas.wrote_and_none c.write_at_call.result c.and-in-Index.result
-    c.and-in-Index.ensures
-    (lemmas.wrote_index _ _ _ _ _ c.in-Index.depth c.index_at.result c.args.builder.now c.write_at_call.new.builder
-    c.index_at.ensures) c.write_at_call.ensures)
-
-pub expand_op-returns-in-Len-clause-wrote : goal.expand_op-returns-in-Len-clause-wrote
-expand_op-returns-in-Len-clause-wrote g t c =
-    rw (c.in-Len.is, view-len) (lemmas.wrote_and_none c.write_at_call-in-Len.result c.and-in-Len.result
-    c.and-in-Len.ensures
-    (lemmas.wrote_len _ _ _ _ _ c.in-Len.depth c.rounds_at.result c.args.builder.now c.write_at_call-in-Len.new.builder
-    c.rounds_at.ensures)
-    c.write_at_call-in-Len.ensures)
-
-pub expand_op-returns-in-Count-clause-wrote : goal.expand_op-returns-in-Count-clause-wrote
-expand_op-returns-in-Count-clause-wrote g t c =
-    rw (c.in-Count.is, view-count) (lemmas.if_ok_with c.write_count.result
-    (λ f w. lemmas.wrote_count _ _ _ _ _ (is_some f) c.in-Count.name c.in-Count.depth c.args.builder.now
-    c.write_count.new.builder w)
-    c.write_count.ensures.wrote)
-
-pub expand_op-returns-in-Concat-clause-wrote : goal.expand_op-returns-in-Concat-clause-wrote
-expand_op-returns-in-Concat-clause-wrote g t c =
-    rw (c.in-Concat.is, view-concat, ← c.deref-in-Concat.ensures.value) (lemmas.if_ok_with c.write_concat.result
-    (λ f w. lemmas.wrote_concat _ _ _ _ _ (is_some f) (elements_seen c.deref-in-Concat.result.now) c.in-Concat.span
-    c.args.builder.now c.write_concat.new.builder w) c.write_concat.ensures.wrote)
+pub expand_op-returns-in-Expression-clause-left : goal.expand_op-returns-in-Expression-clause-left
+expand_op-returns-in-Expression-clause-left g t c =
+    rw (c.in-Expression.is, view-expression) c.write_expression.ensures.left
 
 pub expand_ops-loop-op-preserved : goal.expand_ops-loop-op-preserved
 expand_ops-loop-op-preserved g t c = record {
@@ -268,41 +243,6 @@ expand_op-returns-in-Var-clause-left g t c =
     (lemmas.wrote_variable _ _ _ _ _ (is_some f) c.in-Var.name c.in-Var.kind c.in-Var.id c.args.builder.now
     c.write_var.new.builder w) e k)
     c.write_var.ensures.wrote c.write_var.ensures.first c.write_var.ensures.unchanged)
-
-pub expand_op-returns-in-Ignore-clause-left : goal.expand_op-returns-in-Ignore-clause-left
-expand_op-returns-in-Ignore-clause-left g t c =
-    rw (c.in-Ignore.is, view-ignore) (lefts.left_ignored _ _ _ _ _ c.in-Ignore.name c.in-Ignore.id c.args.builder.now)
-
-pub expand_op-returns-in-Index-clause-left : goal.expand_op-returns-in-Index-clause-left
-expand_op-returns-in-Index-clause-left g t c =
-    rw (c.in-Index.is, view-index) (lefts.and_none c.write_at_call.result c.and-in-Index.result c.and-in-Index.ensures
-    (λ w. lefts.left_index _ _ _ _ _ c.in-Index.depth _ c.args.builder.now c.write_at_call.new.builder
-    (lemmas.wrote_index _ _ _ _ _ c.in-Index.depth c.index_at.result c.args.builder.now c.write_at_call.new.builder
-    c.index_at.ensures w))
-    c.write_at_call.ensures)
-
-pub expand_op-returns-in-Len-clause-left : goal.expand_op-returns-in-Len-clause-left
-expand_op-returns-in-Len-clause-left g t c =
-    rw (c.in-Len.is, view-len) (lefts.and_none c.write_at_call-in-Len.result c.and-in-Len.result c.and-in-Len.ensures
-    (λ w. lefts.left_len _ _ _ _ _ c.in-Len.depth _ c.args.builder.now c.write_at_call-in-Len.new.builder
-    (lemmas.wrote_len _ _ _ _ _ c.in-Len.depth c.rounds_at.result c.args.builder.now c.write_at_call-in-Len.new.builder
-    c.rounds_at.ensures w))
-    c.write_at_call-in-Len.ensures)
-
-pub expand_op-returns-in-Count-clause-left : goal.expand_op-returns-in-Count-clause-left
-expand_op-returns-in-Count-clause-left g t c =
-    rw (c.in-Count.is, view-count) (lefts.if_ok_by c.write_count.result
-    (λ f w e k. lefts.left_count _ _ _ _ _ error_of_fault f c.in-Count.name c.in-Count.depth c.args.builder.now
-    c.write_count.new.builder
-    (lemmas.wrote_count _ _ _ _ _ (is_some f) c.in-Count.name c.in-Count.depth c.args.builder.now
-    c.write_count.new.builder w) e k)
-    c.write_count.ensures.wrote c.write_count.ensures.first c.write_count.ensures.unchanged)
-
-pub expand_op-returns-in-Concat-clause-left : goal.expand_op-returns-in-Concat-clause-left
-expand_op-returns-in-Concat-clause-left g t c =
-    rw (c.in-Concat.is, view-concat, ← c.deref-in-Concat.ensures.value) (lemmas.if_ok_with c.write_concat.result
-    (λ f w. lefts.left_concat _ _ _ _ _ (elements_seen c.deref-in-Concat.result.now) c.in-Concat.span c.args.builder.now
-    c.write_concat.new.builder w) c.write_concat.ensures.left)
 
 pub expand_op-returns-in-Repeat-clause-left : goal.expand_op-returns-in-Repeat-clause-left
 expand_op-returns-in-Repeat-clause-left g t c =
