@@ -4,7 +4,7 @@ use Rattle.std.specs.Option.{option_or}
 use Rattle.std.specs.Prelude.{option_map}
 use Rattle.mbe_tt.specs.declared.span.Span.{Span}
 use Rattle.mbe_semantics.specs.declared.kinds.RepeatKind.{RepeatKind}
-use Rattle.mbe_semantics.specs.Syntax.Op.{Separator, Op, Ops, op, repetition}
+use Rattle.mbe_semantics.specs.Syntax.Op.{Separator, Op, Ops, no_ops, op, repetition}
 use Rattle.mbe_semantics.specs.Bindings.Environment.{Environment}
 use Rattle.mbe_semantics.specs.Expansion.Error.{ExpandErrorKind, ExpandError}
 use Rattle.mbe_semantics.specs.Writing.Rounds.{Path, kept_rounds, finite, level}
@@ -38,6 +38,14 @@ module _ {X : Type 0} (seen : X → ExpandError) (site : Span) (env : Environmen
       ∙ (ap (λ x. option_or (option_map seen first) (option_or x following)) (sym f)
       ∙ (sym (or_over (option_map seen first) (option_map seen fault) following)
       ∙ ap (λ x. option_or x following) (sym (ap (option_map seen) n ∙ seen_or seen first fault)))))
+
+  -- where no op is left
+  pub ops_end : (all left : Ops) (first : Option X) → left ≡ no_ops
+      → first_fault site env path all ≡ option_or (option_map seen first) (first_fault site env path left)
+      → option_map seen first ≡ first_fault site env path all
+  ops_end all left first l h =
+      sym (h ∙ (ap (λ os. option_or (option_map seen first) (first_fault site env path os)) l
+      ∙ or_end (option_map seen first)))
 
   -- ---- rounds
 

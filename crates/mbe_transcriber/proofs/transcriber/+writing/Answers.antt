@@ -2,6 +2,7 @@ use Rattle.std.proofs.Common.{◌≡◌, ◌<◌, ◌+◌, ◌-◌, ◌∷◌, v
 use Rattle.std.specs.Prelude.{is_some, option_map}
 use Rattle.mbe_tt.specs.Views.Shown.{literal_of, ident_of}
 use Rattle.mbe_semantics.specs.Writing.Rounds.{level, kept, kept_rounds, finite}
+use Rattle.mbe_semantics.specs.Writing.Substitution.{extent_faults}
 use Rattle.mbe_ops.specs.Views.{op_of, ops_of, separator_seen, elements_seen}
 use Rattle.mbe_log.specs.BindingViews.{bound_by}
 use Rattle.mbe_ops.proofs.EqualityLemmas.{op_no_heavier}
@@ -249,6 +250,12 @@ expand_op-returns-in-Repeat-clause-left g t c =
     rw (c.in-Repeat.is, view-repeat, ← c.as_ref.ensures.value)
     (rw (← c.deref-in-Repeat.ensures.value, ← seen_copied separator_seen c.as_ref.result) c.expand_repeat.ensures.left)
 
+pub expand_ops-returns-clause-first : goal.expand_ops-returns-clause-first
+expand_ops-returns-clause-first g t c =
+    firsts.ops_end error_of_fault c.args.ctx.now.call_site (bound_by c.args.ctx.now.bindings.now) c.args.path.now
+    (ops_of c.args.ops.now) _ c.loop-op.first (ops_over c.args.ops.now c.loop-op.op-index c.loop-op-test.false)
+    c.loop-op.invariant.first
+
 pub expand_ops-returns-clause-left : goal.expand_ops-returns-clause-left
 expand_ops-returns-clause-left g t c =
     lefts.all_left _ _ _ _ _ (ops_of c.args.ops.now) (ops_of (drop c.loop-op.op-index c.args.ops.now)) _ _
@@ -266,6 +273,12 @@ expand_repeat-returns-clause-left g t c =
     lefts.left_rounds _ _ _ _ _ seps (ops_of c.args.body.now) c.args.kind c.in-Ok.rounds c.loop-index.separated
     c.args.builder.now
     c.loop-index.builder same faultless (rw all at c.loop-index.invariant.left)
+
+pub expand_repeat-returns-in-Err-clause-wrote : goal.expand_repeat-returns-in-Err-clause-wrote
+expand_repeat-returns-in-Err-clause-wrote g t c =
+    let seps = option_map (λ s. separator_seen s.now) c.args.separator in
+    lemmas.rounds_refused _ _ _ _ _ seps (ops_of c.args.body.now) c.args.kind c.args.builder.now
+    (sym (ap (λ e. extent_faults c.args.kind (kept c.args.kind e)) c.rounds_of.ensures) ∙ c.in-Err.ensures.refused)
 
 pub expand_repeat-returns-in-Err-clause-left : goal.expand_repeat-returns-in-Err-clause-left
 expand_repeat-returns-in-Err-clause-left g t c =

@@ -64,7 +64,7 @@ shortest-returns g t c =
 pub shortest_of_op-returns-in-Subtree : goal.shortest_of_op-returns-in-Subtree
 shortest_of_op-returns-in-Subtree g t c =
     let f = extent_under (bound_by c.args.bindings.now) c.args.path.now in
-    c.shortest.ensures ∙ (ap (λ os. shortest (filter_map f (uses_of (ops_of os)))) c.deref-in-Subtree.ensures.value
+    c.shortest.ensures ∙ (ap (λ os. shortest (filter_map f (uses_of (ops_of os)))) c.deref.ensures.value
     ∙ sym (ap (λ o. shortest (filter_map f (uses_of_op (op_of o)))) c.in-Subtree.is
     ∙ ap (λ o. shortest (filter_map f (uses_of_op o))) (view-open c.in-Subtree.tokens c.in-Subtree.delimiter)))
 
