@@ -15,10 +15,10 @@ build-requires g c =
     let e = c.in_ok-builder.ensures
     ∙ ap (λ (k : Delimiter). let y : Delimiter × Forest = (k, none) in y ∷ []) c.top_subtree.ensures in
     let w = c.in_ok-write.ensures
-    ∙ ap (λ k. written (map naming_of k) (map step_of c.as_slice-8.result.now) c.in_ok-builder.builder)
-    c.as_slice-7.ensures.value
+    ∙ ap (λ k. written (map naming_of k) (map step_of c.as_slice-9.result.now) c.in_ok-builder.builder)
+    c.as_slice-8.ensures.value
     ∙ ap (λ k. written (map naming_of c.in_ok-given.given.items) (map step_of k) c.in_ok-builder.builder)
-    c.as_slice-8.ensures.value in
+    c.as_slice-9.ensures.value in
     ap length (whole_written (map naming_of c.in_ok-given.given.items) c.args.tree.now.1
     (map step_of c.in_ok-steps.steps.items) c.args.tree.now.0 c.in_ok-builder.builder c.write.new.builder x e w)
 
@@ -29,10 +29,10 @@ returns-clause-tree g c =
     let e = c.in_ok-builder.ensures
     ∙ ap (λ (k : Delimiter). let y : Delimiter × Forest = (k, none) in y ∷ []) c.top_subtree.ensures in
     let w = c.in_ok-write.ensures
-    ∙ ap (λ k. written (map naming_of k) (map step_of c.as_slice-8.result.now) c.in_ok-builder.builder)
-    c.as_slice-7.ensures.value
+    ∙ ap (λ k. written (map naming_of k) (map step_of c.as_slice-9.result.now) c.in_ok-builder.builder)
+    c.as_slice-8.ensures.value
     ∙ ap (λ k. written (map naming_of c.in_ok-given.given.items) (map step_of k) c.in_ok-builder.builder)
-    c.as_slice-8.ensures.value in
+    c.as_slice-9.ensures.value in
     let whole = whole_written (map naming_of c.in_ok-given.given.items) c.args.tree.now.1
     (map step_of c.in_ok-steps.steps.items) c.args.tree.now.0 c.in_ok-builder.builder c.write.new.builder x e w in
     let given = all_given c.args.names.now ns c.args.tree.now.1 (map step_of c.in_ok-steps.steps.items)
@@ -41,10 +41,10 @@ returns-clause-tree g c =
     (c.in_ok-words.ensures ∙ ap (λ k. words ns (map step_of k)) c.as_slice.ensures.value)
     (c.in_ok-bound.ensures ∙ ap (λ k. locals (map word_of k)) c.as_slice-2.ensures.value)
     (c.in_ok-given.ensures
-    ∙ ap (λ k. names_from (map word_of k) c.args.names.now [] (map word_of c.as_slice-4.result.now))
-    c.as_slice-3.ensures.value
+    ∙ ap (λ k. names_from (map word_of k) c.args.names.now [] (map word_of c.as_slice-5.result.now))
+    c.as_slice-4.ensures.value
     ∙ ap (λ k. names_from (map word_of c.in_ok-words.words.items) c.args.names.now [] (map word_of k))
-    c.as_slice-4.ensures.value) in
+    c.as_slice-5.ensures.value) in
     built c.args.names.now ns c.args.tree.now c.build.result (map naming_of c.in_ok-given.given.items)
     c.write.new.builder given whole c.build.ensures
 
@@ -57,7 +57,7 @@ returns-clause-undecided g c =
     (c.in_ok-words.ensures ∙ ap (λ k. words ns (map step_of k)) c.as_slice.ensures.value)
     (c.in_ok-bound.ensures ∙ ap (λ k. locals (map word_of k)) c.as_slice-2.ensures.value)
     (c.in_ok-places.ensures
-    ∙ ap (λ k. undecided_of (map word_of k) c.args.names.now (map word_of c.as_slice-6.result.now))
-    c.as_slice-5.ensures.value
+    ∙ ap (λ k. undecided_of (map word_of k) c.args.names.now (map word_of c.as_slice-7.result.now))
+    c.as_slice-6.ensures.value
     ∙ ap (λ k. undecided_of (map word_of c.in_ok-words.words.items) c.args.names.now (map word_of k))
-    c.as_slice-6.ensures.value)
+    c.as_slice-7.ensures.value)
