@@ -69,8 +69,15 @@ pub lists_are : (ws : List Word) (m : ℕ) (ls : List (List Word)) → ls ≡ li
 lists_are ws m ls e = subst (AreLists ws) (sym e) (are_lists ws m)
 
 -- the list that is found at a context's number
-pub list_is : {A : Type 0} (ws : List Word) (vs : List (Vec code_word.Word A)) (n : ℕ) (v : Vec code_word.Word A)
+list_is : {A : Type 0} (ws : List Word) (vs : List (Vec code_word.Word A)) (n : ℕ) (v : Vec code_word.Word A)
     → AreLists ws (lists_of vs) → n < length vs → v ≡ get_or vs n v → map word_of v.items ≡ listed n ws
 list_is ws vs n v are l e =
     are n (map word_of v.items) (slice_get-map (λ x. map word_of x.items) vs n
     ∙ ap (option_map (λ x. map word_of x.items)) (slice_get-get_or vs n v l ∙ ap Some (sym e)))
+
+pub beside_is : {A : Type 0} (w : Word) (ws : List Word) (vs : List (Vec code_word.Word A)) (n : ℕ)
+    (v : Vec code_word.Word A) (found : List code_word.Word) → AreLists ws (lists_of vs) → n < length vs
+    → v ≡ get_or vs n v → n ≡ list_of (context w) → found ≡ v.items
+    → map word_of found ≡ listed (list_of (context w)) ws
+beside_is w ws vs n v found are l e same all =
+    ap (map word_of) all ∙ list_is ws vs n v are l e ∙ ap (λ k. listed k ws) same

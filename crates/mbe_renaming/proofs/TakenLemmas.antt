@@ -1,5 +1,5 @@
 -- A new name takes one number more of its local's name.
-use Rattle.std.proofs.Common.{◌≡◌, ℕ, ◌+◌, ◌-◌, ◌^◌, ◌<◌, ◌≤◌, Bool, true, false, List, [], ◌∷◌, ◌++◌, refl, ap, sym, ◌∙◌, inl, inr, arith}
+use Rattle.std.proofs.Common.{◌≡◌, ℕ, ◌+◌, ◌-◌, ◌^◌, ◌<◌, ◌≤◌, Bool, true, false, List, [], ◌∷◌, ◌++◌, refl, ap, sym, subst, ◌∙◌, inl, inr, arith}
 use Rattle.std.specs.Prelude.{◌||◌, if◌then◌else◌}
 use Rattle.std.specs.Str.{bytes_eq}
 use Rattle.std.proofs.Math.Nat.{eq-or-lt_of_le}
@@ -109,3 +109,10 @@ pub with_name_is : (ws : List Word) (names : List (List ℕ)) (given : List Nami
     → is_renamed ws names w ≡ true
     → with_name ws names given w ≡ given ++ (naming w (fresh ws names given w.text) ∷ [])
 with_name_is ws names given w e = rw e refl
+
+pub taken_with_name : (ws : List Word) (names : List (List ℕ)) (given : List Naming) (w : Word)
+    → AreTaken ws names given → AreTaken ws names (with_name ws names given w)
+taken_with_name ws names given w h = elim (true_or_false (is_renamed ws names w)) [
+  | inl e ↦ subst (AreTaken ws names) (sym (with_name_is ws names given w e)) (taken_after ws names given w h)
+  | inr e ↦ rw e h
+]

@@ -3,7 +3,7 @@ use Rattle.std.proofs.lemmas.List.{map-append}
 use Rattle.mbe_renaming.specs.Naming.{naming, fresh, AreTaken}
 use Rattle.mbe_renaming.specs.Shown.{word_of, naming_of}
 use Rattle.mbe_renaming.proofs.NumberedLemmas.{same_fresh, same_numbers}
-use Rattle.mbe_renaming.proofs.TakenLemmas.{taken_after, with_name_is}
+use Rattle.mbe_renaming.proofs.TakenLemmas.{with_name_is, taken_with_name}
 use Rattle.mbe_renaming.proofs.naming.push_name.Goals as goal
 
 pub fresh-requires : goal.fresh-requires
@@ -32,10 +32,6 @@ returns-in_ok-push-clause-given g c =
 
 pub returns-in_ok-push-clause-taken : goal.returns-in_ok-push-clause-taken
 returns-in_ok-push-clause-taken g c =
-    let words = map word_of c.args.words.now in
-    let names = c.args.names.now in
-    let given = map naming_of c.args.given.now.items in
-    let local = word_of c.args.local in
-    let is_one = with_name_is words names given local (sym c.is_renamed.ensures ∙ c.if-is_renamed.true) in
-    subst (AreTaken words names) (sym (returns-in_ok-push-clause-given g c ∙ is_one))
-    (taken_after words names given local c.requires.taken)
+    subst (AreTaken (map word_of c.args.words.now) c.args.names.now) (sym (returns-in_ok-push-clause-given g c))
+    (taken_with_name (map word_of c.args.words.now) c.args.names.now (map naming_of c.args.given.now.items)
+    (word_of c.args.local) c.requires.taken)
