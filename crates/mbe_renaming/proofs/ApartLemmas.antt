@@ -8,6 +8,7 @@ use Rattle.std.proofs.lemmas.List.{append_cancel_left}
 use Rattle.mbe_renaming.specs.Laws.{IsIn, IsDecided, OneNameEach, NoNameAround}
 use Rattle.mbe_renaming.specs.Naming.{Word, context, is_aside, is_same_sort, is_same, is_binding, is_among, with_local, locals_from, locals, is_written, is_other, has_other, is_text_among, is_shared, Naming, naming, is_word, is_given, is_taken, numbered, first_free, fresh, is_renamed, with_name, names_from, namings, name_in, or_own, new_name}
 use Rattle.mbe_renaming.specs.Renaming.{words_in}
+use Rattle.mbe_renaming.proofs.FreshLemmas.{taken_step, free_step}
 use Rattle.mbe_renaming.proofs.SameLemmas.{true_or_false, both, and_right, or_cases, or_left, or_right, neither_left, neither_right, neither, same_text, text_same, not_same, same_other_way, not_aside, not_aside_either, Same, same_from, same_to, same_sym, same_trans, new_name_same, here_named, later_named}
 
 -- ---- a new name that isn't taken
@@ -130,16 +131,6 @@ other_number text m n hm hn less =
     let digits = append_cancel_left (codes "_") (decimal m) (decimal n) tails in
     let same = decimal_injective m n hm hn digits in
     omega (arith, same, less))
-
-taken_step : (taken : List ℕ → Bool) (text : List ℕ) (k n : ℕ) → taken (numbered text n) ≡ true
-    → first_free taken text (suc k) n ≡ first_free taken text k (suc n)
-unfolding first_free
-taken_step taken text k n h = rw h refl
-
-free_step : (taken : List ℕ → Bool) (text : List ℕ) (k n : ℕ) → taken (numbered text n) ≡ false
-    → first_free taken text (suc k) n ≡ numbered text n
-unfolding first_free
-free_step taken text k n h = rw h refl
 
 last_step : (taken : List ℕ → Bool) (text : List ℕ) (n : ℕ) → first_free taken text zero n ≡ numbered text n
 unfolding first_free

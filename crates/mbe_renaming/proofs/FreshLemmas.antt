@@ -2,12 +2,12 @@
 use Rattle.std.proofs.Common.{◌≡◌, ℕ, zero, suc, ◌+◌, ◌-◌, ◌<◌, ◌≤◌, ◌^◌, Bool, true, false, List, refl, ap, sym, subst, ◌∙◌, arith}
 use Rattle.mbe_renaming.specs.Naming.{numbered, first_free}
 
-taken_step : (taken : List ℕ → Bool) (text : List ℕ) (k n : ℕ) → taken (numbered text n) ≡ true
+pub taken_step : (taken : List ℕ → Bool) (text : List ℕ) (k n : ℕ) → taken (numbered text n) ≡ true
     → first_free taken text (suc k) n ≡ first_free taken text k (suc n)
 unfolding first_free
 taken_step taken text k n h = rw h refl
 
-free_step : (taken : List ℕ → Bool) (text : List ℕ) (k n : ℕ) → taken (numbered text n) ≡ false
+pub free_step : (taken : List ℕ → Bool) (text : List ℕ) (k n : ℕ) → taken (numbered text n) ≡ false
     → first_free taken text (suc k) n ≡ numbered text n
 unfolding first_free
 free_step taken text k n h = rw h refl

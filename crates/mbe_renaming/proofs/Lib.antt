@@ -1,7 +1,9 @@
 pub mod ApartLemmas
 pub mod BesideLemmas
 pub mod FreshLemmas
+pub mod ListLemmas
 pub mod NestLemmas
+pub mod NumberedLemmas
 pub mod SameLemmas
 pub mod ShapeLemmas
 pub mod TakenLemmas

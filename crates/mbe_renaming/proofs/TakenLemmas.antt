@@ -1,10 +1,10 @@
 -- A new name takes one number more of its local's name.
-use Rattle.std.proofs.Common.{◌≡◌, ℕ, ◌+◌, ◌-◌, ◌^◌, ◌<◌, ◌≤◌, Bool, true, false, List, [], ◌∷◌, ◌++◌, refl, ap, sym, ◌∙◌, inl, inr, arith}
+use Rattle.std.proofs.Common.{◌≡◌, ℕ, ◌+◌, ◌-◌, ◌^◌, ◌<◌, ◌≤◌, Bool, true, false, List, [], ◌∷◌, ◌++◌, refl, ap, sym, subst, ◌∙◌, inl, inr, arith}
 use Rattle.std.specs.Prelude.{◌||◌, if◌then◌else◌}
 use Rattle.std.specs.Str.{bytes_eq}
 use Rattle.std.proofs.Math.Nat.{eq-or-lt_of_le}
 use Rattle.mbe_renaming.specs.Naming.{Word, Naming, naming, named, is_word, is_text_among, is_given, is_taken}
-use Rattle.mbe_renaming.specs.Naming.{numbered, fresh, AreTaken}
+use Rattle.mbe_renaming.specs.Naming.{numbered, fresh, AreTaken, is_renamed, with_name}
 use Rattle.mbe_renaming.proofs.SameLemmas.{true_or_false, or_cases, or_left, or_right, same_text, text_same}
 use Rattle.mbe_renaming.proofs.FreshLemmas.{Trying, skips, found}
 
@@ -103,3 +103,16 @@ taken_after ws names given w h text n l m =
           (let none = named_more given x text ∙ ap counted s in
           taken_more ws names given x (numbered text (1 + n)) (h text n (omega (arith, l, none)) m))
     ]
+
+-- the new name of a local that is renamed comes last
+pub with_name_is : (ws : List Word) (names : List (List ℕ)) (given : List Naming) (w : Word)
+    → is_renamed ws names w ≡ true
+    → with_name ws names given w ≡ given ++ (naming w (fresh ws names given w.text) ∷ [])
+with_name_is ws names given w e = rw e refl
+
+pub taken_with_name : (ws : List Word) (names : List (List ℕ)) (given : List Naming) (w : Word)
+    → AreTaken ws names given → AreTaken ws names (with_name ws names given w)
+taken_with_name ws names given w h = elim (true_or_false (is_renamed ws names w)) [
+  | inl e ↦ subst (AreTaken ws names) (sym (with_name_is ws names given w e)) (taken_after ws names given w h)
+  | inr e ↦ rw e h
+]

@@ -9,3 +9,4 @@ pub mod Naming
 pub mod Renaming
 pub mod Laws
 pub mod Shown
+pub mod Lists

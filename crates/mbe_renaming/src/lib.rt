@@ -5,6 +5,7 @@ mod ahead;
 pub mod contexts;
 mod kinds;
 pub mod laws;
+mod lists;
 mod mentions;
 mod naming;
 mod regions;

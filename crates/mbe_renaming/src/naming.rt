@@ -3,9 +3,11 @@ ghost use Rattle.std.specs.Prelude.{◌≡◌, ◌≤◌, ◌++◌, ◌∷◌, [
 ghost use Rattle.mbe_tt.specs.Trees.Leaf as tree;
 ghost use Rattle.mbe_tt.specs.Views.Shown.{leaf_of, literal_of};
 ghost use Rattle.mbe_renaming.specs.Shown.{step_of, word_of, naming_of, nestings_of};
+ghost use Rattle.mbe_renaming.specs.Lists.{AreLists, lists_of, numbered_words};
 ghost use Rattle.mbe_renaming.specs.Naming as spec;
 ghost use Rattle.mbe_renaming.specs.declared.naming.Progress.TheVariants.{Unbound};
 
+use crate::lists::{beside, numbered_words};
 use crate::mentions::is_mentioned;
 use crate::roles::inner_role;
 use crate::sites::Role;
@@ -496,7 +498,7 @@ fn may_be(local: Word<'_>, word: Word<'_>) -> bool
         && local.text == word.text
 }
 
-fn is_edge(role: Role) -> bool
+pub(crate) fn is_edge(role: Role) -> bool
     ensures { result ≡ spec.is_edge role }
 {
     matches!(role, Role::Begin | Role::End)
@@ -583,14 +585,16 @@ fn is_doubted(local: Word<'_>, words: &[Word<'_>]) -> bool
 fn push_doubts_of<A: Allocator>(
     found: &mut Vec<Doubt, A>,
     words: &[Word<'_>],
+    lists: &[Vec<Word<'_>, A>],
     names: &[Symbol<A>],
     local: Word<'_>,
 ) -> Result<(), AllocError>
+    requires lists { AreLists (map word_of words.now) (lists_of lists.now) }
     ensures { OnOk result (found.new.items ≡ found.old.items
         ++ spec.doubts_of (map word_of words.now) names.now (word_of local.entry)) }
 {
     if is_shared(words, names, local) {
-        push_doubts(found, local, words)?;
+        push_doubts(found, local, beside(words, lists, local))?;
     }
     Ok(())
 }
@@ -599,15 +603,17 @@ fn push_doubts_of<A: Allocator>(
 pub(crate) fn undecided<A: Allocator + Copy>(
     alloc: A,
     words: &[Word<'_>],
+    lists: &[Vec<Word<'_>, A>],
     names: &[Symbol<A>],
     locals: &[Word<'_>],
 ) -> Result<Vec<Doubt, A>, AllocError>
+    requires lists { AreLists (map word_of words.now) (lists_of lists.now) }
     ensures { IfOk result (λ v. v.items ≡ spec.undecided_of (map word_of words.now) names.now
         (map word_of locals.now)) }
 {
     let mut found = Vec::new(alloc);
     for local in locals {
-        push_doubts_of(&mut found, words, names, *local)?;
+        push_doubts_of(&mut found, words, lists, names, *local)?;
     }
     Ok(found)
 }
@@ -693,19 +699,29 @@ fn fresh<A: Allocator + Copy>(
     numbered(alloc, text, number)
 }
 
-fn is_renamed<A: Allocator>(words: &[Word<'_>], names: &[Symbol<A>], local: Word<'_>) -> bool
+fn is_renamed<A: Allocator>(
+    words: &[Word<'_>],
+    lists: &[Vec<Word<'_>, A>],
+    names: &[Symbol<A>],
+    local: Word<'_>,
+) -> bool
+    requires lists { AreLists (map word_of words.now) (lists_of lists.now) }
     ensures { result ≡ spec.is_renamed (map word_of words.now) names.now (word_of local.entry) }
 {
-    is_shared(words, names, local) && !is_doubted(local, words)
+    is_shared(words, names, local) && !is_doubted(local, beside(words, lists, local))
 }
 
 fn push_name<'t, A: Allocator + Copy>(
     alloc: A,
     given: &mut Vec<Naming<'t, A>, A>,
     words: &[Word<'_>],
+    lists: &[Vec<Word<'_>, A>],
+    numbered: &[Word<'_>],
     names: &[Symbol<A>],
     local: Word<'t>,
 ) -> Result<(), AllocError>
+    requires lists { AreLists (map word_of words.now) (lists_of lists.now) }
+    requires numbered { map word_of numbered.now ≡ numbered_words (map word_of words.now) }
     requires taken { spec.AreTaken (map word_of words.now) names.now
         (map naming_of given.now.items) }
     ensures given { OnOk result (map naming_of given.new.items ≡ spec.with_name
@@ -713,8 +729,8 @@ fn push_name<'t, A: Allocator + Copy>(
     ensures taken { OnOk result (spec.AreTaken (map word_of words.now) names.now
         (map naming_of given.new.items)) }
 {
-    if is_renamed(words, names, local) {
-        let name = fresh(alloc, words, names, given.as_slice(), local.text)?;
+    if is_renamed(words, lists, names, local) {
+        let name = fresh(alloc, numbered, names, given.as_slice(), local.text)?;
         given.push(Naming { local, name })?;
     }
     Ok(())
@@ -724,15 +740,19 @@ fn push_name<'t, A: Allocator + Copy>(
 pub(crate) fn namings<'t, A: Allocator + Copy>(
     alloc: A,
     words: &[Word<'_>],
+    lists: &[Vec<Word<'_>, A>],
     names: &[Symbol<A>],
     locals: &[Word<'t>],
 ) -> Result<Vec<Naming<'t, A>, A>, AllocError>
+    requires lists { AreLists (map word_of words.now) (lists_of lists.now) }
     ensures { IfOk result (λ v. map naming_of v.items ≡ spec.names_from (map word_of words.now)
         names.now [] (map word_of locals.now)) }
 {
+    let found = numbered_words(alloc, words)?;
+    let numbered = found.as_slice();
     let mut given = Vec::new(alloc);
     for local in locals {
-        push_name(alloc, &mut given, words, names, *local)?;
+        push_name(alloc, &mut given, words, lists, numbered, names, *local)?;
     }
     Ok(given)
 }

@@ -6,6 +6,7 @@ ghost use Rattle.mbe_tt.specs.Views.View.{trees};
 ghost use Rattle.mbe_renaming.specs.Shown.{step_of, naming_of, nestings_of};
 ghost use Rattle.mbe_renaming.specs.Renaming as spec;
 
+use crate::lists::lists_for;
 use crate::naming::{Naming, Word, locals, name_in, namings, undecided, words_of};
 pub use crate::naming::{Doubt, Nestings};
 use crate::sites::Role;
@@ -122,8 +123,10 @@ pub fn rename<A: Allocator + Copy>(
     let steps = steps_of(alloc, tree.iter().remaining())?;
     let words = words_of(alloc, nestings, steps.as_slice())?;
     let bound = locals(alloc, words.as_slice())?;
-    let given = namings(alloc, words.as_slice(), names, bound.as_slice())?;
-    let places = undecided(alloc, words.as_slice(), names, bound.as_slice())?;
+    let lists = lists_for(alloc, words.as_slice(), bound.len())?;
+    let beside = lists.as_slice();
+    let given = namings(alloc, words.as_slice(), beside, names, bound.as_slice())?;
+    let places = undecided(alloc, words.as_slice(), beside, names, bound.as_slice())?;
     let mut builder = TopSubtreeBuilder::new(alloc, tree.top_subtree().delimiter)?;
     write(&mut builder, given.as_slice(), steps.as_slice())?;
     Ok(Renamed {
