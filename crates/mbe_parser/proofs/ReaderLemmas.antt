@@ -1,9 +1,8 @@
 -- What one op of a pattern or a template says of all its trees, and what specifiers mean.
-use Rattle.std.specs.Prelude.{◌≡◌, ℕ, Bool, true, false, if◌then◌else◌, List, [], ◌∷◌, ◌++◌, length, codes, Option, Some, None, Result, Ok, Err, IfOk, IfErr, OnOk, IsTrue, IsFalse, refl, ◌==◌}
+use Rattle.std.specs.Prelude.{◌≡◌, ℕ, Bool, true, false, if◌then◌else◌, List, [], ◌∷◌, ◌++◌, length, codes, Option, Some, None, Result, Ok, Err, IfErr, OnOk, IsTrue, IsFalse, refl, ◌==◌}
 use Rattle.std.proofs.Common.{ap, sym, ◌∙◌, subst}
 use Rattle.std.proofs.lemmas.Option.{none-some, same_Some}
 use Rattle.std.proofs.lemmas.Bool.{eq-eqb, ne_eqb}
-use Rattle.std.specs.Str.{bytes_eq}
 use Rattle.std.proofs.lemmas.Slice.Eq.{bytes_eq-Decides}
 use Rattle.mbe_tt.specs.Trees.Leaf.{Leaf, Ident, punct, is_text}
 use Rattle.mbe_tt.specs.Trees.Tree.{Forest, leaf, group, rest_of, skip}

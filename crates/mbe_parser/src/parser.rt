@@ -532,8 +532,8 @@ fn is_boolean_literal<A: Allocator>(literal: &Literal<A>) -> bool
     text == "true" || text == "false"
 }
 
-// The suffix of a repetition: a separator or none, and then `*`, `+` or `?`.
-fn parse_repeat<A: Allocator>(
+/// The suffix of a repetition: a separator or none, and then `*`, `+` or `?`, which are consumed.
+pub fn parse_repeat<A: Allocator>(
     src: &mut TtIter<'_, A>,
 ) -> Result<(Option<Separator<A>>, RepeatKind), ReadError>
     ensures suffix { IfOk result (λ s. (body : Forest)

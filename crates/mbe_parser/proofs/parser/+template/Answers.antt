@@ -8,7 +8,7 @@ use Rattle.mbe_semantics.specs.Syntax.Template.{head, nothing}
 use Rattle.mbe_parser.specs.Reader.{mode_of, ReadsOp}
 use Rattle.mbe_ops.specs.declared.ops.Op.TheVariants as ops
 use Rattle.mbe_ops.specs.Views.{op_of, template_of}
-use Rattle.mbe_ops.proofs.Fragments.{first_none, first_tree}
+use Rattle.mbe_ops.proofs.Fragments.{first_tree}
 use Rattle.mbe_ops.proofs.OpViews.{view-template, view-subtree, view-literal, view-ident, view-repeat}
 use Rattle.mbe_ops.proofs.Fragments.{puncts_longer}
 use Rattle.mbe_parser.proofs.ReaderLemmas as lemmas
