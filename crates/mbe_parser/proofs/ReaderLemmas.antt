@@ -1,11 +1,11 @@
 -- What one op of a pattern or a template says of all its trees, and what specifiers mean.
-use Rattle.std.specs.Prelude.{◌≡◌, ℕ, Bool, true, false, if◌then◌else◌, List, [], ◌∷◌, ◌++◌, length, codes, Option, Some, None, Result, Ok, Err, IfErr, OnOk, IsTrue, IsFalse, refl, ◌==◌}
+use Rattle.std.specs.Prelude.{◌≡◌, ℕ, Bool, true, false, if◌then◌else◌, List, [], ◌∷◌, ◌++◌, length, codes, Option, Some, None, option_and_then, Result, Ok, Err, IfErr, OnOk, IsTrue, IsFalse, refl, ◌==◌}
 use Rattle.std.proofs.Common.{ap, sym, ◌∙◌, subst}
 use Rattle.std.proofs.lemmas.Option.{none-some, same_Some}
 use Rattle.std.proofs.lemmas.Bool.{eq-eqb, ne_eqb}
 use Rattle.std.proofs.lemmas.Slice.Eq.{bytes_eq-Decides}
 use Rattle.mbe_tt.specs.Trees.Leaf.{Leaf, Ident, punct, is_text}
-use Rattle.mbe_tt.specs.Trees.Tree.{Forest, leaf, group, rest_of, skip}
+use Rattle.mbe_tt.specs.Trees.Tree.{Forest, leaf, group, rest_of, skip, any_ident, front_ident, not_underscore}
 use Rattle.mbe_tt.specs.Trees.Glue.{glue}
 use Rattle.mbe_tt.specs.declared.span.SyntaxContext.{SyntaxContext}
 use Rattle.mbe_tt.specs.declared.span.Edition.{Edition}
@@ -40,12 +40,13 @@ module _ (HasEdition : SyntaxContext → Edition → Type 0) where
 
   -- a name that is looked up by its bytes
   pub common : (specifier : Ident) (text : List ℕ) (kind : MetaVarKind) → text ≡ specifier.sym
-      → ((kind_named kind_names text ≡ Some kind) × IsFalse (is_text text (codes "pat"))
-      × IsFalse (is_text text (codes "expr"))) → Specifies HasEdition specifier (Some kind)
+      → ((kind_named kind_names text ≡ Some kind) × IsFalse (is_text text (codes "_"))
+      × IsFalse (is_text text (codes "pat")) × IsFalse (is_text text (codes "expr")))
+      → Specifies HasEdition specifier (Some kind)
   common specifier text kind same h =
       subst (Specifies HasEdition specifier) (ap (kind_named kind_names) (sym same) ∙ h.0)
-      (undated (subst (λ t. IsFalse (is_text t (codes "pat"))) same h.1)
-      (subst (λ t. IsFalse (is_text t (codes "expr"))) same h.2))
+      (undated (subst (λ t. IsFalse (is_text t (codes "pat"))) same h.2)
+      (subst (λ t. IsFalse (is_text t (codes "expr"))) same h.3))
 
   same_text : (a b : List ℕ) → a ≡ b → IsTrue (is_text a b)
   same_text a b e = (bytes_eq-Decides a b).1 e
@@ -139,6 +140,12 @@ module _ (HasEdition : SyntaxContext → Edition → Type 0) (mode : Mode) where
 pub some_if : (b : Bool) (i s : Ident) → (if b then None else Some i) ≡ Some s → (b ≡ false) × (i ≡ s)
 some_if true i s e = absurd (none-some s e)
 some_if false i s e = (refl, same_Some i s e)
+
+pub a_word : (f : Forest) (i : Ident) (text : List ℕ) → Some i ≡ any_ident f → text ≡ i.sym
+    → IsFalse (is_text text (codes "_")) → Some i ≡ front_ident f
+a_word f i text there same other =
+    ap (λ (c : Bool). if c then None else Some i) (sym other ∙ ap (λ t. is_text t (codes "_")) same)
+    ∙ ap (option_and_then not_underscore) there
 
 -- ---- ops that were read before
 

@@ -1,6 +1,7 @@
 // Reads patterns and templates into ops.
 ghost use Rattle.std.specs.Prelude.{◌≡◌, ◌<◌, ◌≤◌, ◌+◌, [], ◌∷◌, codes, IsFalse, length, true, is_some, vec_len, vec_capacity, option_map, Some, Ok, Err, IfOk, IfErr, IfSome, IfNone, OnOk};
-ghost use Rattle.mbe_tt.specs.Trees.Tree.{Forest, Leaf_tree, flat_len, first, is_truth, leaf as leaf_before, front_punct, skip};
+ghost use Rattle.std.specs.Result.{result_ok};
+ghost use Rattle.mbe_tt.specs.Trees.Tree.{Forest, Leaf_tree, flat_len, first, is_truth, leaf as leaf_before, front_ident, front_punct, rest_of, skip};
 ghost use Rattle.mbe_tt.specs.Trees.Glue.{glue};
 ghost use Rattle.mbe_tt.specs.Trees.Leaf.{ident as ident_leaf, punct as punct_leaf};
 ghost use Rattle.mbe_tt.specs.Views.Shown.{ident_of, literal_of, leaf_of};
@@ -458,15 +459,42 @@ fn eat_fragment_kind<A: Allocator, E: Copy + Fn(SyntaxContext) -> Edition>(
             let Ok(()) = src.expect_char(':') else {
                 return Err(SyntaxFault::MissingSpecifier);
             };
-            let Ok(specifier) = src.expect_ident() else {
+            let Ok((_specifier, kind)) = eat_specifier(edition, src) else {
                 return Err(SyntaxFault::MissingSpecifier);
             };
-            Ok(fragment_kind(edition, specifier))
+            Ok(kind)
         }
     }
 }
 
+// Consumes a specifier, an identifier other than `_`, and returns it with its kind.
+#[inline(always)]
+fn eat_specifier<'a, A: Allocator, E: Copy + Fn(SyntaxContext) -> Edition>(
+    edition: E,
+    src: &mut TtIter<'a, A>,
+) -> Result<(&'a Ident<A>, Option<MetaVarKind>), ()>
+    requires { MayAsk (E.pre edition) }
+    ensures specifier { option_map (λ s. ident_of s.0.now) (result_ok result)
+        ≡ front_ident src.old }
+    ensures kind { IfOk result (λ s. Specifies (E.post edition) (ident_of s.0.now) s.1) }
+    ensures rest { OnOk result (src.new ≡ rest_of src.old) }
+    ensures no_longer { flat_len src.new ≤ flat_len src.old }
+{
+    let Ok(specifier) = src.expect_ident_or_underscore() else {
+        return Err(());
+    };
+    let text = specifier.sym.as_str();
+    if let Some(kind) = common_kind(text) {
+        return Ok((specifier, Some(kind)));
+    }
+    if text == "_" {
+        return Err(());
+    }
+    Ok((specifier, fragment_kind(edition, specifier)))
+}
+
 // The kind that a specifier names, in the edition of its own span; an unknown one is no kind.
+#[inline(never)]
 fn fragment_kind<A: Allocator, E: Copy + Fn(SyntaxContext) -> Edition>(
     edition: E,
     specifier: &Ident<A>,
@@ -474,11 +502,7 @@ fn fragment_kind<A: Allocator, E: Copy + Fn(SyntaxContext) -> Edition>(
     requires { MayAsk (E.pre edition) }
     ensures { Specifies (E.post edition) (ident_of specifier.now) result }
 {
-    let text = specifier.sym.as_str();
-    if let Some(kind) = common_kind(text) {
-        return Some(kind);
-    }
-    match text {
+    match specifier.sym.as_str() {
         "expr" => Some(expr_kind(edition, specifier.span.ctx)),
         "pat" => Some(pat_kind(edition, specifier.span.ctx)),
         name => MetaVarKind::named(name),
@@ -489,6 +513,7 @@ fn fragment_kind<A: Allocator, E: Copy + Fn(SyntaxContext) -> Edition>(
 #[inline(always)]
 fn common_kind(specifier: &str) -> Option<MetaVarKind>
     ensures { IfSome result (λ kind. (kind_named kind_names specifier.now ≡ Some kind)
+        × IsFalse (is_text specifier.now (codes "_"))
         × IsFalse (is_text specifier.now (codes "pat"))
         × IsFalse (is_text specifier.now (codes "expr"))) }
 {
