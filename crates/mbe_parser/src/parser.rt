@@ -358,7 +358,7 @@ fn push_leaf_after_dollar<A: Allocator + Copy, E: Copy + Fn(SyntaxContext) -> Ed
 {
     match leaf {
         Leaf::Ident(ident) => {
-            if ident.sym.as_str() == "crate" {
+            if is_crate(ident.sym.as_str()) {
                 push_dollar_crate(alloc, ident, ops)?;
                 return Ok(());
             }
@@ -390,6 +390,14 @@ fn push_leaf_after_dollar<A: Allocator + Copy, E: Copy + Fn(SyntaxContext) -> Ed
             }
         }
     }
+}
+
+// Whether the word is `crate`.
+#[inline(always)]
+fn is_crate(word: &str) -> bool
+    ensures { result ≡ is_text word.now (codes "crate") }
+{
+    word.len() == 5 && word == "crate"
 }
 
 // Adds the identifier that `$crate` stands for.
