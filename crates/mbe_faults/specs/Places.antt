@@ -1,53 +1,18 @@
 -- Where a definition is refused: the number of flat tokens before the first of those that can't be read.
-use Rattle.std.specs.Prelude.{◌≡◌, ◌≢◌, ◌==◌, ◌+◌, ◌-◌, ◌||◌, ℕ, suc, Bool, true, false, if◌then◌else◌, List, codes, Option, Some, None, Ok, Err}
+use Rattle.std.specs.Prelude.{◌≡◌, ◌≢◌, ◌+◌, ◌-◌, ℕ, suc, List, Option, Some, None, Ok, Err}
 use Rattle.mbe_tt.specs.declared.span.SyntaxContext.{SyntaxContext}
 use Rattle.mbe_tt.specs.declared.span.Edition.{Edition}
 use Rattle.mbe_tt.specs.declared.span.Span.{Span}
 use Rattle.mbe_tt.specs.declared.tt.Delimiter.{Delimiter}
-use Rattle.mbe_tt.specs.Trees.Leaf.{Ident, punct}
-use Rattle.mbe_tt.specs.Trees.Tree.{Forest, none, leaf, group, flat_len, rest_of, passed}
+use Rattle.mbe_tt.specs.Trees.Leaf.{Ident}
+use Rattle.mbe_tt.specs.Trees.Tree.{Forest, none, flat_len, passed}
 use Rattle.mbe_semantics.specs.declared.kinds.RepeatKind.{RepeatKind}
 use Rattle.mbe_semantics.specs.Syntax.Op.{Name, Op, Ops, Separator}
 use Rattle.mbe_semantics.specs.Syntax.Template.{Mode, pattern, template, Fault, one, typed, opens_group, opens_repetition, head, Template}
 use Rattle.mbe_semantics.specs.Syntax.Definition.{Rule, RuleTrees, rule_trees_at, AreParts, after_separator}
-use Rattle.mbe_parser.specs.Reader.{is_word}
+use Rattle.mbe_parser.specs.Stops.{stop_in_rule}
 
 -- ---- the trees of a rule
-
--- whether a punct of that char is in front
-abbrev pub begins_with : ℕ → Forest → Bool
-begins_with c (leaf (punct p) rest) = p.char == c
-begins_with c _ = false
-
--- whether a group is in front
-abbrev pub is_group : Forest → Bool
-is_group (group d inside rest) = true
-is_group _ = false
-
--- the trees that are left where a tree is wanted and then others: all, if it isn't there
-abbrev pub wanting : (Forest → Bool) → (Forest → Forest) → Forest → Forest
-wanting is_there others f = if is_there f then others (rest_of f) else f
-
--- the trees that are left where a rule is refused before its pattern and its template are read: a group, `=`, `>` and
--- a group are wanted
-abbrev pub stop_at_greater : Forest → Forest
-stop_at_greater = wanting (begins_with 62) (λ f. f)
-
-abbrev pub stop_at_equals : Forest → Forest
-stop_at_equals = wanting (begins_with 61) stop_at_greater
-
-abbrev pub stop_at_pattern : Forest → Forest
-stop_at_pattern = wanting is_group stop_at_equals
-
--- the same after `attr` and `derive`, where a group comes first
-abbrev pub stop_at_style : Forest → Forest
-stop_at_style f =
-    if is_word (codes "attr") f || is_word (codes "derive") f then wanting is_group stop_at_pattern (rest_of f)
-    else stop_at_pattern f
-
--- and after `unsafe`
-abbrev pub stop_in_rule : Forest → Forest
-stop_in_rule f = stop_at_style (if is_word (codes "unsafe") f then rest_of f else f)
 
 -- the number of flat tokens before the content of a rule's template, which its closing and the trees after the rule
 -- follow

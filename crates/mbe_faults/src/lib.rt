@@ -5,5 +5,4 @@ pub mod empty;
 pub mod front;
 mod inner;
 pub mod rules;
-pub mod suffix;
 pub mod templates;

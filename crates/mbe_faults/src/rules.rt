@@ -1,15 +1,15 @@
 // The rules of a definition up to the first fault, and the place of it.
-ghost use Rattle.std.specs.Prelude.{◌≡◌, ◌<◌, ◌≤◌, ◌+◌, ◌^◌, option_map, IfOk, IfErr, IfSome, OnOk, OnErr, is_ok, if◌then◌else◌};
-ghost use Rattle.mbe_tt.specs.Trees.Tree.{flat_len, rest_of};
+ghost use Rattle.std.specs.Prelude.{◌≡◌, ◌<◌, ◌≤◌, ◌+◌, ◌^◌, option_map, IfOk, IfErr, IfSome, OnOk, OnErr};
+ghost use Rattle.mbe_tt.specs.Trees.Tree.{flat_len};
 ghost use Rattle.mbe_errors.specs.ErrorViews.{fault_of};
-ghost use Rattle.mbe_semantics.specs.declared.macro_call_style.MacroCallStyle.{MacroCallStyle as SpecStyle};
 ghost use Rattle.mbe_semantics.specs.Syntax.Template.{pattern, Template};
-ghost use Rattle.mbe_semantics.specs.Syntax.Definition.{rule_trees_at, pattern_at};
+ghost use Rattle.mbe_semantics.specs.Syntax.Definition.{rule_trees_at};
 ghost use Rattle.mbe_semantics.specs.Laws.Marking.{MayAsk};
 ghost use Rattle.mbe_ops.specs.Views.{template_of};
-ghost use Rattle.mbe_parser.specs.Reader.{mode_of, is_word, IsStyled, AreRuleTrees, ReadsRule};
+ghost use Rattle.mbe_parser.specs.Reader.{mode_of, ReadsRule};
+ghost use Rattle.mbe_parser.specs.Stops.{stop_in_rule};
 ghost use Rattle.mbe_parser.specs.RuleViews.{rule_of, rules_seen};
-ghost use Rattle.mbe_faults.specs.Places.{RuleFaultAt, TemplateFaultAt, stop_at_pattern, stop_in_rule};
+ghost use Rattle.mbe_faults.specs.Places.{RuleFaultAt, TemplateFaultAt};
 ghost use Rattle.mbe_faults.specs.RuleTrees.{IsRule};
 ghost use Rattle.mbe_faults.specs.Empty.{RefusedAt, OneRefusedAt, IsEmptyPlace, IsRuleEmpty};
 ghost use Rattle.mbe_faults.specs.Refusals.{refusal_of, AreRefused, IsOneRefused, first_of, refused, empty_within};
@@ -20,10 +20,10 @@ use crate::templates::{Found, read_part};
 use mbe_errors::error::SyntaxFault;
 use mbe_ops::ops::MetaTemplate;
 use mbe_parser::parser::Mode;
-use mbe_parser::rules::Rule;
+use mbe_parser::rules::{Rule, parse_rule_style, rule_groups};
 use mbe_semantics::macro_call_style::MacroCallStyle;
 use mbe_tt::span::{Edition, SyntaxContext};
-use mbe_tt::tt::{Leaf, TtElement, TtIter};
+use mbe_tt::tt::TtIter;
 use std::alloc::{AllocError, Allocator};
 
 /// Why a definition is refused. Clauses see it by `refusal_of`.
@@ -277,67 +277,4 @@ fn rule_trees<'a, A: Allocator>(
         Ok((pattern, template)) => Ok((style, pattern, template)),
         Err(fault) => Err(fault),
     }
-}
-
-// The call that a rule is for: `attr` or `derive` and a group, or else a function-like call. An
-// `unsafe` may come before.
-fn parse_rule_style<A: Allocator>(src: &mut TtIter<'_, A>) -> Result<MacroCallStyle, SyntaxFault>
-    ensures style { IsStyled result (rule_trees_at src.old) src.new }
-    ensures stop { stop_in_rule src.old ≡ (if is_ok result then stop_at_pattern src.new
-        else src.new) }
-    ensures shorter { flat_len src.new ≤ flat_len src.old }
-{
-    let _unsafe = eat_word(src, "unsafe");
-    let style = if eat_word(src, "attr") {
-        MacroCallStyle::Attr
-    } else if eat_word(src, "derive") {
-        MacroCallStyle::Derive
-    } else {
-        return Ok(MacroCallStyle::FnLike);
-    };
-    let Ok(_arguments) = src.expect_subtree() else {
-        return Err(SyntaxFault::ExpectedParentheses);
-    };
-    Ok(style)
-}
-
-// Consumes the identifier of that text, raw or not, where it comes first.
-fn eat_word<A: Allocator>(src: &mut TtIter<'_, A>, word: &str) -> bool
-    ensures value { result ≡ is_word word.now src.old }
-    ensures rest { src.new ≡ (if result then rest_of src.old else src.old) }
-    ensures shorter { flat_len src.new ≤ flat_len src.old }
-{
-    if let Some(TtElement::Leaf(Leaf::Ident(ident))) = src.peek()
-        && ident.sym.as_str() == word
-    {
-        let _passed = src.next();
-        return true;
-    }
-    false
-}
-
-// The trees of a rule's pattern and of its template.
-fn rule_groups<'a, A: Allocator>(
-    src: &mut TtIter<'a, A>,
-) -> Result<(TtIter<'a, A>, TtIter<'a, A>), SyntaxFault>
-    ensures trees { (style : SpecStyle)
-        → AreRuleTrees style result (pattern_at style src.old) src.new }
-    ensures stop { OnErr result (stop_at_pattern src.old ≡ src.new) }
-    ensures shorter { flat_len src.new ≤ flat_len src.old }
-    ensures room { IfOk result (λ p. 6 + flat_len p.0 + flat_len p.1 + flat_len src.new
-        ≤ flat_len src.old) }
-{
-    let Ok((_subtree, pattern)) = src.expect_subtree() else {
-        return Err(SyntaxFault::ExpectedSubtree);
-    };
-    let Ok(()) = src.expect_char('=') else {
-        return Err(SyntaxFault::ExpectedEquals);
-    };
-    let Ok(()) = src.expect_char('>') else {
-        return Err(SyntaxFault::ExpectedGreater);
-    };
-    let Ok((_subtree, template)) = src.expect_subtree() else {
-        return Err(SyntaxFault::ExpectedSubtree);
-    };
-    Ok((pattern, template))
 }

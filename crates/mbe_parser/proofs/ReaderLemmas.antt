@@ -1,13 +1,12 @@
 -- What one op of a pattern or a template says of all its trees, and what specifiers mean.
-use Rattle.std.specs.Prelude.{◌≡◌, ℕ, Bool, true, false, if◌then◌else◌, List, [], ◌∷◌, ◌++◌, length, codes, Option, Some, None, Result, Ok, Err, IfOk, IfErr, OnOk, IsTrue, IsFalse, refl, ◌==◌}
+use Rattle.std.specs.Prelude.{◌≡◌, ℕ, Bool, true, false, if◌then◌else◌, List, [], ◌∷◌, ◌++◌, length, codes, Option, Some, None, option_and_then, Result, Ok, Err, IfErr, OnOk, IsTrue, IsFalse, refl, ◌==◌}
 use Rattle.std.proofs.Common.{ap, sym, ◌∙◌, subst}
 use Rattle.std.proofs.lemmas.Option.{none-some, same_Some}
 use Rattle.std.proofs.lemmas.Bool.{eq-eqb, ne_eqb}
-use Rattle.std.specs.Str.{bytes_eq}
 use Rattle.std.proofs.lemmas.Slice.Eq.{bytes_eq-Decides}
 use Rattle.mbe_tt.specs.Trees.Leaf.{Leaf, Ident, punct, is_text}
-use Rattle.mbe_tt.specs.Trees.Tree.{Forest, leaf, group, rest_of, skip}
-use Rattle.mbe_tt.specs.Trees.Glue.{glue, glued}
+use Rattle.mbe_tt.specs.Trees.Tree.{Forest, leaf, group, rest_of, skip, any_ident, front_ident, not_underscore}
+use Rattle.mbe_tt.specs.Trees.Glue.{glue}
 use Rattle.mbe_tt.specs.declared.span.SyntaxContext.{SyntaxContext}
 use Rattle.mbe_tt.specs.declared.span.Edition.{Edition}
 use Rattle.mbe_tt.specs.declared.tt.Punct.{Punct}
@@ -20,14 +19,12 @@ use Rattle.mbe_semantics.specs.declared.kinds.RepeatKind.{RepeatKind}
 use Rattle.mbe_semantics.specs.Fragments.Kinds.{kind_named, kind_names}
 use Rattle.mbe_semantics.proofs.KindLemmas.{different}
 use Rattle.mbe_semantics.specs.Syntax.Template.{Mode, Fault, Head, ended, one, typed, opens_group, opens_repetition, head, after_dollar, puncts_at, pat_kind, expr_kind, Specifies, dated_pat, dated_expr, undated, Template, token, variable, grouped, repeated, TemplateFault, here as at_front, in_group, in_repetition, after_token, after_variable, following_group, after_repetition}
-use Rattle.mbe_parser.specs.Reader.{AtHead, FaultAtHead, ReadsOp, Stops}
+use Rattle.mbe_parser.specs.Reader.{AtHead, FaultAtHead, IsPushed, ReadsOp, Stops}
 use Rattle.mbe_errors.specs.ErrorViews.{fault_of}
 use Rattle.mbe_errors.specs.declared.error.ReadError as why
 use Rattle.mbe_ops.specs.Views.{op_of, ops_of}
 use Rattle.mbe_ops.specs.declared.ops.Op as code
 use Rattle.mbe_ops.proofs.Fragments.{back-skip}
-use Rattle.mbe_ops.proofs.OpViews.{view-punct}
-use Rattle.mbe_ops.proofs.Fragments.{glued_is}
 
 -- ---- specifiers
 
@@ -40,6 +37,16 @@ module _ (HasEdition : SyntaxContext → Edition → Type 0) where
       subst (Specifies HasEdition specifier) (sym k)
       (undated (different specifier.sym (codes "pat") (λ e. p (sym e)))
       (different specifier.sym (codes "expr") (λ e. x (sym e))))
+
+  -- a name that is looked up by its bytes
+  pub common : (specifier : Ident) (text : List ℕ) (kind : MetaVarKind) → text ≡ specifier.sym
+      → ((kind_named kind_names text ≡ Some kind) × IsFalse (is_text text (codes "_"))
+      × IsFalse (is_text text (codes "pat")) × IsFalse (is_text text (codes "expr")))
+      → Specifies HasEdition specifier (Some kind)
+  common specifier text kind same h =
+      subst (Specifies HasEdition specifier) (ap (kind_named kind_names) (sym same) ∙ h.0)
+      (undated (subst (λ t. IsFalse (is_text t (codes "pat"))) same h.2)
+      (subst (λ t. IsFalse (is_text t (codes "expr"))) same h.3))
 
   same_text : (a b : List ℕ) → a ≡ b → IsTrue (is_text a b)
   same_text a b e = (bytes_eq-Decides a b).1 e
@@ -134,6 +141,12 @@ pub some_if : (b : Bool) (i s : Ident) → (if b then None else Some i) ≡ Some
 some_if true i s e = absurd (none-some s e)
 some_if false i s e = (refl, same_Some i s e)
 
+pub a_word : (f : Forest) (i : Ident) (text : List ℕ) → Some i ≡ any_ident f → text ≡ i.sym
+    → IsFalse (is_text text (codes "_")) → Some i ≡ front_ident f
+a_word f i text there same other =
+    ap (λ (c : Bool). if c then None else Some i) (sym other ∙ ap (λ t. is_text t (codes "_")) same)
+    ∙ ap (option_and_then not_underscore) there
+
 -- ---- ops that were read before
 
 abbrev pub with_front : {A : Type 0} → List (code.Op A) → Ops → Ops
@@ -162,12 +175,13 @@ stopped (Err e) P Q h p = Stops-weaker e P Q h p
 
 module _ (HasEdition : SyntaxContext → Edition → Type 0) (m : Mode) where
   -- a leaf after a `$`
-  pub leaf_op : {A E : Type 0} (r : Result (code.Op A) E) (p : Punct) (f left new : Forest) (l : Leaf) → f ≡ leaf l left
-      → IfOk r (λ o. (d : Punct) → AtHead HasEdition m (after_dollar m d (leaf l left)) (op_of o) new)
-      → IfOk r (λ o. AtHead HasEdition m (after_dollar m p f) (op_of o) new)
-  leaf_op (Err e) p f left new l here h = tt
-  leaf_op (Ok o) p f left new l here h =
-      subst (λ (g : Forest). AtHead HasEdition m (after_dollar m p g) (op_of o) new) (sym here) (h p)
+  pub leaf_pushed : {A T E : Type 0} (r : Result T E) (before after : List (code.Op A)) (p : Punct) (f left new : Forest)
+      (l : Leaf) → f ≡ leaf l left
+      → OnOk r (IsPushed before after (λ o. (d : Punct) → AtHead HasEdition m (after_dollar m d (leaf l left)) o new))
+      → OnOk r (IsPushed before after (λ o. AtHead HasEdition m (after_dollar m p f) o new))
+  leaf_pushed (Err e) before after p f left new l here h = tt
+  leaf_pushed (Ok x) before after p f left new l here h =
+      (h.0, h.1, subst (λ (g : Forest). AtHead HasEdition m (after_dollar m p g) (op_of h.0) new) (sym here) (h.2 p))
 
   pub leaf_fault : {T : Type 0} (r : Result T why.ReadError) (p : Punct) (f left : Forest) (l : Leaf) → f ≡ leaf l left
       → IfErr r (λ e. Stops e (λ x. (d : Punct) → after_dollar m d (leaf l left) ≡ Err x))
@@ -198,11 +212,13 @@ puncts_head m f left p here n =
     puncts_if b t = ap (λ (c : Bool). if c then after_dollar m p left else Ok (puncts_at (leaf (punct p) left))) t
 
 module _ (HasEdition : SyntaxContext → Edition → Type 0) where
-  pub head_op : {A E : Type 0} (r : Result (code.Op A) E) (m : Mode) (f new : Forest) (h : Result Head Fault)
-      → head m f ≡ h
-      → IfOk r (λ o. AtHead HasEdition m h (op_of o) new) → IfOk r (λ o. ReadsOp HasEdition m f (op_of o) new)
-  head_op (Err e) m f new h here at = tt
-  head_op (Ok o) m f new h here at = reads_head HasEdition m f new (op_of o) h here at
+  pub head_pushed : {A T E : Type 0} (r : Result T E) (before after : List (code.Op A)) (m : Mode) (f new : Forest)
+      (h : Result Head Fault) → head m f ≡ h
+      → OnOk r (IsPushed before after (λ o. AtHead HasEdition m h o new))
+      → OnOk r (IsPushed before after (λ o. ReadsOp HasEdition m f o new))
+  head_pushed (Err e) before after m f new h here at = tt
+  head_pushed (Ok x) before after m f new h here at =
+      (at.0, at.1, reads_head HasEdition m f new (op_of at.0) h here at.2)
 
   pub head_fault : {T : Type 0} (r : Result T why.ReadError) (m : Mode) (f : Forest) (h : Result Head Fault)
       → head m f ≡ h
@@ -236,12 +252,21 @@ module _ (HasEdition : SyntaxContext → Edition → Type 0) where
   pub leaf_reads : (m : Mode) (f left : Forest) (o : Op) → head m f ≡ Ok (one o left) → ReadsOp HasEdition m f o left
   leaf_reads m f left o e = reads_head HasEdition m f left o (Ok (one o left)) e (refl, refl)
 
-  pub puncts_op : (A : Type 0) (m : Mode) (f left : Forest) (p : Punct) (ps : List Punct) → head m f ≡ Ok (puncts_at f)
-      → Some ps ≡ glued f
-      → left ≡ skip (length (glue f)) f → ReadsOp HasEdition m f (op_of {A = A} (code.TheVariants.Punct ps)) left
-  puncts_op A m f left p ps e g l =
-      reads_head HasEdition m f left _ (Ok (puncts_at f)) e (
-        ap (λ (xs : List Punct). ops.token (ops.puncts xs)) (glued_is f ps g)
-            ∙ sym (view-punct A ps),
-        back-skip (length (glue f)) f ∙ sym l,
-      )
+  pub puncts_pushed : {A : Type 0} (m : Mode) (f left : Forest) (before after : List (code.Op A))
+      → head m f ≡ Ok (puncts_at f) → left ≡ skip (length (glue f)) f
+      → IsPushed before after (λ o. o ≡ ops.token (ops.puncts (glue f)))
+      → IsPushed before after (λ o. ReadsOp HasEdition m f o left)
+  puncts_pushed m f left before after e l h = (
+    h.0,
+    h.1,
+    reads_head HasEdition m f left (op_of h.0) (Ok (puncts_at f)) e (sym h.2, back-skip (length (glue f)) f ∙ sym l),
+  )
+
+  -- With one op more in the list, which is read at the front of what was left, all is read that was.
+  pub more_read : {A : Type 0} (m : Mode) (whole f left : Forest) (before reserved after : List (code.Op A))
+      (o : code.Op A) → ((os : Ops) → Template HasEdition m f os → Template HasEdition m whole (with_front before os))
+      → reserved ≡ before → after ≡ reserved ++ o ∷ [] → ReadsOp HasEdition m f (op_of o) left
+      → (os : Ops) → Template HasEdition m left os → Template HasEdition m whole (with_front after os)
+  more_read m whole f left before reserved after o read same pushed reads os h =
+      subst (λ xs. Template HasEdition m whole (with_front xs os)) (sym (pushed ∙ ap (λ xs. xs ++ o ∷ []) same))
+      (subst (Template HasEdition m whole) (with_front-push before o os) (read (op (op_of o) os) (reads.more os h)))

@@ -145,13 +145,13 @@ no_group style (group d inside rest) e = absurd (none-some (d, inside) (sym e))
 -- ---- the same, by what calls answer
 
 -- the trees that a call left
-abbrev Left : Bool → Forest → Forest → Type 0
+abbrev pub Left : Bool → Forest → Forest → Type 0
 Left r f left = left ≡ (if r then rest_of f else f)
 
-passed : (r : Bool) (f left : Forest) → Left r f left → r ≡ true → rest_of f ≡ left
+pub passed : (r : Bool) (f left : Forest) → Left r f left → r ≡ true → rest_of f ≡ left
 passed r f left l h = sym (l ∙ ap (λ (b : Bool). if b then rest_of f else f) h)
 
-stayed : (r : Bool) (f left : Forest) → Left r f left → r ≡ false → f ≡ left
+pub stayed : (r : Bool) (f left : Forest) → Left r f left → r ≡ false → f ≡ left
 stayed r f left l h = sym (l ∙ ap (λ (b : Bool). if b then rest_of f else f) h)
 
 pub after_unsafe : (r : Bool) (f left : Forest) → r ≡ is_word (codes "unsafe") f → Left r f left

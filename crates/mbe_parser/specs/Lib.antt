@@ -1,3 +1,4 @@
 pub mod Reader
 pub mod Refusal
 pub mod RuleViews
+pub mod Stops

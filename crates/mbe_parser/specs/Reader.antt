@@ -6,6 +6,8 @@ use Rattle.mbe_tt.specs.declared.span.SyntaxContext.{SyntaxContext}
 use Rattle.mbe_tt.specs.declared.span.Edition.{Edition}
 use Rattle.mbe_semantics.specs.declared.kinds.MetaVarKind.{MetaVarKind}
 use Rattle.mbe_parser.specs.declared.parser.Mode as code
+use Rattle.mbe_ops.specs.declared.ops.Op as pushed
+use Rattle.mbe_ops.specs.Views.{op_of}
 use Rattle.mbe_errors.specs.declared.error.SyntaxFault as reported
 use Rattle.mbe_errors.specs.declared.error.ReadError as read
 use Rattle.mbe_semantics.specs.declared.macro_call_style.MacroCallStyle.{MacroCallStyle}
@@ -42,6 +44,10 @@ NeverExtended old l = (before following : List Leaf) → separator_of before ≡
     → separator_of (before ++ l ∷ following) ≡ None
 
 -- ---- ops
+
+-- the list with one op more at its end, of which P holds
+abbrev pub IsPushed : {A : Type 0} → List (pushed.Op A) → List (pushed.Op A) → (Op → Type 0) → Type 0
+IsPushed {A} before after P = (o : pushed.Op A) × (after ≡ before ++ o ∷ []) × P (op_of o)
 
 module _ (HasEdition : SyntaxContext → Edition → Type 0) where
   -- this op is at the front, with what is inside it, and these are the trees after it

@@ -1,17 +1,21 @@
 // Reads patterns and templates into ops.
-ghost use Rattle.std.specs.Prelude.{◌≡◌, ◌<◌, ◌≤◌, ◌+◌, [], ◌∷◌, codes, option_map, Some, Ok, Err, IfOk, IfErr, IfSome, IfNone, OnOk};
-ghost use Rattle.mbe_tt.specs.Trees.Tree.{Forest, Leaf_tree, flat_len, first, is_truth, leaf as leaf_before};
+ghost use Rattle.std.specs.Prelude.{◌≡◌, ◌<◌, ◌≤◌, ◌+◌, [], ◌∷◌, codes, IsFalse, length, true, is_some, vec_len, vec_capacity, option_map, Some, Ok, Err, IfOk, IfErr, IfSome, IfNone, OnOk};
+ghost use Rattle.std.specs.Result.{result_ok};
+ghost use Rattle.mbe_tt.specs.Trees.Tree.{Forest, Leaf_tree, flat_len, first, is_truth, leaf as leaf_before, front_ident, front_punct, rest_of, skip};
+ghost use Rattle.mbe_tt.specs.Trees.Glue.{glue};
 ghost use Rattle.mbe_tt.specs.Trees.Leaf.{ident as ident_leaf, punct as punct_leaf};
 ghost use Rattle.mbe_tt.specs.Views.Shown.{ident_of, literal_of, leaf_of};
 ghost use Rattle.mbe_tt.specs.declared.span.Span.{Span as SpecSpan};
 ghost use Rattle.mbe_tt.specs.declared.span.Edition.{Edition as SpecEdition};
 ghost use Rattle.mbe_tt.specs.declared.tt.IdentIsRaw.TheVariants.{No};
 ghost use Rattle.mbe_tt.specs.declared.tt.Punct.{Punct as SpecPunct};
-ghost use Rattle.mbe_semantics.specs.Syntax.Op.{Name, variable as variable_op};
+ghost use Rattle.mbe_semantics.specs.Syntax.Op.{Name, token, puncts, variable as variable_op};
 ghost use Rattle.mbe_semantics.specs.Syntax.Template as grammar;
 ghost use Rattle.mbe_semantics.specs.Syntax.Template.{Template, TemplateFault, Specifies, opens_repetition, suffix_of, leaf_in_suffix, invalid_repeat};
-ghost use Rattle.mbe_parser.specs.Reader.{mode_of, Stops, IsExtended, NeverExtended, AtHead, FaultAtHead, ReadsOp};
+ghost use Rattle.mbe_parser.specs.Reader.{mode_of, Stops, IsExtended, NeverExtended, IsPushed, AtHead, FaultAtHead, ReadsOp};
 ghost use Rattle.mbe_errors.specs.ErrorViews.{fault_of};
+ghost use Rattle.mbe_semantics.specs.Fragments.Kinds.{kind_named, kind_names};
+ghost use Rattle.mbe_tt.specs.Trees.Leaf.{is_text};
 ghost use Rattle.mbe_semantics.specs.Laws.Marking.{MayAsk};
 ghost use Rattle.mbe_ops.specs.Views.{op_of, template_of, separator_seen};
 
@@ -76,35 +80,71 @@ fn template_within<A: Allocator + Copy, E: Copy + Fn(SyntaxContext) -> Edition>(
         (mode_of mode) f src.entry)) }
 {
     let mut src = src;
-    let mut ops = Vec::with_capacity(alloc, src.remaining().len())?;
-    'trees: while let Some(peeked) = src.peek() {
-        match peeked {
+    let mut ops = Vec::with_capacity(alloc, about_ops(src.fork(), mode))?;
+    'trees: while !src.is_empty() {
+        ops.reserve(1)?;
+        let Some(first) = src.peek() else {
+            unreachable!()
+        };
+        match first {
             TtElement::Leaf(Leaf::Ident(ident)) => {
                 let _word = src.next();
                 let sym = ident.sym.clone()?;
-                ops.push(Op::Ident(Ident {
+                ops.push_reserved(Op::Ident(Ident {
                     sym,
                     is_raw: ident.is_raw,
                     span: ident.span,
-                }))?;
+                }));
             }
             TtElement::Leaf(Leaf::Literal(literal)) => {
                 let _literal = src.next();
-                ops.push(Op::Literal(literal.clone()?))?;
+                ops.push_reserved(Op::Literal(literal.clone()?));
             }
             TtElement::Leaf(Leaf::Punct(punct)) => {
-                let op = op_at_punct(alloc, edition, *punct, &mut src, mode, levels)?;
-                ops.push(op)?;
+                push_at_punct(alloc, edition, *punct, &mut src, mode, levels, &mut ops)?;
             }
             TtElement::Subtree(subtree, inside) => {
                 let _group = src.next();
                 let tokens = template_within(alloc, edition, inside, mode, entered(levels)?)?;
                 let delimiter = subtree.delimiter;
-                ops.push(Op::Subtree { tokens, delimiter })?;
+                ops.push_reserved(Op::Subtree { tokens, delimiter });
             }
         }
     }
     Ok(MetaTemplate(fitted(alloc, ops)?))
+}
+
+// About how many ops the trees are: each is one, but what is after a `$` is left out, up to a specifier, or to what ends a repetition.
+fn about_ops<A: Allocator>(src: TtIter<'_, A>, mode: Mode) -> usize
+    ensures { result ≤ flat_len src.entry }
+{
+    let _most = src.remaining().flat_len();
+    let mut src = src;
+    let mut count = 0;
+    'trees: while let Some(tree) = src.next() {
+        count += 1;
+        if let TtElement::Leaf(Leaf::Punct(punct)) = tree
+            && punct.char == '$'
+        {
+            pass_dollar(&mut src, mode);
+        }
+    }
+    count
+}
+
+#[inline(always)]
+fn pass_dollar<A: Allocator>(src: &mut TtIter<'_, A>, mode: Mode)
+    ensures { flat_len src.new ≤ flat_len src.old }
+{
+    if let Some(TtElement::Leaf(_)) = src.next() {
+        match mode {
+            Mode::Template => return,
+            Mode::Pattern => {
+                let _colon = src.next();
+            }
+        }
+    }
+    let _end = src.next();
 }
 
 // How many levels may be inside one of so many. Out of memory if there is none.
@@ -128,69 +168,123 @@ fn fitted<A: Allocator>(alloc: A, ops: Vec<Op<A>, A>) -> Result<Vec<Op<A>, A>, A
     Ok(fit)
 }
 
-// The op that begins with the next tree, which is this punct. It and what it calls are inlined, since an op is large: moved from result
-// to result, it would cost more than to read it.
+// Adds the op that begins with the next tree, which is this punct. It and what it calls are inlined, and each adds the op where it
+// is made, since an op is large: moved from result to result, it would cost more than to read it.
 #[inline(always)]
 #[cycle(template)]
 #[tactic(auto, using(mbe_ops::proofs::OpViews::views))]
-fn op_at_punct<A: Allocator + Copy, E: Copy + Fn(SyntaxContext) -> Edition>(
+fn push_at_punct<A: Allocator + Copy, E: Copy + Fn(SyntaxContext) -> Edition>(
     alloc: A,
     edition: E,
     punct: Punct,
     src: &mut TtIter<'_, A>,
     mode: Mode,
     levels: usize,
-) -> Result<Op<A>, ReadError>
+    ops: &mut Vec<Op<A>, A>,
+) -> Result<(), ReadError>
     requires answers { MayAsk (E.pre edition) }
     requires peeked { first src.old ≡ Some (Leaf_tree (punct_leaf punct)) }
-    ensures op { IfOk result (λ o. ReadsOp (E.post edition) (mode_of mode)
-        src.old (op_of o) src.new) }
+    requires room { vec_len ops.old < vec_capacity ops.old }
+    ensures op { OnOk result (IsPushed ops.old.items ops.new.items (λ o. ReadsOp (E.post edition)
+        (mode_of mode) src.old o src.new)) }
     ensures fault { IfErr result (λ e. Stops e (λ f. TemplateFault (E.post edition)
         (mode_of mode) f src.old)) }
     ensures shorter { OnOk result (flat_len src.new < flat_len src.old) }
 {
     if punct.char == '$' {
         let _dollar = src.next();
-        return after_dollar(alloc, edition, punct, src, mode, levels);
+        return push_after_dollar(alloc, edition, punct, src, mode, levels, ops);
     }
+    push_puncts(alloc, src, ops)?;
+    Ok(())
+}
+
+// Adds the op of the next puncts.
+#[inline(never)]
+#[tactic(auto, using(mbe_ops::proofs::OpViews::views))]
+fn push_puncts<A: Allocator + Copy>(
+    alloc: A,
+    src: &mut TtIter<'_, A>,
+    ops: &mut Vec<Op<A>, A>,
+) -> Result<(), AllocError>
+    requires punct { is_some (front_punct src.old) ≡ true }
+    requires room { vec_len ops.old < vec_capacity ops.old }
+    ensures op { OnOk result (IsPushed ops.old.items ops.new.items (λ o.
+        o ≡ token (puncts (glue src.old)))) }
+    ensures rest { src.new ≡ skip (length (glue src.old)) src.old }
+{
     let Ok(puncts) = src.expect_glued_punct() else {
         unreachable!()
     };
-    Ok(Op::Punct(Puncts::new(alloc, puncts)?))
+    ops.push_reserved(Op::Punct(Puncts::new(alloc, puncts)?));
+    Ok(())
 }
 
-// What is after a `$`.
+// Adds what is after a `$`.
 #[inline(always)]
 #[cycle(template)]
 #[tactic(auto, using(mbe_ops::proofs::OpViews::views))]
-fn after_dollar<A: Allocator + Copy, E: Copy + Fn(SyntaxContext) -> Edition>(
+fn push_after_dollar<A: Allocator + Copy, E: Copy + Fn(SyntaxContext) -> Edition>(
     alloc: A,
     edition: E,
     dollar: Punct,
     src: &mut TtIter<'_, A>,
     mode: Mode,
     levels: usize,
-) -> Result<Op<A>, ReadError>
-    requires { MayAsk (E.pre edition) }
-    ensures op { IfOk result (λ o. AtHead (E.post edition) (mode_of mode)
-        (grammar.after_dollar (mode_of mode) dollar src.old) (op_of o) src.new) }
+    ops: &mut Vec<Op<A>, A>,
+) -> Result<(), ReadError>
+    requires answers { MayAsk (E.pre edition) }
+    requires room { vec_len ops.old < vec_capacity ops.old }
+    ensures op { OnOk result (IsPushed ops.old.items ops.new.items (λ o. AtHead (E.post edition)
+        (mode_of mode) (grammar.after_dollar (mode_of mode) dollar src.old) o src.new)) }
     ensures fault { IfErr result (λ e. Stops e (FaultAtHead (E.post edition) (mode_of mode)
         (grammar.after_dollar (mode_of mode) dollar src.old))) }
     ensures no_longer { OnOk result (flat_len src.new ≤ flat_len src.old) }
 {
     let Some(second) = src.next() else {
-        return Ok(Op::Punct(Puncts::one(dollar)));
+        ops.push_reserved(Op::Punct(Puncts::one(dollar)));
+        return Ok(());
     };
     match second {
-        TtElement::Subtree(subtree, inside) => match subtree.delimiter.kind {
-            DelimiterKind::Parenthesis => repetition(alloc, edition, inside, src, mode, levels),
-            DelimiterKind::Brace => expression_after_dollar(alloc, inside, mode),
-            DelimiterKind::Bracket | DelimiterKind::Invisible => {
-                Err(ReadError::Fault(SyntaxFault::ExpectedRepetition))
-            }
-        },
-        TtElement::Leaf(leaf) => leaf_after_dollar(alloc, edition, leaf, src, mode),
+        TtElement::Subtree(subtree, inside) => {
+            let kind = subtree.delimiter.kind;
+            push_group_after_dollar(alloc, edition, kind, inside, src, mode, levels, ops)
+        }
+        TtElement::Leaf(leaf) => push_leaf_after_dollar(alloc, edition, leaf, src, mode, ops),
     }
+}
+
+// Adds what a `$` and a group are.
+#[inline(never)]
+#[cycle(template)]
+fn push_group_after_dollar<A: Allocator + Copy, E: Copy + Fn(SyntaxContext) -> Edition>(
+    alloc: A,
+    edition: E,
+    kind: DelimiterKind,
+    inside: TtIter<'_, A>,
+    src: &mut TtIter<'_, A>,
+    mode: Mode,
+    levels: usize,
+    ops: &mut Vec<Op<A>, A>,
+) -> Result<(), ReadError>
+    requires answers { MayAsk (E.pre edition) }
+    requires room { vec_len ops.old < vec_capacity ops.old }
+    ensures op { OnOk result (IsPushed ops.old.items ops.new.items (λ o. AtHead (E.post edition)
+        (mode_of mode) (grammar.group_after_dollar (mode_of mode) kind inside.entry src.old)
+        o src.new)) }
+    ensures fault { IfErr result (λ e. Stops e (FaultAtHead (E.post edition) (mode_of mode)
+        (grammar.group_after_dollar (mode_of mode) kind inside.entry src.old))) }
+    ensures no_longer { OnOk result (flat_len src.new ≤ flat_len src.old) }
+{
+    let op = match kind {
+        DelimiterKind::Parenthesis => repetition(alloc, edition, inside, src, mode, levels)?,
+        DelimiterKind::Brace => expression_after_dollar(alloc, inside, mode)?,
+        DelimiterKind::Bracket | DelimiterKind::Invisible => {
+            return Err(ReadError::Fault(SyntaxFault::ExpectedRepetition));
+        }
+    };
+    ops.push_reserved(op);
+    Ok(())
 }
 
 // The repetition with these trees as its body. Its suffix is read first.
@@ -240,20 +334,23 @@ fn expression_after_dollar<A: Allocator + Copy>(
     }
 }
 
+// Adds what a `$` and this leaf are.
 #[inline(always)]
 #[tactic(auto, using(mbe_ops::proofs::OpViews::views))]
-fn leaf_after_dollar<A: Allocator + Copy, E: Copy + Fn(SyntaxContext) -> Edition>(
+fn push_leaf_after_dollar<A: Allocator + Copy, E: Copy + Fn(SyntaxContext) -> Edition>(
     alloc: A,
     edition: E,
     leaf: &Leaf<A>,
     src: &mut TtIter<'_, A>,
     mode: Mode,
-) -> Result<Op<A>, ReadError>
-    requires { MayAsk (E.pre edition) }
-    ensures op { IfOk result (λ o. (dollar : SpecPunct)
+    ops: &mut Vec<Op<A>, A>,
+) -> Result<(), ReadError>
+    requires answers { MayAsk (E.pre edition) }
+    requires room { vec_len ops.old < vec_capacity ops.old }
+    ensures op { OnOk result (IsPushed ops.old.items ops.new.items (λ o. (dollar : SpecPunct)
         → AtHead (E.post edition) (mode_of mode)
         (grammar.after_dollar (mode_of mode) dollar (leaf_before (leaf_of leaf.now) src.old))
-        (op_of o) src.new) }
+        o src.new)) }
     ensures fault { IfErr result (λ e. Stops e (λ f. (dollar : SpecPunct)
         → grammar.after_dollar (mode_of mode) dollar (leaf_before (leaf_of leaf.now) src.old)
         ≡ Err f)) }
@@ -261,16 +358,24 @@ fn leaf_after_dollar<A: Allocator + Copy, E: Copy + Fn(SyntaxContext) -> Edition
 {
     match leaf {
         Leaf::Ident(ident) => {
-            if ident.sym.as_str() == "crate" {
-                return Ok(Op::Ident(dollar_crate(alloc, ident.span)?));
+            if is_crate(ident.sym.as_str()) {
+                push_dollar_crate(alloc, ident, ops)?;
+                return Ok(());
             }
-            variable(edition, &ident.sym, ident.span, src, mode)
+            push_variable(edition, &ident.sym, ident.span, src, mode, ops)
         }
         Leaf::Literal(literal) => {
             if !is_boolean_literal(literal) {
                 return Err(ReadError::Fault(SyntaxFault::ExpectedIdent));
             }
-            variable(edition, &literal.text_and_suffix, literal.span, src, mode)
+            push_variable(
+                edition,
+                &literal.text_and_suffix,
+                literal.span,
+                src,
+                mode,
+                ops,
+            )
         }
         Leaf::Punct(punct) => {
             if punct.char != '$' {
@@ -278,49 +383,70 @@ fn leaf_after_dollar<A: Allocator + Copy, E: Copy + Fn(SyntaxContext) -> Edition
             }
             match mode {
                 Mode::Pattern => Err(ReadError::Fault(SyntaxFault::DollarInPattern)),
-                Mode::Template => Ok(Op::Punct(Puncts::one(*punct))),
+                Mode::Template => {
+                    ops.push_reserved(Op::Punct(Puncts::one(*punct)));
+                    Ok(())
+                }
             }
         }
     }
 }
 
-// The identifier that `$crate` stands for.
-fn dollar_crate<A: Allocator + Copy>(alloc: A, span: Span) -> Result<Ident<A>, AllocError>
-    ensures { IfOk result (λ i. ident_of i
-        ≡ record { sym = codes "$crate"; is_raw = No; span = span }) }
+// Whether the word is `crate`.
+#[inline(always)]
+fn is_crate(word: &str) -> bool
+    ensures { result ≡ is_text word.now (codes "crate") }
 {
-    Ok(Ident {
-        sym: Symbol::intern(alloc, "$crate")?,
-        is_raw: IdentIsRaw::No,
-        span,
-    })
+    word.len() == 5 && word == "crate"
 }
 
+// Adds the identifier that `$crate` stands for.
+#[inline(never)]
+#[tactic(auto, using(mbe_ops::proofs::OpViews::views))]
+fn push_dollar_crate<A: Allocator + Copy>(
+    alloc: A,
+    word: &Ident<A>,
+    ops: &mut Vec<Op<A>, A>,
+) -> Result<(), AllocError>
+    requires { vec_len ops.old < vec_capacity ops.old }
+    ensures { OnOk result (IsPushed ops.old.items ops.new.items (λ o.
+        o ≡ grammar.dollar_crate (ident_of word.now))) }
+{
+    ops.push_reserved(Op::Ident(Ident {
+        sym: Symbol::intern(alloc, "$crate")?,
+        is_raw: IdentIsRaw::No,
+        span: word.span,
+    }));
+    Ok(())
+}
+
+// Adds the variable of that name.
 #[inline(always)]
 #[tactic(auto, using(mbe_ops::proofs::OpViews::views))]
-fn variable<A: Allocator, E: Copy + Fn(SyntaxContext) -> Edition>(
+fn push_variable<A: Allocator, E: Copy + Fn(SyntaxContext) -> Edition>(
     edition: E,
     name: &Symbol<A>,
     id: Span,
     src: &mut TtIter<'_, A>,
     mode: Mode,
-) -> Result<Op<A>, ReadError>
-    requires { MayAsk (E.pre edition) }
-    ensures op { IfOk result (λ o. AtHead (E.post edition) (mode_of mode)
-        (grammar.variable_at (mode_of mode) name.now id src.old) (op_of o) src.new) }
+    ops: &mut Vec<Op<A>, A>,
+) -> Result<(), ReadError>
+    requires answers { MayAsk (E.pre edition) }
+    requires room { vec_len ops.old < vec_capacity ops.old }
+    ensures op { OnOk result (IsPushed ops.old.items ops.new.items (λ o. AtHead (E.post edition)
+        (mode_of mode) (grammar.variable_at (mode_of mode) name.now id src.old) o src.new)) }
     ensures fault { IfErr result (λ e. Stops e (λ f.
         grammar.variable_at (mode_of mode) name.now id src.old ≡ Err f)) }
     ensures no_longer { flat_len src.new ≤ flat_len src.old }
 {
     let kind = eat_fragment_kind(edition, src, mode)?;
-    Ok(Op::Var {
-        name: name.clone()?,
-        kind,
-        id,
-    })
+    let name = name.clone()?;
+    ops.push_reserved(Op::Var { name, kind, id });
+    Ok(())
 }
 
 // In a pattern, `:` and the specifier. In a template a variable is its name alone.
+#[inline(always)]
 fn eat_fragment_kind<A: Allocator, E: Copy + Fn(SyntaxContext) -> Edition>(
     edition: E,
     src: &mut TtIter<'_, A>,
@@ -341,15 +467,42 @@ fn eat_fragment_kind<A: Allocator, E: Copy + Fn(SyntaxContext) -> Edition>(
             let Ok(()) = src.expect_char(':') else {
                 return Err(SyntaxFault::MissingSpecifier);
             };
-            let Ok(specifier) = src.expect_ident() else {
+            let Ok((_specifier, kind)) = eat_specifier(edition, src) else {
                 return Err(SyntaxFault::MissingSpecifier);
             };
-            Ok(fragment_kind(edition, specifier))
+            Ok(kind)
         }
     }
 }
 
+// Consumes a specifier, an identifier other than `_`, and returns it with its kind.
+#[inline(always)]
+fn eat_specifier<'a, A: Allocator, E: Copy + Fn(SyntaxContext) -> Edition>(
+    edition: E,
+    src: &mut TtIter<'a, A>,
+) -> Result<(&'a Ident<A>, Option<MetaVarKind>), ()>
+    requires { MayAsk (E.pre edition) }
+    ensures specifier { option_map (λ s. ident_of s.0.now) (result_ok result)
+        ≡ front_ident src.old }
+    ensures kind { IfOk result (λ s. Specifies (E.post edition) (ident_of s.0.now) s.1) }
+    ensures rest { OnOk result (src.new ≡ rest_of src.old) }
+    ensures no_longer { flat_len src.new ≤ flat_len src.old }
+{
+    let Ok(specifier) = src.expect_ident_or_underscore() else {
+        return Err(());
+    };
+    let text = specifier.sym.as_str();
+    if let Some(kind) = common_kind(text) {
+        return Ok((specifier, Some(kind)));
+    }
+    if text == "_" {
+        return Err(());
+    }
+    Ok((specifier, fragment_kind(edition, specifier)))
+}
+
 // The kind that a specifier names, in the edition of its own span; an unknown one is no kind.
+#[inline(never)]
 fn fragment_kind<A: Allocator, E: Copy + Fn(SyntaxContext) -> Edition>(
     edition: E,
     specifier: &Ident<A>,
@@ -361,6 +514,23 @@ fn fragment_kind<A: Allocator, E: Copy + Fn(SyntaxContext) -> Edition>(
         "expr" => Some(expr_kind(edition, specifier.span.ctx)),
         "pat" => Some(pat_kind(edition, specifier.span.ctx)),
         name => MetaVarKind::named(name),
+    }
+}
+
+// The kinds that most specifiers name, by their bytes, which takes less than to compare texts.
+#[inline(always)]
+fn common_kind(specifier: &str) -> Option<MetaVarKind>
+    ensures { IfSome result (λ kind. (kind_named kind_names specifier.now ≡ Some kind)
+        × IsFalse (is_text specifier.now (codes "_"))
+        × IsFalse (is_text specifier.now (codes "pat"))
+        × IsFalse (is_text specifier.now (codes "expr"))) }
+{
+    match specifier.as_bytes() {
+        [b't', b't'] => Some(MetaVarKind::Tt),
+        [b't', b'y'] => Some(MetaVarKind::Ty),
+        [b'i', b'd', b'e', b'n', b't'] => Some(MetaVarKind::Ident),
+        [b'l', b'i', b't', b'e', b'r', b'a', b'l'] => Some(MetaVarKind::Literal),
+        _ => None,
     }
 }
 
@@ -395,8 +565,8 @@ fn is_boolean_literal<A: Allocator>(literal: &Literal<A>) -> bool
     text == "true" || text == "false"
 }
 
-// The suffix of a repetition: a separator or none, and then `*`, `+` or `?`.
-fn parse_repeat<A: Allocator>(
+/// The suffix of a repetition: a separator or none, and then `*`, `+` or `?`, which are consumed.
+pub fn parse_repeat<A: Allocator>(
     src: &mut TtIter<'_, A>,
 ) -> Result<(Option<Separator<A>>, RepeatKind), ReadError>
     ensures suffix { IfOk result (λ s. (body : Forest)

@@ -1,9 +1,10 @@
 // Reads the rules of definitions.
-ghost use Rattle.std.specs.Prelude.{◌≡◌, ◌<◌, IfOk, IfErr, OnOk, if◌then◌else◌};
+ghost use Rattle.std.specs.Prelude.{◌≡◌, ◌<◌, ◌≤◌, ◌+◌, IfOk, IfErr, OnOk, OnErr, is_ok, if◌then◌else◌};
 ghost use Rattle.mbe_tt.specs.Trees.Tree.{Forest, flat_len, rest_of};
 ghost use Rattle.mbe_semantics.specs.Syntax.Definition.{rule_trees_at, pattern_at, AreParts, PartsFault};
 ghost use Rattle.mbe_errors.specs.ErrorViews.{fault_of};
 ghost use Rattle.mbe_parser.specs.Reader.{is_word, IsStyled, AreRuleTrees, ReadsRule, RuleFault, AreRules, IsOneRule, Stops};
+ghost use Rattle.mbe_parser.specs.Stops.{stop_at_pattern, stop_in_rule};
 ghost use Rattle.mbe_parser.specs.RuleViews.{rule_of, rules_seen};
 ghost use Rattle.mbe_semantics.specs.declared.macro_call_style.MacroCallStyle.{MacroCallStyle as SpecStyle};
 ghost use Rattle.mbe_semantics.specs.Laws.Marking.{MayAsk};
@@ -127,10 +128,15 @@ impl<A: Allocator + Copy> Rule<A> {
     }
 }
 
-// The call that a rule is for: `attr` or `derive` and a group, or else a function-like call. An
-// `unsafe` may come before.
-fn parse_rule_style<A: Allocator>(src: &mut TtIter<'_, A>) -> Result<MacroCallStyle, SyntaxFault>
-    ensures { IsStyled result (rule_trees_at src.old) src.new }
+/// The call that a rule is for: `attr` or `derive` and a group, or else a function-like call. An
+/// `unsafe` may come before. A token that can't be read isn't consumed.
+pub fn parse_rule_style<A: Allocator>(
+    src: &mut TtIter<'_, A>,
+) -> Result<MacroCallStyle, SyntaxFault>
+    ensures style { IsStyled result (rule_trees_at src.old) src.new }
+    ensures stop { stop_in_rule src.old ≡ (if is_ok result then stop_at_pattern src.new
+        else src.new) }
+    ensures shorter { flat_len src.new ≤ flat_len src.old }
 {
     let _unsafe = eat_word(src, "unsafe");
     let style = if eat_word(src, "attr") {
@@ -150,6 +156,7 @@ fn parse_rule_style<A: Allocator>(src: &mut TtIter<'_, A>) -> Result<MacroCallSt
 fn eat_word<A: Allocator>(src: &mut TtIter<'_, A>, word: &str) -> bool
     ensures value { result ≡ is_word word.now src.old }
     ensures rest { src.new ≡ (if result then rest_of src.old else src.old) }
+    ensures shorter { flat_len src.new ≤ flat_len src.old }
 {
     if let Some(TtElement::Leaf(Leaf::Ident(ident))) = src.peek()
         && ident.sym.as_str() == word
@@ -160,11 +167,16 @@ fn eat_word<A: Allocator>(src: &mut TtIter<'_, A>, word: &str) -> bool
     false
 }
 
-// The trees of a rule's pattern and of its template.
-fn rule_groups<'a, A: Allocator>(
+/// The trees of a rule's pattern and of its template. A token that can't be read isn't consumed.
+pub fn rule_groups<'a, A: Allocator>(
     src: &mut TtIter<'a, A>,
 ) -> Result<(TtIter<'a, A>, TtIter<'a, A>), SyntaxFault>
-    ensures { (style : SpecStyle) → AreRuleTrees style result (pattern_at style src.old) src.new }
+    ensures trees { (style : SpecStyle)
+        → AreRuleTrees style result (pattern_at style src.old) src.new }
+    ensures stop { OnErr result (stop_at_pattern src.old ≡ src.new) }
+    ensures shorter { flat_len src.new ≤ flat_len src.old }
+    ensures room { IfOk result (λ p. 6 + flat_len p.0 + flat_len p.1 + flat_len src.new
+        ≤ flat_len src.old) }
 {
     let Ok((_subtree, pattern)) = src.expect_subtree() else {
         return Err(SyntaxFault::ExpectedSubtree);

@@ -2,7 +2,8 @@ use Rattle.std.proofs.Common.{◌≡◌, ℕ, ◌≤◌, ◌<◌, ◌+◌, ◌-�
 use Rattle.mbe_tt.specs.Trees.Tree.{flat_len, passed}
 use Rattle.mbe_errors.specs.ErrorViews.{fault_of}
 use Rattle.mbe_ops.specs.Views.{template_of}
-use Rattle.mbe_faults.specs.Places.{in_trees, in_pattern, in_template, stop_in_rule, pattern_place, template_place}
+use Rattle.mbe_parser.specs.Stops.{stop_in_rule}
+use Rattle.mbe_faults.specs.Places.{in_trees, in_pattern, in_template, pattern_place, template_place}
 use Rattle.mbe_faults.specs.RuleTrees.{rule_of_parts}
 use Rattle.mbe_faults.proofs.RuleLemmas.{rule_placed}
 use Rattle.mbe_faults.proofs.EmptyLemmas.{each_place, further_place}

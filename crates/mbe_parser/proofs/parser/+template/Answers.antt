@@ -8,82 +8,81 @@ use Rattle.mbe_semantics.specs.Syntax.Template.{head, nothing}
 use Rattle.mbe_parser.specs.Reader.{mode_of, ReadsOp}
 use Rattle.mbe_ops.specs.declared.ops.Op.TheVariants as ops
 use Rattle.mbe_ops.specs.Views.{op_of, template_of}
-use Rattle.mbe_ops.proofs.Fragments.{first_none, first_tree}
+use Rattle.mbe_ops.proofs.Fragments.{first_tree}
 use Rattle.mbe_ops.proofs.OpViews.{view-template, view-subtree, view-literal, view-ident, view-repeat}
 use Rattle.mbe_ops.proofs.Fragments.{puncts_longer}
 use Rattle.mbe_parser.proofs.ReaderLemmas as lemmas
 use Rattle.mbe_parser.proofs.parser.+template.Goals as goal
 
-pub template_within-trees-preserved-in_ok-push-in-Leaf-Ident : goal.template_within-trees-preserved-in_ok-push-in-Leaf-Ident
-template_within-trees-preserved-in_ok-push-in-Leaf-Ident g t c =
+pub template_within-trees-preserved-in-Leaf-Ident : goal.template_within-trees-preserved-in-Leaf-Ident
+template_within-trees-preserved-in-Leaf-Ident g t c =
     let l = c.trees in
+    let mode = mode_of c.args.mode in
     let i = record c.in-Leaf-Ident.ident { sym = c.in_ok-sym-in-Leaf-Ident.sym } in
     let left = c.next-word.new.self in
     let front : Some (Leaf_tree (leaves.ident (ident_of i))) ≡ first l.src = search rules in
     let at = first_tree l.src left _ front c.next-word.ensures.rest in
-    let reads : ReadsOp (λ ctx e. g.E.Fn.post c.args.edition (ctx, tt) e) (mode_of c.args.mode) l.src
-    (op_of (ops.Ident i)) left =
-    rw view-ident (lemmas.leaf_reads _ (mode_of c.args.mode) l.src left _ (ap (head (mode_of c.args.mode)) at)) in
+    let reads : ReadsOp (λ ctx e. g.E.Fn.post c.args.edition (ctx, tt) e) mode l.src (op_of (ops.Ident i)) left =
+    rw view-ident (lemmas.leaf_reads _ mode l.src left _ (ap (head mode) at)) in
     record {
-      more = λ os h. rw c.in_ok-push-in-Leaf-Ident.ensures.items
-          (rw (← lemmas.with_front-push l.ops.items (ops.Ident i) os) (l.invariant.more _ (reads.more os h)));
+      more = lemmas.more_read _ mode _ l.src left l.ops.items _ _ (ops.Ident i) l.invariant.more
+          c.in_ok-reserve.ensures.items c.push_reserved.ensures.items reads;
       fault = λ x h. l.invariant.fault x (reads.fault x h);
       smaller = omega (arith, ap flat_len at, l.invariant.smaller);
     }
 
-pub template_within-trees-smaller-in_ok-push-in-Leaf-Ident : goal.template_within-trees-smaller-in_ok-push-in-Leaf-Ident
-template_within-trees-smaller-in_ok-push-in-Leaf-Ident g t c =
+pub template_within-trees-smaller-in-Leaf-Ident : goal.template_within-trees-smaller-in-Leaf-Ident
+template_within-trees-smaller-in-Leaf-Ident g t c =
     let front : Some (Leaf_tree (leaves.ident (ident_of c.in-Leaf-Ident.ident))) ≡ first c.trees.src =
     search rules in
     omega (arith, ap flat_len (first_tree c.trees.src c.next-word.new.self _ front c.next-word.ensures.rest))
 
-pub template_within-trees-preserved-in_ok-push-in-Leaf-Literal : goal.template_within-trees-preserved-in_ok-push-in-Leaf-Literal
-template_within-trees-preserved-in_ok-push-in-Leaf-Literal g t c =
+pub template_within-trees-preserved-in-Leaf-Literal : goal.template_within-trees-preserved-in-Leaf-Literal
+template_within-trees-preserved-in-Leaf-Literal g t c =
     let l = c.trees in
+    let mode = mode_of c.args.mode in
     let i = c.in_ok-clone-in-Leaf-Literal.field-0 in
     let left = c.next-literal.new.self in
     let front : Some (Leaf_tree (leaves.literal (literal_of i))) ≡ first l.src = search rules in
     let at = first_tree l.src left _ front c.next-literal.ensures.rest in
-    let reads : ReadsOp (λ ctx e. g.E.Fn.post c.args.edition (ctx, tt) e) (mode_of c.args.mode) l.src
-    (op_of (ops.Literal i)) left =
-    rw view-literal (lemmas.leaf_reads _ (mode_of c.args.mode) l.src left _ (ap (head (mode_of c.args.mode)) at)) in
+    let reads : ReadsOp (λ ctx e. g.E.Fn.post c.args.edition (ctx, tt) e) mode l.src (op_of (ops.Literal i)) left =
+    rw view-literal (lemmas.leaf_reads _ mode l.src left _ (ap (head mode) at)) in
     record {
-      more = λ os h. rw c.in_ok-push-in-Leaf-Literal.ensures.items
-          (rw (← lemmas.with_front-push l.ops.items (ops.Literal i) os) (l.invariant.more _ (reads.more os h)));
+      more = lemmas.more_read _ mode _ l.src left l.ops.items _ _ (ops.Literal i) l.invariant.more
+          c.in_ok-reserve.ensures.items c.push_reserved-in-Leaf-Literal.ensures.items reads;
       fault = λ x h. l.invariant.fault x (reads.fault x h);
       smaller = omega (arith, ap flat_len at, l.invariant.smaller);
     }
 
-pub template_within-trees-smaller-in_ok-push-in-Leaf-Literal : goal.template_within-trees-smaller-in_ok-push-in-Leaf-Literal
-template_within-trees-smaller-in_ok-push-in-Leaf-Literal g t c =
+pub template_within-trees-smaller-in-Leaf-Literal : goal.template_within-trees-smaller-in-Leaf-Literal
+template_within-trees-smaller-in-Leaf-Literal g t c =
     let front : Some (Leaf_tree (leaves.literal (literal_of c.in_ok-clone-in-Leaf-Literal.field-0)))
     ≡ first c.trees.src = search rules in
     omega (arith, ap flat_len (first_tree c.trees.src c.next-literal.new.self _ front c.next-literal.ensures.rest))
 
 pub template_within-returns-clause-ops : goal.template_within-returns-clause-ops
 template_within-returns-clause-ops g t c =
-    let empty : c.trees.src ≡ none = first_none c.trees.src c.in_default.ensures in
+    let empty : c.trees.src ≡ none = c.is_empty.ensures.0 (c.trees-test.false) in
     let whole = c.trees.invariant.more no_ops (nothing c.trees.src (ap (head (mode_of c.args.mode)) empty)) in
     rw (view-template, c.in_ok-fitted.ensures, ← lemmas.with_front-all c.trees.ops.items) whole
 
-pub template_within-returns-in_err-op-in-Leaf-Punct-clause-fault : goal.template_within-returns-in_err-op-in-Leaf-Punct-clause-fault
-template_within-returns-in_err-op-in-Leaf-Punct-clause-fault g t c =
-    let e = c.in_err-op-in-Leaf-Punct in
-    let p = err_from_is_err_and c.from_residual-in_err-op-in-Leaf-Punct.result
-    c.from_residual-in_err-op-in-Leaf-Punct.ensures.1 in
+pub template_within-returns-in_err-push_at_punct-in-Leaf-Punct-clause-fault : goal.template_within-returns-in_err-push_at_punct-in-Leaf-Punct-clause-fault
+template_within-returns-in_err-push_at_punct-in-Leaf-Punct-clause-fault g t c =
+    let e = c.in_err-push_at_punct-in-Leaf-Punct in
+    let p = err_from_is_err_and c.from_residual-in_err-push_at_punct-in-Leaf-Punct.result
+    c.from_residual-in_err-push_at_punct-in-Leaf-Punct.ensures.1 in
     rw (p.1, p.2) (lemmas.later_fault _ e.field-0.0 (mode_of c.args.mode) c.args.src c.trees.src c.trees.invariant.fault
     e.ensures.fault)
 
-pub template_within-trees-preserved-in_ok-push-in-Leaf-Punct : goal.template_within-trees-preserved-in_ok-push-in-Leaf-Punct
-template_within-trees-preserved-in_ok-push-in-Leaf-Punct g t c =
+pub template_within-trees-preserved-in_ok-push_at_punct-in-Leaf-Punct : goal.template_within-trees-preserved-in_ok-push_at_punct-in-Leaf-Punct
+template_within-trees-preserved-in_ok-push_at_punct-in-Leaf-Punct g t c =
     let l = c.trees in
-    let o = c.in_ok-op-in-Leaf-Punct.op in
-    let reads = c.in_ok-op-in-Leaf-Punct.ensures.op in
+    let read = c.in_ok-push_at_punct-in-Leaf-Punct.ensures in
     record {
-      more = λ os h. rw c.in_ok-push-in-Leaf-Punct.ensures.items
-          (rw (← lemmas.with_front-push l.ops.items o os) (l.invariant.more _ (reads.more os h)));
-      fault = λ x h. l.invariant.fault x (reads.fault x h);
-      smaller = omega (arith, c.in_ok-op-in-Leaf-Punct.ensures.shorter, l.invariant.smaller);
+      more = lemmas.more_read _ (mode_of c.args.mode) _ l.src _ l.ops.items _ _ read.op.0 l.invariant.more
+          c.in_ok-reserve.ensures.items read.op.1 read.op.2;
+      fault = λ x h. l.invariant.fault x (read.op.2.fault x h);
+      smaller = omega (arith, read.shorter, l.invariant.smaller);
     }
 
 pub template_within-template_within-requires : goal.template_within-template_within-requires
@@ -116,65 +115,64 @@ template_within-trees-smaller g t c =
 pub template_within-trees-preserved : goal.template_within-trees-preserved
 template_within-trees-preserved g t c =
     let l = c.trees in
+    let mode = mode_of c.args.mode in
     let left = c.next-group.new.self in
     let front : Some (Group_tree c.in-Subtree.subtree.now.delimiter c.in-Subtree.inside) ≡ first l.src = search rules in
     let at = first_tree l.src left _ front c.next-group.ensures.rest in
     let o = ops.Subtree c.in_ok-tokens-in-Subtree.tokens c.in-Subtree.subtree.now.delimiter in
-    let reads : ReadsOp (λ ctx e. g.E.Fn.post c.args.edition (ctx, tt) e) (mode_of c.args.mode) l.src (op_of o) left =
-    rw view-subtree (lemmas.reads_group _ (mode_of c.args.mode) l.src c.in-Subtree.inside left
-    c.in-Subtree.subtree.now.delimiter _
-    (ap (head (mode_of c.args.mode)) at) c.in_ok-tokens-in-Subtree.ensures.ops) in
+    let reads : ReadsOp (λ ctx e. g.E.Fn.post c.args.edition (ctx, tt) e) mode l.src (op_of o) left =
+    rw view-subtree (lemmas.reads_group _ mode l.src c.in-Subtree.inside left c.in-Subtree.subtree.now.delimiter _
+    (ap (head mode) at) c.in_ok-tokens-in-Subtree.ensures.ops) in
     record {
-      more = λ os h. rw c.in_ok-push-in-Subtree.ensures.items
-          (rw (← lemmas.with_front-push l.ops.items o os) (l.invariant.more _ (reads.more os h)));
+      more = lemmas.more_read _ mode _ l.src left l.ops.items _ _ o l.invariant.more
+          c.in_ok-reserve.ensures.items c.push_reserved-in-Subtree.ensures.items reads;
       fault = λ x h. l.invariant.fault x (reads.fault x h);
       smaller = omega (arith, ap flat_len at, l.invariant.smaller);
     }
 
-pub op_at_punct-returns-then-punct-eq36-clause-op : goal.op_at_punct-returns-then-punct-eq36-clause-op
-op_at_punct-returns-then-punct-eq36-clause-op g t c =
+pub push_at_punct-returns-then-punct-eq36-clause-op : goal.push_at_punct-returns-then-punct-eq36-clause-op
+push_at_punct-returns-then-punct-eq36-clause-op g t c =
     let at = first_tree c.args.src.now c.next-dollar.new.self _ (sym c.requires.peeked) c.next-dollar.ensures.rest in
-    lemmas.head_op _ c.after_dollar.result (mode_of c.args.mode) c.args.src.now c.after_dollar.new.src _
+    lemmas.head_pushed _ c.push_after_dollar.result _ _ (mode_of c.args.mode) c.args.src.now
+    c.push_after_dollar.new.src _
     (lemmas.dollar_head (mode_of c.args.mode) c.args.src.now c.next-dollar.new.self c.args.punct at
-    c.if-punct-eq36.true) c.after_dollar.ensures.op
+    c.if-punct-eq36.true) c.push_after_dollar.ensures.op
 
-pub op_at_punct-returns-then-punct-eq36-clause-fault : goal.op_at_punct-returns-then-punct-eq36-clause-fault
-op_at_punct-returns-then-punct-eq36-clause-fault g t c =
+pub push_at_punct-returns-then-punct-eq36-clause-fault : goal.push_at_punct-returns-then-punct-eq36-clause-fault
+push_at_punct-returns-then-punct-eq36-clause-fault g t c =
     let at = first_tree c.args.src.now c.next-dollar.new.self _ (sym c.requires.peeked) c.next-dollar.ensures.rest in
-    lemmas.head_fault _ c.after_dollar.result (mode_of c.args.mode) c.args.src.now _
+    lemmas.head_fault _ c.push_after_dollar.result (mode_of c.args.mode) c.args.src.now _
     (lemmas.dollar_head (mode_of c.args.mode) c.args.src.now c.next-dollar.new.self c.args.punct at
-    c.if-punct-eq36.true) c.after_dollar.ensures.fault
+    c.if-punct-eq36.true) c.push_after_dollar.ensures.fault
 
-pub op_at_punct-returns-clause-op : goal.op_at_punct-returns-clause-op
-op_at_punct-returns-clause-op g t c =
+pub push_at_punct-returns-clause-op : goal.push_at_punct-returns-clause-op
+push_at_punct-returns-clause-op g t c =
     let f = c.args.src.now in
     let at = first_tree f _ _ (sym c.requires.peeked) (sym (lemmas.following f)) in
     let no_dollar : c.args.punct.char ≡ 36 → ⊥ = search rules in
-    rw c.in_ok-new.ensures (lemmas.puncts_op _ g.row.A.Denot (mode_of c.args.mode) f c.expect_glued_punct.new.self
-    c.args.punct c.in-Ok.puncts.items
-    (lemmas.puncts_head (mode_of c.args.mode) f _ c.args.punct at no_dollar) c.in-Ok.ensures.value c.in-Ok.ensures.rest)
+    lemmas.puncts_pushed _ (mode_of c.args.mode) f c.push_puncts.new.src _ _
+    (lemmas.puncts_head (mode_of c.args.mode) f _ c.args.punct at no_dollar) c.in_ok-push_puncts.ensures.rest
+    c.in_ok-push_puncts.ensures.op
 
-pub op_at_punct-returns-clause-shorter : goal.op_at_punct-returns-clause-shorter
-op_at_punct-returns-clause-shorter g t c =
+pub push_at_punct-returns-clause-shorter : goal.push_at_punct-returns-clause-shorter
+push_at_punct-returns-clause-shorter g t c =
     let f = c.args.src.now in
     let at = first_tree f _ _ (sym c.requires.peeked) (sym (lemmas.following f)) in
-    puncts_longer f _ c.expect_glued_punct.new.self c.args.punct at c.in-Ok.ensures.rest
+    puncts_longer f _ c.push_puncts.new.src c.args.punct at c.in_ok-push_puncts.ensures.rest
 
-pub after_dollar-returns-in-Leaf-clause-op : goal.after_dollar-returns-in-Leaf-clause-op
-after_dollar-returns-in-Leaf-clause-op g t c =
+pub push_after_dollar-returns-in-Leaf-clause-op : goal.push_after_dollar-returns-in-Leaf-clause-op
+push_after_dollar-returns-in-Leaf-clause-op g t c =
     let front : Some (Leaf_tree (leaf_of c.in-Leaf.leaf.now)) ≡ first c.args.src.now = search rules in
     let at = first_tree c.args.src.now c.next.new.self _ front c.next.ensures.rest in
-    lemmas.leaf_op _ (mode_of c.args.mode) c.leaf_after_dollar.result c.args.dollar c.args.src.now c.next.new.self _
-    (leaf_of c.in-Leaf.leaf.now) at
-    c.leaf_after_dollar.ensures.op
+    lemmas.leaf_pushed _ (mode_of c.args.mode) c.push_leaf_after_dollar.result _ _ c.args.dollar c.args.src.now
+    c.next.new.self _ (leaf_of c.in-Leaf.leaf.now) at c.push_leaf_after_dollar.ensures.op
 
-pub after_dollar-returns-in-Leaf-clause-fault : goal.after_dollar-returns-in-Leaf-clause-fault
-after_dollar-returns-in-Leaf-clause-fault g t c =
+pub push_after_dollar-returns-in-Leaf-clause-fault : goal.push_after_dollar-returns-in-Leaf-clause-fault
+push_after_dollar-returns-in-Leaf-clause-fault g t c =
     let front : Some (Leaf_tree (leaf_of c.in-Leaf.leaf.now)) ≡ first c.args.src.now = search rules in
     let at = first_tree c.args.src.now c.next.new.self _ front c.next.ensures.rest in
-    lemmas.leaf_fault _ (mode_of c.args.mode) c.leaf_after_dollar.result c.args.dollar c.args.src.now c.next.new.self
-    (leaf_of c.in-Leaf.leaf.now) at
-    c.leaf_after_dollar.ensures.fault
+    lemmas.leaf_fault _ (mode_of c.args.mode) c.push_leaf_after_dollar.result c.args.dollar c.args.src.now
+    c.next.new.self (leaf_of c.in-Leaf.leaf.now) at c.push_leaf_after_dollar.ensures.fault
 
 pub repetition-returns-clause-op : goal.repetition-returns-clause-op
 repetition-returns-clause-op g t c =

@@ -9,8 +9,8 @@ use Rattle.mbe_parser.proofs.parser.+template.Given as goal
 abbrev pub decreases-template_within : goal.decreases-template_within
 decreases-template_within g l = 2 * flat_len l.src + 1
 
-abbrev pub decreases-op_at_punct : goal.decreases-op_at_punct
-decreases-op_at_punct g l = 2 * flat_len l.src.now
+abbrev pub decreases-push_at_punct : goal.decreases-push_at_punct
+decreases-push_at_punct g l = 2 * flat_len l.src.now
 
 abbrev pub invariant-template_within-trees : goal.invariant-template_within-trees
 invariant-template_within-trees g l = record {
@@ -24,8 +24,11 @@ invariant-template_within-trees g l = record {
 abbrev pub decreases-template_within-trees : goal.decreases-template_within-trees
 decreases-template_within-trees g l = flat_len l.src
 
-abbrev pub decreases-after_dollar : goal.decreases-after_dollar
-decreases-after_dollar g l = 2 * flat_len l.src.now
+abbrev pub decreases-push_after_dollar : goal.decreases-push_after_dollar
+decreases-push_after_dollar g l = 2 * flat_len l.src.now
+
+abbrev pub decreases-push_group_after_dollar : goal.decreases-push_group_after_dollar
+decreases-push_group_after_dollar g l = 2 * flat_len l.inside + 3
 
 abbrev pub decreases-repetition : goal.decreases-repetition
 decreases-repetition g l = 2 * flat_len l.body + 2

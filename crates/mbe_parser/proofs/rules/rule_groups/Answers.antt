@@ -1,8 +1,8 @@
 use Rattle.std.proofs.Common.{◌≡◌, ◌+◌, sym, ap, refl, arith}
 use Rattle.mbe_tt.specs.Trees.Tree.{flat_len}
-use Rattle.mbe_faults.proofs.RuleLemmas.{group_len, char_len}
-use Rattle.mbe_faults.proofs.rules.rule_groups.Goals as goal
-use Rattle.mbe_faults.proofs.rules.rule_groups.Goals.{In-Ok-expect_subtree}
+use Rattle.mbe_parser.proofs.StopLemmas.{group_len, char_len}
+use Rattle.mbe_parser.proofs.rules.rule_groups.Goals as goal
+use Rattle.mbe_parser.proofs.rules.rule_groups.Goals.{In-Ok-expect_subtree}
 
 -- two groups and an arrow
 long : (g : _) (c : In-Ok-expect_subtree g) → flat_len c.args.src.now
