@@ -60,47 +60,8 @@ pub extern "C" fn mbe_c_version() -> u32
     3
 }
 
-// Copies the bytes to the front, if there is room for them all; else nothing.
-fn put_bytes(from: &[u8], to: &mut [u8]) -> bool
-    ensures fits { result ≡ nat_le (length from.now) (length to.old) }
-    ensures copied { to.new ≡ spec.copied from.now to.old }
-{
-    if from.len() > to.len() {
-        return false;
-    }
-    let (front, _rest) = to.split_at_mut(from.len());
-    front.copy_from_slice(from);
-    true
-}
-
-// The same of tokens.
-fn put_tokens(from: &[FlatToken], to: &mut [FlatToken]) -> bool
-    ensures fits { result ≡ nat_le (length from.now) (length to.old) }
-    ensures copied { to.new ≡ spec.copied from.now to.old }
-{
-    if from.len() > to.len() {
-        return false;
-    }
-    let (front, _rest) = to.split_at_mut(from.len());
-    front.copy_from_slice(from);
-    true
-}
-
-// The same of verdicts.
-fn put_verdicts(from: &[FlatVerdict], to: &mut [FlatVerdict]) -> bool
-    ensures fits { result ≡ nat_le (length from.now) (length to.old) }
-    ensures copied { to.new ≡ spec.copied from.now to.old }
-{
-    if from.len() > to.len() {
-        return false;
-    }
-    let (front, _rest) = to.split_at_mut(from.len());
-    front.copy_from_slice(from);
-    true
-}
-
-// The same of replies.
-fn put_replies(from: &[Reply], to: &mut [Reply]) -> bool
+// Copies these to the front, if there is room for them all; else nothing.
+fn put<T: Copy>(from: &[T], to: &mut [T]) -> bool
     ensures fits { result ≡ nat_le (length from.now) (length to.old) }
     ensures copied { to.new ≡ spec.copied from.now to.old }
 {
@@ -158,9 +119,9 @@ fn give<A: Allocator>(
         (record { tokens = tokens.new; text = text.new; message = message.new }) reply.new }
 {
     *reply = reply_of(answer);
-    let tokens_fit = put_tokens(&answer.tokens, tokens);
-    let text_fits = put_bytes(&answer.text, text);
-    let _message_fits = put_bytes(answer.message.as_bytes(), message);
+    let tokens_fit = put(&answer.tokens, tokens);
+    let text_fits = put(&answer.text, text);
+    let _message_fits = put(answer.message.as_bytes(), message);
     if !tokens_fit || !text_fits {
         reply.status = Status::NoRoom.number();
     }
@@ -306,7 +267,7 @@ fn give_verdicts<A: Allocator + Copy>(
 {
     *reply = reply_of(&Answer::empty(alloc, Status::Done, Part::None));
     reply.tokens = found.len();
-    if !put_verdicts(found, verdicts) {
+    if !put(found, verdicts) {
         reply.status = Status::NoRoom.number();
     }
     reply.status
@@ -332,10 +293,10 @@ fn give_answers<A: Allocator + Copy>(
     reply.tokens = found.tokens.len();
     reply.text = found.text.len();
     reply.message = found.message.len();
-    let replies_fit = put_replies(&found.replies, replies);
-    let tokens_fit = put_tokens(&found.tokens, tokens);
-    let text_fits = put_bytes(&found.text, text);
-    let _message_fits = put_bytes(&found.message, message);
+    let replies_fit = put(&found.replies, replies);
+    let tokens_fit = put(&found.tokens, tokens);
+    let text_fits = put(&found.text, text);
+    let _message_fits = put(&found.message, message);
     if !replies_fit || !tokens_fit || !text_fits {
         reply.status = Status::NoRoom.number();
     }

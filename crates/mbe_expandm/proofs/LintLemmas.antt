@@ -6,7 +6,7 @@ use Rattle.mbe_tt.specs.declared.span.SyntaxContext.{SyntaxContext}
 use Rattle.mbe_tt.specs.Trees.Tree.{Forest}
 use Rattle.mbe_semantics.specs.Expansion.Macro.{Macro}
 use Rattle.mbe_calls.specs.Fronts.{Form, Rules, Body, Arguments, Defined}
-use Rattle.mbe_expanding.proofs.EditionLemmas.{read_as, read_as_macro}
+use Rattle.mbe.proofs.EditionLemmas.{read_as, read_as_macro}
 use Rattle.mbe_expanding.specs.Scopes.{IsEdition}
 use Rattle.mbe_lints.specs.Definitions.{definitions}
 use Rattle.mbe_lints.specs.Lint.{Lint}

@@ -3,3 +3,4 @@ pub mod EditionLemmas
 pub mod LintLemmas
 pub mod MarkLemmas
 pub mod OutcomeLemmas
+pub mod VerdictLemmas

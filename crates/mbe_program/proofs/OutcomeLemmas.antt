@@ -1,5 +1,5 @@
 -- How a run ends without an expansion, and what a writer that is flushed holds.
-use Rattle.std.proofs.Common.{◌≡◌, ℕ, List, [], ◌++◌, Option, Result, Ok, Err, IsOk, IsErr, subst, ap}
+use Rattle.std.proofs.Common.{◌≡◌, ℕ, List, [], ◌++◌, Option, Result, Ok, Err, IsOk, IsErr, subst, sym, ap}
 use Rattle.std.proofs.lemmas.Bool.{false≢true}
 use Rattle.std.specs.Io.KnownBytes.{Appends, Keeps}
 use Rattle.std.proofs.KnownBytes.{Appends-kept}
@@ -13,7 +13,10 @@ use Rattle.mbe_program.specs.declared.program.Outcome.{Outcome}
 use Rattle.mbe_program.specs.declared.program.Outcome.TheVariants.{Expanded, Linted, Faulted, Refused, CannotLex, CannotWrite, OutOfMemory}
 use Rattle.mbe_semantics.specs.Expansion.Error.{ExpandError}
 use Rattle.mbe_program.specs.Printed.{head, printed}
-use Rattle.mbe_program.specs.Expansion.{AreTrees, IsRefused, IsUnexpanded, IsUnlexed}
+use Rattle.mbe_program.specs.Expansion.{AreTrees, IsRefused, IsUnexpanded, IsUnlexed, outcome_of}
+use Rattle.mbe_program.specs.Expanding.{HasNoMacro}
+use Rattle.mbe_program.specs.declared.expanding.Unread.{Unread}
+use Rattle.mbe_program.specs.declared.expanding.Unread.TheVariants as unread
 
 -- a text isn't lexed
 pub unlexed : {A : Type 0} (edition : Edition) (def_text arg_text : List ℕ) (outcome : Outcome A)
@@ -38,6 +41,13 @@ refused edition def_text arg_text definition argument (Refused error) trees h = 
 refused edition def_text arg_text definition argument (CannotLex file offset) trees h = absurd h
 refused edition def_text arg_text definition argument CannotWrite trees h = absurd h
 refused edition def_text arg_text definition argument OutOfMemory trees h = tt
+
+-- the definition is refused, or there is no memory
+pub no_macro : {A : Type 0} (edition : Edition) (definition : Forest) (why : Unread A) (outcome : Outcome A)
+    → HasNoMacro edition definition why → outcome ≡ outcome_of why → IsRefused edition definition outcome
+no_macro edition definition (unread.Refused error) outcome h is =
+    subst (IsRefused edition definition) (sym is) h
+no_macro edition definition unread.OutOfMemory outcome h is = subst (IsRefused edition definition) (sym is) tt
 
 -- what was written stays when the writer is flushed, whether that fails or not
 pub flushed : {T E : Type 0} (a b c : Option (List ℕ)) (r : Result T E) (xs : List ℕ) → Appends a b xs → Keeps b c

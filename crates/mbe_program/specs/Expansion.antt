@@ -3,45 +3,33 @@ use Rattle.std.specs.Prelude.{◌≡◌, ⊤, ℕ, List, length, Option, Some, N
 use Rattle.std.specs.Io.KnownBytes.{Appends}
 use Rattle.mbe_tt.specs.declared.span.Edition.{Edition}
 use Rattle.mbe_tt.specs.declared.span.Span.{Span}
-use Rattle.mbe_tt.specs.declared.span.SyntaxContext.{SyntaxContext}
 use Rattle.mbe_tt.specs.Trees.Tree.{Forest}
 use Rattle.mbe_tt.specs.Trees.Top.{Top}
 use Rattle.mbe_grammar.specs.SampleGrammar.{sample}
-use Rattle.mbe_semantics.specs.Syntax.Definition.{Rule}
 use Rattle.mbe_semantics.specs.Expansion.Error.{ExpandError}
-use Rattle.mbe_errors.specs.ErrorViews.{parse_error_of}
-use Rattle.mbe_semantics.specs.Expansion.ReadAs.{IsReadAs}
 use Rattle.mbe_semantics.specs.declared.macro_call_style.MacroCallStyle.TheVariants.{FnLike}
-use Rattle.mbe.specs.OneAnswer.{IsAnswer}
 use Rattle.mbe_text.specs.Tokens.{IsMade, bytes_of}
 use Rattle.mbe_text.specs.Division.{sample_trees}
 use Rattle.mbe_text.specs.Writing.{Takes}
+use Rattle.mbe_program.specs.Expanding.{ExpandsBy, HasNoMacro}
 use Rattle.mbe_program.specs.Printed.{printed}
+use Rattle.mbe_program.specs.declared.expanding.Unread.{Unread}
+use Rattle.mbe_program.specs.declared.expanding.Unread.TheVariants as unread
 use Rattle.mbe_program.specs.declared.program.Outcome.{Outcome}
 use Rattle.mbe_program.specs.declared.program.Outcome.TheVariants.{Expanded, Linted, Faulted, Refused, CannotLex, CannotWrite, OutOfMemory}
 
--- every context is of that edition
-abbrev pub IsEdition : Edition → SyntaxContext → Edition → Type 0
-IsEdition edition context answer = answer ≡ edition
+-- the answer to a call with this argument by the sample grammar, as a function's
+abbrev pub ExpandsTrees : Edition → Forest → Top → Span → Forest → Option ℕ → Option ExpandError → Type 0
+ExpandsTrees edition definition argument = ExpandsBy sample edition definition FnLike argument
 
--- a span is marked by itself
-abbrev pub IsItself : Span → Span → Type 0
-IsItself span marked = marked ≡ span
-
--- The answer to a call with this argument, by the macro that the grammar of definitions reads from the definition in
--- that
--- edition, which reports no fault.
-pub record ExpandsTrees (edition : Edition) (definition : Forest) (argument : Top) (call_site : Span)
-    (out : Forest) (index : Option ℕ) (err : Option ExpandError) : Type 0 where
-  pub rules : List Rule
-  pub read : IsReadAs (IsEdition edition) definition (record { rules = rules; err = None })
-  pub answers : IsAnswer sample IsItself rules FnLike argument call_site out index err
+-- how a run ends that has no macro
+abbrev pub outcome_of : {A : Type 0} → Unread A → Outcome A
+outcome_of (unread.Refused error) = Refused error
+outcome_of unread.OutOfMemory = OutOfMemory
 
 -- There is no expansion: the definition has that fault in that edition, or there is no memory.
 abbrev pub IsRefused : {A : Type 0} → Edition → Forest → Outcome A → Type 0
-IsRefused edition definition (Refused error) =
-    (rules : List Rule) × IsReadAs (IsEdition edition) definition
-    (record { rules = rules; err = Some (parse_error_of error) })
+IsRefused edition definition (Refused error) = HasNoMacro edition definition (unread.Refused error)
 IsRefused edition definition OutOfMemory = ⊤
 IsRefused edition definition outcome = ⊥
 

@@ -1,3 +1,4 @@
+pub mod Expanding
 pub mod Expansion
 pub mod Linting
 pub mod Options

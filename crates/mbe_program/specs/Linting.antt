@@ -5,32 +5,19 @@ use Rattle.std.specs.Io.KnownBytes.{Appends}
 use Rattle.mbe_tt.specs.declared.span.Edition.{Edition}
 use Rattle.mbe_tt.specs.Trees.Tree.{Forest}
 use Rattle.mbe_tt.specs.Trees.Top.{Top}
-use Rattle.mbe_tt.specs.Fragments.Grammar.{Grammar}
 use Rattle.mbe_grammar.specs.SampleGrammar.{sample}
-use Rattle.mbe_semantics.specs.Syntax.Definition.{Rule}
-use Rattle.mbe_semantics.specs.Readings.Verdict.{Verdict, one_reading, many_readings, ambiguous, stuck, IsVerdict}
-use Rattle.mbe_semantics.specs.Expansion.ReadAs.{IsReadAs}
+use Rattle.mbe_semantics.specs.Readings.Verdict.{Verdict, one_reading, many_readings, ambiguous, stuck}
 use Rattle.mbe_text.specs.Writing.{Takes}
 use Rattle.mbe_program.specs.declared.program.Outcome.{Outcome}
 use Rattle.mbe_program.specs.declared.program.Outcome.TheVariants.{Expanded, Linted, Faulted, CannotWrite}
-use Rattle.mbe_program.specs.Expansion.{IsEdition, AreTrees, IsUnexpanded}
+use Rattle.mbe_program.specs.Expanding.{ExplainsBy}
+use Rattle.mbe_program.specs.Expansion.{AreTrees, IsUnexpanded}
 
 -- ---- verdicts
 
--- one verdict for each rule, in order
-abbrev pub AreVerdicts : Grammar → Forest → List Rule → List Verdict → Type 0
-AreVerdicts g argument [] [] = ⊤
-AreVerdicts g argument (r ∷ rs) (v ∷ vs) = IsVerdict g r.reads argument v × AreVerdicts g argument rs vs
-AreVerdicts g argument [] (v ∷ vs) = ⊥
-AreVerdicts g argument (r ∷ rs) [] = ⊥
-
--- The verdicts on an argument of the rules that the grammar of definitions reads from these trees in that edition,
--- which report
--- no error.
-pub record ExplainsTrees (edition : Edition) (definition argument : Forest) (answers : List Verdict) : Type 0 where
-  pub rules : List Rule
-  pub read : IsReadAs (IsEdition edition) definition (record { rules = rules; err = None })
-  pub verdicts : AreVerdicts sample argument rules answers
+-- the verdicts on an argument by the sample grammar
+abbrev pub ExplainsTrees : Edition → Forest → Forest → List Verdict → Type 0
+ExplainsTrees = ExplainsBy sample
 
 -- ---- lines
 

@@ -4,6 +4,7 @@
 
 pub mod arguments;
 pub mod command;
+pub mod expanding;
 pub mod linting;
 pub mod printing;
 pub mod program;

@@ -1,16 +1,14 @@
 // Verdicts on the rules of a definition, a line for each.
 ghost use Rattle.std.specs.Prelude.{◌≡◌, ◌++◌, codes, map, Some, IfOk, IfErr};
 ghost use Rattle.std.specs.String.{string_bytes};
-ghost use Rattle.mbe_grammar.specs.SampleGrammar.{sample};
-ghost use Rattle.mbe_semantics.specs.Expansion.Macro.{IsChecked};
-ghost use Rattle.mbe.specs.MacroViews.{macro_of};
 ghost use Rattle.mbe.specs.Matched.{verdict_seen};
 ghost use Rattle.mbe_text.specs.Writing.{Writes};
 ghost use Rattle.mbe_program.specs.Expansion.{IsRefused};
-ghost use Rattle.mbe_program.specs.Linting.{AreVerdicts, ExplainsTrees, line_of, lines_from};
+ghost use Rattle.mbe_program.specs.Linting.{ExplainsTrees, line_of, lines_from};
 
-use crate::program::{Outcome, defined};
-use mbe::{DeclarativeMacro, Verdict};
+use crate::expanding::verdicts_by;
+use crate::program::Outcome;
+use mbe::Verdict;
 use mbe_grammar::SampleGrammar;
 use mbe_text::output::write_whole;
 use mbe_tt::span::Edition;
@@ -19,26 +17,9 @@ use std::alloc::{AllocError, Allocator};
 use std::io::Write;
 use std::{fmt, io};
 
-// The verdict on the argument of each rule, in order.
-#[tactic(auto, using(crate::proofs::LintLemmas::one_verdict_more, crate::proofs::LintLemmas::all_verdicts))]
-fn explained<A: Allocator + Copy>(
-    alloc: A,
-    rules: &DeclarativeMacro<A>,
-    argument: &TopSubtree<A>,
-) -> Result<Vec<Verdict, A>, AllocError>
-    requires { IsChecked (macro_of rules.now) }
-    ensures { IfOk result (λ verdicts. AreVerdicts sample argument.now.1 (macro_of rules.now).rules
-        (map verdict_seen verdicts.items)) }
-{
-    let mut verdicts = Vec::new(alloc);
-    for rule in 0..rules.num_rules() {
-        verdicts.push(rules.explain(alloc, &SampleGrammar, argument, rule)?)?;
-    }
-    Ok(verdicts)
-}
-
 /// The verdict on the argument of each rule of a definition, of every style, in order; or why there are none: the definition's
 /// error, or out of memory.
+#[tactic(auto, using(crate::proofs::OutcomeLemmas::no_macro))]
 pub fn verdicts<A: Allocator + Copy>(
     alloc: A,
     definition: &TopSubtree<A>,
@@ -49,8 +30,8 @@ pub fn verdicts<A: Allocator + Copy>(
         argument.now.1 (map verdict_seen verdicts.items)) }
     ensures refused { IfErr result (IsRefused edition definition.now.1) }
 {
-    let rules = defined(alloc, definition, edition)?;
-    Ok(explained(alloc, &rules, argument)?)
+    let verdicts = verdicts_by(alloc, &SampleGrammar, definition, argument, edition)?;
+    Ok(verdicts)
 }
 
 // A rule's index, and its verdict.

@@ -1,20 +1,19 @@
 // A run, from both texts to what is written.
-ghost use Rattle.std.specs.Prelude.{◌≡◌, ◌<◌, ◌^◌, ◌⊎◌, length, map, true, false, None, Ok, IfErr, IfOk};
+ghost use Rattle.std.specs.Prelude.{◌≡◌, ◌<◌, ◌^◌, ◌⊎◌, length, map, Ok, IfErr, IfOk};
 ghost use Rattle.mbe_tt.specs.Trees.Top.{top_group};
 ghost use Rattle.mbe_errors.specs.ErrorViews.{errors_of};
-ghost use Rattle.mbe_semantics.specs.Expansion.ReadAs.{IsReadAs};
 ghost use Rattle.mbe.specs.Matched.{verdict_seen};
-ghost use Rattle.mbe.specs.MacroViews.{macro_of};
 ghost use Rattle.mbe_text.specs.Tokens.{IsMade};
 ghost use Rattle.mbe_text.specs.Division.{sample_trees};
 ghost use Rattle.mbe_program.specs.Expansion.{AreTrees, ExpandsTrees, IsRefused, ExpandsTexts, EndsAs};
-ghost use Rattle.mbe_program.specs.Expansion.{IsAtFault, IsEdition, IsUnexpanded, IsUnlexed};
+ghost use Rattle.mbe_program.specs.Expansion.{IsAtFault, IsUnexpanded, IsUnlexed};
 ghost use Rattle.mbe_program.specs.Linting.{ExplainsTexts, Lints};
 ghost use Rattle.mbe_program.specs.Outcomes.{FaultsIn, IsSilent, status_of};
 
+use crate::expanding::{Expansion, Unread, defined, expansion_by};
 use crate::linting::{lines_of, print_lines, verdicts};
 use crate::printing::{head_of, print_expansion};
-use mbe::{DeclarativeMacro, ExpandResult, MacroCallStyle, MatchedArmIndex, ParseError, Verdict};
+use mbe::{MacroCallStyle, ParseError, Verdict};
 use mbe_grammar::SampleGrammar;
 use mbe_text::lexer::{LexError, lex_in};
 use mbe_text::scanner::file_span;
@@ -67,6 +66,19 @@ impl<A: Allocator> From<AllocError> for Outcome<A> {
     }
 }
 
+impl<A: Allocator> From<Unread<A>> for Outcome<A> {
+    ghost use Rattle.mbe_program.specs.Expansion.{outcome_of};
+
+    ghost from_gives = { λ unread outcome. outcome ≡ outcome_of unread };
+
+    fn from(unread: Unread<A>) -> Outcome<A> {
+        match unread {
+            Unread::Refused(error) => Outcome::Refused(error),
+            Unread::OutOfMemory => Outcome::OutOfMemory,
+        }
+    }
+}
+
 // The trees of a file's text, or the byte at fault.
 fn lexed<A: Allocator + Copy>(
     table: &mut SymbolTable<A>,
@@ -109,27 +121,8 @@ fn both_lexed<A: Allocator + Copy>(
     Ok((definition, argument))
 }
 
-type Expansion<A> = ExpandResult<(TopSubtree<A>, MatchedArmIndex), A>;
-
-// The macro of a definition without an error, or why there is none.
-pub(crate) fn defined<A: Allocator + Copy>(
-    alloc: A,
-    definition: &TopSubtree<A>,
-    edition: Edition,
-) -> Result<DeclarativeMacro<A>, Outcome<A>>
-    ensures read { IfOk result (λ m. IsReadAs (IsEdition edition) definition.now.1
-        (record { rules = (macro_of m).rules; err = None })) }
-    ensures faultless { IfOk result (λ m. (macro_of m).err ≡ None) }
-    ensures refused { IfErr result (IsRefused edition definition.now.1) }
-{
-    let rules = DeclarativeMacro::parse_macro_rules(alloc, definition, |_context| edition)?;
-    if let Some(error) = rules.err() {
-        return Err(Outcome::Refused(error.try_clone(alloc)?));
-    }
-    Ok(rules)
-}
-
 // What a definition makes of an argument, or why there is no expansion.
+#[tactic(auto, using(crate::proofs::OutcomeLemmas::no_macro))]
 fn expansion<A: Allocator + Copy>(
     alloc: A,
     definition: &TopSubtree<A>,
@@ -142,14 +135,8 @@ fn expansion<A: Allocator + Copy>(
     ensures refused { IfErr result (IsRefused edition definition.now.1) }
 {
     let rules = defined(alloc, definition, edition)?;
-    let expansion = rules.expand(
-        alloc,
-        &SampleGrammar,
-        argument,
-        |span| span,
-        MacroCallStyle::FnLike,
-        call_site,
-    )?;
+    let style = MacroCallStyle::FnLike;
+    let expansion = expansion_by(alloc, &SampleGrammar, &rules, argument, style, call_site)?;
     Ok(expansion)
 }
 

@@ -21,13 +21,13 @@ use Rattle.mbe_rules_text.specs.Views.{Faults, plain_keyword, plain_node, plain_
 use Rattle.mbe_flat.specs.declared.reading.FlatError.{FlatError}
 use Rattle.mbe_flat.specs.declared.reading.FlatError.TheVariants as flat_errors
 use Rattle.mbe_replies.specs.declared.asked.GrammarKind.{GrammarKind}
-use Rattle.mbe_replies.specs.declared.expanding.Unread.{Unread}
-use Rattle.mbe_replies.specs.declared.expanding.Unread.TheVariants as unread
+use Rattle.mbe_program.specs.declared.expanding.Unread.{Unread}
+use Rattle.mbe_program.specs.declared.expanding.Unread.TheVariants as unread
 use Rattle.mbe_replies.specs.declared.calls.FlatVerdict.{FlatVerdict}
 use Rattle.mbe_replies.specs.declared.calls.Request.{Request}
 use Rattle.mbe_replies.specs.declared.calls.Settings.{Settings}
 use Rattle.mbe_replies.specs.Answers.{Answer, IsOr, IsUnlexed, IsUntreedBy, IsUngrammaticalBy, IsUnreadBy, IsNoGrammar, fault_in_grammar, no_memory_for_grammar}
-use Rattle.mbe_replies.specs.Expanding.{IsRefused}
+use Rattle.mbe_program.specs.Expanding.{HasNoMacro}
 use Rattle.mbe_replies.specs.Calls.{AreSettings, AreTreesOf, HasNoTrees, unlexed, untreed, no_memory_for_trees, IsNoMacro, refused, no_memory_for_macro, tree_shown, Converts, converted, no_memory_for_form, Source, Reads, IsGrammar, table_seen, IsNoResult, no_macro, ExpandsTrees, Expands, ExplainsTrees, ShowsVerdicts, no_result}
 
 -- ---- failures
@@ -59,7 +59,7 @@ ungrammatical_by text read (rule_faults.At place reason) a same e (inr h) = no_m
 ungrammatical_by text read rule_faults.OutOfMemory a same e h = no_memory_for_grammar h
 
 pub unread_by : {A : Type 0} (edition : Edition) (definition : Forest) (error : Unread A) (a : Answer)
-    → IsRefused edition definition error
+    → HasNoMacro edition definition error
     → IsUnreadBy error a → IsNoMacro edition definition a
 unread_by edition definition (unread.Refused error) a (rules, read) (inl h) =
     refused rules (parse_error_of error) read h

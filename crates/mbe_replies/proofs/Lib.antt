@@ -2,4 +2,3 @@ pub mod BareLemmas
 mod CallLemmas
 mod KeptLemmas
 mod ReadLemmas
-mod VerdictLemmas

@@ -24,7 +24,7 @@ use Rattle.mbe_replies.specs.declared.read_macro.Fragments.TheVariants as fragme
 use Rattle.mbe_replies.specs.declared.read_macro.ReadMacro.{ReadMacro}
 use Rattle.mbe_replies.specs.Answers.{Answer, IsOr}
 use Rattle.mbe_replies.specs.Calls.{AreSettings, AreTreesOf, HasNoTrees, IsGrammar, IsTableOf, no_argument, no_macro, no_memory_for_macro, Expands, ExpandsTrees, Source, expansion_shown}
-use Rattle.mbe_replies.specs.Expanding.{IsItself}
+use Rattle.mbe_program.specs.Expanding.{IsItself}
 use Rattle.mbe_replies.specs.ReadOnce.{AreFragments, IsMacroOf, IsExpansionOf, AnswersBy, AnswersTreesBy, at_site, asked_at}
 use Rattle.mbe_replies.proofs.CallLemmas.{expands_both, table_read}
 

@@ -22,8 +22,8 @@ use Rattle.mbe_replies.specs.declared.answer.Status.{Status}
 use Rattle.mbe_replies.specs.declared.answer.Status.TheVariants.{Done, Faulted, Refused, Number, Utf8, TooLong, NoTokens, NoTrees, NoGrammar, OutOfMemory, NoRoom, NoMacro, HasMacro}
 use Rattle.mbe_replies.specs.declared.answer.Part.{Part}
 use Rattle.mbe_replies.specs.declared.answer.Part.TheVariants as parts
-use Rattle.mbe_replies.specs.declared.expanding.Unread.{Unread}
-use Rattle.mbe_replies.specs.declared.expanding.Unread.TheVariants as unread
+use Rattle.mbe_program.specs.declared.expanding.Unread.{Unread}
+use Rattle.mbe_program.specs.declared.expanding.Unread.TheVariants as unread
 
 abbrev pub status_number : Status → ℕ
 status_number Done = 0

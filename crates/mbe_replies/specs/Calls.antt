@@ -41,7 +41,7 @@ use Rattle.mbe_replies.specs.declared.calls.Request.{Request}
 use Rattle.mbe_replies.specs.declared.calls.Settings.{Settings}
 use Rattle.mbe_replies.specs.Answers.{Answer, empty, IsOutOfMemory, IsUnlexed, IsUntreed, IsRefusal, IsNoText, IsNoGrammar}
 use Rattle.mbe_replies.specs.Asked.{edition_of, dialect_of, grammar_of as kind_of, style_of, form_of}
-use Rattle.mbe_replies.specs.Expanding.{ExpandsBy, ExplainsBy, IsEdition}
+use Rattle.mbe_program.specs.Expanding.{ExpandsBy, ExplainsBy, IsEdition}
 
 -- ---- what is asked
 

@@ -14,7 +14,7 @@ use Rattle.mbe_replies.specs.declared.kept.KeptMacro.{KeptMacro}
 use Rattle.mbe_replies.specs.Answers.{Answer}
 use Rattle.mbe_replies.specs.Asked.{form_of, style_of}
 use Rattle.mbe_replies.specs.Calls.{AreSettings, AreTreesOf, Expands, IsGrammarText, Source}
-use Rattle.mbe_replies.specs.Expanding.{IsEdition}
+use Rattle.mbe_program.specs.Expanding.{IsEdition}
 
 -- ---- what was read
 

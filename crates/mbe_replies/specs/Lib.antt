@@ -1,5 +1,4 @@
 pub mod Asked
-pub mod Expanding
 pub mod Answers
 pub mod Calls
 pub mod ReadOnce

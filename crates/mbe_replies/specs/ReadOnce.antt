@@ -21,7 +21,7 @@ use Rattle.mbe_replies.specs.declared.read_macro.InUse.{InUse}
 use Rattle.mbe_replies.specs.declared.read_macro.ReadMacro.{ReadMacro}
 use Rattle.mbe_replies.specs.Answers.{Answer, empty}
 use Rattle.mbe_replies.specs.Calls.{AreSettings, AreTreesOf, HasNoTrees, IsNoResult, IsRustTable, IsText, IsUnknown, Expands, ExpandsTrees, Source, expansion_shown}
-use Rattle.mbe_replies.specs.Expanding.{IsEdition, IsItself}
+use Rattle.mbe_program.specs.Expanding.{IsEdition, IsItself}
 
 -- ---- what was read
 

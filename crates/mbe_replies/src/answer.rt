@@ -6,7 +6,7 @@ ghost use Rattle.mbe_errors.specs.ErrorViews.{error_of, parse_error_of};
 ghost use Rattle.mbe_replies.specs.Answers.{answer_of};
 ghost use Rattle.mbe_replies.specs.Answers as spec;
 
-use crate::expanding::Unread;
+use mbe_program::expanding::Unread;
 use mbe::{ExpandError, ParseError};
 use mbe_flat::reading::{FlatError, Wrong};
 use mbe_flat::token::FlatToken;

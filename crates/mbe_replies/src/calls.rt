@@ -12,7 +12,7 @@ ghost use Rattle.mbe_replies.specs.Calls as spec;
 
 use crate::answer::{Answer, Part, Status, error_span, error_text};
 use crate::asked::{Form, GrammarKind, dialect_of, edition_of, form_of, grammar_of, style_of};
-use crate::expanding::{Expansion, defined, verdicts_by};
+use mbe_program::expanding::{Expansion, defined, verdicts_by};
 use crate::read_macro::ReadMacro;
 use mbe::{MacroCallStyle, Verdict};
 use mbe_flat::reading::trees_of;

@@ -4,6 +4,5 @@
 pub mod answer;
 pub mod asked;
 pub mod calls;
-pub mod expanding;
 pub mod kept;
 pub mod read_macro;

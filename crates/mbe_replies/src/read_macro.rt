@@ -8,7 +8,7 @@ ghost use Rattle.mbe_replies.specs.Calls.{IsNoResult, source_of};
 use crate::answer::{Answer, Part, Status};
 use crate::asked::GrammarKind;
 use crate::calls::{Input, Request, Settings, expansion_shown, read_rules, settings_of, trees};
-use crate::expanding::{defined, expansion_by};
+use mbe_program::expanding::{defined, expansion_by};
 use mbe::DeclarativeMacro;
 use mbe_flat::token::{FlatSpan, span_of};
 use mbe_grammar::SampleGrammar;

@@ -1,6 +1,7 @@
 use Rattle.std.proofs.Common.{rules}
 use Rattle.mbe.specs.MacroViews.{macro_of}
-use Rattle.mbe_expanding.proofs.EditionLemmas.{read_as, read_by}
+use Rattle.mbe.proofs.EditionLemmas.{read_as}
+use Rattle.mbe_expanding.proofs.EditionLemmas.{read_by}
 use Rattle.mbe_expanding.proofs.scope.rules_in.Goals as goal
 
 pub returns : goal.returns

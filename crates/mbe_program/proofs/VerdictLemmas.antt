@@ -9,7 +9,7 @@ use Rattle.mbe_semantics.specs.Readings.Verdict.{Verdict, IsVerdict}
 use Rattle.mbe_matcher.specs.declared.matching.Verdict as given
 use Rattle.mbe_matcher.specs.Matched.{verdict_seen}
 use Rattle.mbe.specs.Explaining.{Explains}
-use Rattle.mbe_replies.specs.Expanding.{AreVerdicts}
+use Rattle.mbe_program.specs.Expanding.{AreVerdicts}
 
 verdict_at : (g : Grammar) (argument : Forest) (rs : List Rule) (n : ℕ) (vs : List Verdict) (r : Rule) (v : Verdict)
     → AreVerdicts g argument (take n rs) vs → slice_get rs n ≡ Some r → IsVerdict g r.reads argument v

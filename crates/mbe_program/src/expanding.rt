@@ -7,7 +7,7 @@ ghost use Rattle.mbe_semantics.specs.Expansion.ReadAs.{IsReadAs};
 ghost use Rattle.mbe_matcher.specs.Matched.{verdict_seen};
 ghost use Rattle.mbe.specs.MacroViews.{macro_of};
 ghost use Rattle.mbe.specs.OneAnswer.{IsAnswer};
-ghost use Rattle.mbe_replies.specs.Expanding.{AreVerdicts, ExplainsBy, IsEdition, IsItself, IsRefused};
+ghost use Rattle.mbe_program.specs.Expanding.{AreVerdicts, ExplainsBy, IsEdition, IsItself, HasNoMacro};
 
 use mbe::{DeclarativeMacro, ExpandResult, MacroCallStyle, MatchedArmIndex, ParseError, Verdict};
 use mbe_tt::grammar::FragmentGrammar;
@@ -24,7 +24,7 @@ pub enum Unread<A: Allocator> {
 }
 
 impl<A: Allocator> From<AllocError> for Unread<A> {
-    ghost use Rattle.mbe_replies.specs.declared.expanding.Unread.TheVariants as unread;
+    ghost use Rattle.mbe_program.specs.declared.expanding.Unread.TheVariants as unread;
 
     ghost from_gives = { λ _ error. error ≡ unread.OutOfMemory };
 
@@ -45,7 +45,7 @@ pub fn defined<A: Allocator + Copy>(
     ensures read { IfOk result (λ m. IsReadAs (IsEdition edition) definition.now.1
         (record { rules = (macro_of m).rules; err = None })) }
     ensures faultless { IfOk result (λ m. (macro_of m).err ≡ None) }
-    ensures refused { IfErr result (IsRefused edition definition.now.1) }
+    ensures refused { IfErr result (HasNoMacro edition definition.now.1) }
 {
     let rules = DeclarativeMacro::parse_macro_rules(alloc, definition, |_context| edition)?;
     if let Some(error) = rules.err() {
@@ -101,7 +101,7 @@ pub fn verdicts_by<A: Allocator + Copy, G: FragmentGrammar>(
 ) -> Result<Vec<Verdict, A>, Unread<A>>
     ensures explains { IfOk result (λ verdicts. ExplainsBy (G.grammar grammar.now) edition
         definition.now.1 argument.now.1 (map verdict_seen verdicts.items)) }
-    ensures refused { IfErr result (IsRefused edition definition.now.1) }
+    ensures refused { IfErr result (HasNoMacro edition definition.now.1) }
 {
     let rules = defined(alloc, definition, edition)?;
     Ok(explained(alloc, grammar, &rules, argument)?)

@@ -1,7 +1,7 @@
 use Rattle.std.proofs.Common.{rules}
 use Rattle.mbe.specs.MacroViews.{macro_of}
 use Rattle.mbe_program.proofs.MarkLemmas.{answers_unmarked}
-use Rattle.mbe_replies.proofs.expanding.expansion_by.Goals as goal
+use Rattle.mbe_program.proofs.expanding.expansion_by.Goals as goal
 
 pub returns : goal.returns
 returns g c =

@@ -1,8 +1,8 @@
 use Rattle.std.proofs.Common.{take, map}
 use Rattle.mbe_matcher.specs.Matched.{verdict_seen}
 use Rattle.mbe.specs.MacroViews.{macro_of}
-use Rattle.mbe_replies.specs.Expanding.{AreVerdicts}
-use Rattle.mbe_replies.proofs.expanding.explained.Given as goal
+use Rattle.mbe_program.specs.Expanding.{AreVerdicts}
+use Rattle.mbe_program.proofs.expanding.explained.Given as goal
 
 abbrev pub invariant-loop-rule : goal.invariant-loop-rule
 invariant-loop-rule g l =

@@ -13,8 +13,8 @@ use Rattle.mbe_semantics.specs.Readings.Verdict.{Verdict, IsVerdict}
 use Rattle.mbe_semantics.specs.declared.macro_call_style.MacroCallStyle.{MacroCallStyle}
 use Rattle.mbe_errors.specs.ErrorViews.{parse_error_of}
 use Rattle.mbe.specs.OneAnswer.{IsAnswer}
-use Rattle.mbe_replies.specs.declared.expanding.Unread.{Unread}
-use Rattle.mbe_replies.specs.declared.expanding.Unread.TheVariants.{Refused, OutOfMemory}
+use Rattle.mbe_program.specs.declared.expanding.Unread.{Unread}
+use Rattle.mbe_program.specs.declared.expanding.Unread.TheVariants.{Refused, OutOfMemory}
 
 -- every context is of that edition
 abbrev pub IsEdition : Edition → SyntaxContext → Edition → Type 0
@@ -25,8 +25,7 @@ abbrev pub IsItself : Span → Span → Type 0
 IsItself span marked = marked ≡ span
 
 -- The answer to a call of that style with this argument, by the macro that the grammar of definitions reads from the
--- definition in
--- that edition, which reports no fault.
+-- definition in that edition, which reports no fault.
 pub record ExpandsBy (g : Grammar) (edition : Edition) (definition : Forest) (style : MacroCallStyle) (argument : Top)
     (call_site : Span)
     (out : Forest) (index : Option ℕ) (err : Option ExpandError) : Type 0 where
@@ -35,11 +34,11 @@ pub record ExpandsBy (g : Grammar) (edition : Edition) (definition : Forest) (st
   pub answers : IsAnswer g IsItself rules style argument call_site out index err
 
 -- The definition has that fault in that edition, or there is no memory.
-abbrev pub IsRefused : {A : Type 0} → Edition → Forest → Unread A → Type 0
-IsRefused edition definition (Refused error) =
+abbrev pub HasNoMacro : {A : Type 0} → Edition → Forest → Unread A → Type 0
+HasNoMacro edition definition (Refused error) =
     (rules : List Rule) × IsReadAs (IsEdition edition) definition
     (record { rules = rules; err = Some (parse_error_of error) })
-IsRefused edition definition OutOfMemory = ⊤
+HasNoMacro edition definition OutOfMemory = ⊤
 
 -- one verdict for each rule, in order
 abbrev pub AreVerdicts : Grammar → Forest → List Rule → List Verdict → Type 0
@@ -49,8 +48,7 @@ AreVerdicts g argument [] (v ∷ vs) = ⊥
 AreVerdicts g argument (r ∷ rs) [] = ⊥
 
 -- The verdicts on an argument of the rules that the grammar of definitions reads from these trees in that edition,
--- which report
--- no error.
+-- which report no error.
 pub record ExplainsBy (g : Grammar) (edition : Edition) (definition argument : Forest)
     (answers : List Verdict) : Type 0 where
   pub rules : List Rule

@@ -1,7 +1,7 @@
 use Rattle.std.proofs.Common.{None, Some, sym, ap, ◌∙◌, rules}
 use Rattle.mbe.specs.MacroViews.{macro_of}
 use Rattle.mbe_program.proofs.EditionLemmas.{read_in}
-use Rattle.mbe_program.proofs.program.defined.Goals as goal
+use Rattle.mbe_program.proofs.expanding.defined.Goals as goal
 
 pub returns-in-Some-clause-refused : goal.returns-in-Some-clause-refused
 returns-in-Some-clause-refused g c = (
