@@ -68,6 +68,11 @@ pub length_seen : {X Y : Type 0} (f : X → Y) (xs : List X) → length (map f x
 length_seen f [] = refl
 length_seen f (x ∷ xs) = ap suc (length_seen f xs)
 
+-- what is seen at an index of those that are seen
+pub seen_there : {X Y : Type 0} (f : X → Y) (xs : List X) (i : ℕ) (x : X) → i < length (map f xs)
+    → x ≡ slice_index_or xs i x → slice_get (map f xs) i ≡ Some (f x)
+seen_there f xs i x l e = seen_at f xs i x (subst (λ n. i < n) (length_seen f xs) l) e
+
 pub all_seen : {X Y : Type 0} (f : X → Y) (xs : List X) (n : ℕ) → length xs ≤ n → take n (map f xs) ≡ map f xs
 all_seen f [] n h = take-nil n
 all_seen f (x ∷ xs) zero h = absurd (omega (arith, h))

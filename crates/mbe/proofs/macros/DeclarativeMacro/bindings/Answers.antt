@@ -1,4 +1,4 @@
-use Rattle.std.proofs.Common.{◌≡◌, ◌<◌, ◌∙◌, ap, subst, inl, inr, []}
+use Rattle.std.proofs.Common.{◌≡◌, ◌∙◌, ap, subst, inl, inr, []}
 use Rattle.mbe_tt.specs.Views.View.{trees}
 use Rattle.mbe_semantics.specs.Readings.Verdict.{IsVerdict, one_reading}
 use Rattle.mbe_semantics.specs.Bindings.Account.{run}
@@ -9,23 +9,18 @@ use Rattle.mbe_parser.specs.RuleViews.{rule_of}
 use Rattle.mbe_matcher.specs.Matched.{verdict_seen, Binds}
 use Rattle.mbe.specs.MacroViews.{macro_of}
 use Rattle.mbe.proofs.BindsLemmas.{none_if_many, none_if_ambiguous, none_if_stuck}
-use Rattle.mbe.proofs.ChoiceLemmas.{seen_at, length_seen}
+use Rattle.mbe.proofs.ChoiceLemmas.{seen_there}
 use Rattle.mbe.proofs.ClosestLemmas.{all_checked}
 use Rattle.mbe.proofs.macros.DeclarativeMacro.bindings.Goals as goal
 
 pub match_argument-requires : goal.match_argument-requires
 match_argument-requires g c =
-    let items = c.args.self.now.rules.items in
-    let within = subst (λ n. c.args.rule < n) (length_seen rule_of items) c.requires.rule in
-    let here = seen_at rule_of items c.args.rule c.index-rule.result.now within c.index-rule.ensures in
-    all_checked (macro_of c.args.self.now) c.args.self.now.tells_refusal c.requires.checked c.args.rule
-    (rule_of c.index-rule.result.now) here
+    all_checked (macro_of c.args.self.now) c.args.self.now.tells_refusal c.requires.checked _ _
+    (seen_there rule_of c.args.self.now.rules.items _ _ c.requires.rule c.index-rule.ensures)
 
 pub returns-in-OneReading : goal.returns-in-OneReading
 returns-in-OneReading g c =
-    let items = c.args.self.now.rules.items in
-    let within = subst (λ n. c.args.rule < n) (length_seen rule_of items) c.requires.rule in
-    let here = seen_at rule_of items c.args.rule c.index-rule.result.now within c.index-rule.ensures in
+    let here = seen_there rule_of c.args.self.now.rules.items _ _ c.requires.rule c.index-rule.ensures in
     let h = g.G.FragmentGrammar.grammar c.args.grammar.now in
     let r = rule_of c.index-rule.result.now in
     let same : trees c.remaining-argument.result ≡ c.args.tt.now.1 = c.remaining-argument.ensures ∙ c.iter.ensures in
@@ -39,9 +34,7 @@ returns-in-OneReading g c =
 
 pub returns : goal.returns
 returns g c =
-    let items = c.args.self.now.rules.items in
-    let within = subst (λ n. c.args.rule < n) (length_seen rule_of items) c.requires.rule in
-    let here = seen_at rule_of items c.args.rule c.index-rule.result.now within c.index-rule.ensures in
+    let here = seen_there rule_of c.args.self.now.rules.items _ _ c.requires.rule c.index-rule.ensures in
     let h = g.G.FragmentGrammar.grammar c.args.grammar.now in
     let r = rule_of c.index-rule.result.now in
     let v = verdict_seen c.in_ok-matched.matched.verdict in

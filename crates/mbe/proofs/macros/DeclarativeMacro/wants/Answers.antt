@@ -1,4 +1,4 @@
-use Rattle.std.proofs.Common.{◌≡◌, ◌<◌, ◌∙◌, map, option_map, subst}
+use Rattle.std.proofs.Common.{◌≡◌, ◌∙◌, map, option_map, subst}
 use Rattle.std.specs.Prelude.{Result, Ok, Err, IfOk}
 use Rattle.mbe_tt.specs.Views.View.{trees}
 use Rattle.mbe_semantics.specs.Readings.Verdict.{IsVerdict}
@@ -7,17 +7,14 @@ use Rattle.mbe_parser.specs.RuleViews.{rule_of}
 use Rattle.mbe_matcher.specs.Matched.{verdict_seen}
 use Rattle.mbe_matcher.specs.Wanted.{AreWanted, ClashThere, wanted_seen, pair_seen}
 use Rattle.mbe.specs.MacroViews.{macro_of}
-use Rattle.mbe.proofs.ChoiceLemmas.{seen_at, length_seen}
+use Rattle.mbe.proofs.ChoiceLemmas.{seen_there}
 use Rattle.mbe.proofs.ClosestLemmas.{all_checked}
 use Rattle.mbe.proofs.macros.DeclarativeMacro.wants.Goals as goal
 
 pub wants_of-requires : goal.wants_of-requires
 wants_of-requires g c =
-    let items = c.args.self.now.rules.items in
-    let within = subst (λ n. c.args.rule < n) (length_seen rule_of items) c.requires.rule in
-    let here = seen_at rule_of items c.args.rule c.index-rule.result.now within c.index-rule.ensures in
-    all_checked (macro_of c.args.self.now) c.args.self.now.tells_refusal c.requires.checked c.args.rule
-    (rule_of c.index-rule.result.now) here
+    all_checked (macro_of c.args.self.now) c.args.self.now.tells_refusal c.requires.checked _ _
+    (seen_there rule_of c.args.self.now.rules.items _ _ c.requires.rule c.index-rule.ensures)
 
 ok_to : {X E : Type 0} (r : Result X E) (P Q : X → Type 0) → ((x : X) → P x → Q x) → IfOk r P → IfOk r Q
 ok_to (Ok x) P Q f p = f x p
@@ -25,9 +22,7 @@ ok_to (Err e) P Q f p = tt
 
 pub returns : goal.returns
 returns g c =
-    let items = c.args.self.now.rules.items in
-    let within = subst (λ n. c.args.rule < n) (length_seen rule_of items) c.requires.rule in
-    let here = seen_at rule_of items c.args.rule c.index-rule.result.now within c.index-rule.ensures in
+    let here = seen_there rule_of c.args.self.now.rules.items _ _ c.requires.rule c.index-rule.ensures in
     let h = g.G.FragmentGrammar.grammar c.args.grammar.now in
     let rule = rule_of c.index-rule.result.now in
     let pat = template_of c.index-rule.result.now.lhs in
