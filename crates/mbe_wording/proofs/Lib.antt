@@ -1,3 +1,5 @@
+pub mod NameLemmas
+pub mod SearchLemmas
 pub mod TypeLemmas
 pub mod WordLemmas
 pub mod WrittenLemmas

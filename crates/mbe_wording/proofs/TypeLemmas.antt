@@ -1,11 +1,12 @@
 -- What of a template and of rules is left to be written, one tree after another.
 use Rattle.std.proofs.Common.{ℕ, suc, ◌-◌, ◌≡◌, ◌<◌, Bool, true, false, List, Option, Some, None, refl, ap, sym, ◌∙◌, arith}
-use Rattle.std.specs.Prelude.{◌&&◌, ◌||◌, is_some}
+use Rattle.std.specs.Prelude.{is_some}
 use Rattle.mbe_tt.specs.Buffers.Building.{Levels, put}
 use Rattle.mbe_tt.specs.Trees.Leaf.{Leaf}
 use Rattle.mbe_tt.specs.Trees.Tree.{Forest, Tree, Leaf_tree, Group_tree, none, leaf, group, append, first, rest_of, one_leaf}
 use Rattle.mbe_tt.specs.declared.tt.Delimiter.{Delimiter}
-use Rattle.mbe_wording.specs.Typing.{declares_by, declares, is_char_leaf, is_typed, kept, type_at, typed_by, typed_in, rule_group, pattern_after, rules_by}
+use Rattle.mbe_wording.specs.Typing.{has, declares, kept, type_at, typed_by, typed_in, rule_group, pattern_after, rules_by}
+use Rattle.mbe_wording.specs.Searching.{any_tree}
 use Rattle.mbe_wording.proofs.WrittenLemmas.{Left, nothing, on, passes, whole_of}
 
 one_more : (n : ℕ) → 0 < n → n ≡ suc (n - 1)
@@ -114,11 +115,8 @@ rule_group_on whole pattern other f next inside d old now after h is e k o =
 
 -- ---- variables of patterns
 
--- it is among the trees that are left where it is among all
-pub Looks : ℕ → List ℕ → Forest → Forest → Type 0
-Looks levels name f rest = declares_by (declares (levels - 1) name) name rest ≡ declares levels name f
-
-declares_suc : (n : ℕ) (name : List ℕ) (f : Forest) → declares_by (declares n name) name f ≡ declares (suc n) name f
+declares_suc : (n : ℕ) (name : List ℕ) (f : Forest)
+    → any_tree (has (declares n name) name) f ≡ declares (suc n) name f
 unfolding declares
 declares_suc n name f = refl
 
@@ -126,44 +124,10 @@ declares_zero : (name : List ℕ) (f : Forest) → false ≡ declares 0 name f
 unfolding declares
 declares_zero name f = refl
 
-pub looks_begin : (levels : ℕ) (name : List ℕ) (f : Forest) → 0 < levels → Looks levels name f f
-unfolding Looks
+pub looks_begin : (levels : ℕ) (name : List ℕ) (f : Forest) → 0 < levels
+    → any_tree (has (declares (levels - 1) name) name) f ≡ declares levels name f
 looks_begin levels name f some =
     declares_suc (levels - 1) name f ∙ ap (λ n. declares n name f) (sym (one_more levels some))
 
 pub looks_nowhere : (levels : ℕ) (name : List ℕ) (f : Forest) → levels ≡ 0 → false ≡ declares levels name f
 looks_nowhere levels name f e = declares_zero name f ∙ ap (λ n. declares n name f) (sym e)
-
--- whether a tree has it, before those
-abbrev pub has : ℕ → List ℕ → Tree → Forest → Bool
-has levels name (Leaf_tree l) rest = is_char_leaf 36 l && is_typed name rest
-has levels name (Group_tree d inside) rest = declares (levels - 1) name inside
-
-one_by : (levels : ℕ) (name : List ℕ) (rest : Forest) (t : Tree) → first rest ≡ Some t
-    → declares_by (declares (levels - 1) name) name rest
-    ≡ (has levels name t (rest_of rest) || declares_by (declares (levels - 1) name) name (rest_of rest))
-one_by levels name rest (Leaf_tree l) e =
-    ap (declares_by (declares (levels - 1) name) name) (whole_of rest (Leaf_tree l) e)
-one_by levels name rest (Group_tree d inside) e =
-    ap (declares_by (declares (levels - 1) name) name) (whole_of rest (Group_tree d inside) e)
-
-pub tree_found : (levels : ℕ) (name : List ℕ) (f rest : Forest) (t : Tree) (found : Bool) → Looks levels name f rest
-    → first rest ≡ Some t → found ≡ has levels name t (rest_of rest) → found ≡ true → true ≡ declares levels name f
-unfolding Looks
-tree_found levels name f rest t found h is e is_there =
-    let inner = declares_by (declares (levels - 1) name) name (rest_of rest) in
-    sym (one_by levels name rest t is ∙ ap (λ b. b || inner) (sym e ∙ is_there)) ∙ h
-
-pub tree_passed : (levels : ℕ) (name : List ℕ) (f rest : Forest) (t : Tree) (found : Bool) → Looks levels name f rest
-    → first rest ≡ Some t → found ≡ has levels name t (rest_of rest) → found ≡ false
-    → Looks levels name f (rest_of rest)
-unfolding Looks
-tree_passed levels name f rest t found h is e is_not =
-    let inner = declares_by (declares (levels - 1) name) name (rest_of rest) in
-    sym (one_by levels name rest t is ∙ ap (λ b. b || inner) (sym e ∙ is_not)) ∙ h
-
-pub looks_ended : (levels : ℕ) (name : List ℕ) (f rest : Forest) → Looks levels name f rest → first rest ≡ None
-    → false ≡ declares levels name f
-unfolding Looks
-looks_ended levels name f rest h is =
-    sym (ap (declares_by (declares (levels - 1) name) name) (nothing rest is)) ∙ h

@@ -1,3 +1,5 @@
+pub mod Names
 pub mod Places
+pub mod Searching
 pub mod Typing
 pub mod Wording

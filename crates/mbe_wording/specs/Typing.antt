@@ -1,10 +1,11 @@
 -- Types in templates. A variable that takes a type is one type to rustc, whatever follows it. Its text isn't: in
 -- `$x as $t << 1` generic arguments of `u32` would begin with the `<`. So such a `$t` is in parentheses.
-use Rattle.std.specs.Prelude.{ℕ, zero, suc, Bool, true, false, ◌&&◌, ◌||◌, ◌==◌, if◌then◌else◌, codes, List, Option, Some, None, is_some}
+use Rattle.std.specs.Prelude.{ℕ, zero, suc, Bool, true, false, ◌&&◌, ◌==◌, if◌then◌else◌, codes, List, Option, Some, None, is_some}
 use Rattle.mbe_tt.specs.Trees.Leaf.{Leaf, literal, punct, ident, span_of, is_text}
-use Rattle.mbe_tt.specs.Trees.Tree.{Forest, none, leaf, group, append, one_leaf, rest_of}
+use Rattle.mbe_tt.specs.Trees.Tree.{Forest, Tree, Leaf_tree, Group_tree, none, leaf, group, append, one_leaf, rest_of}
 use Rattle.mbe_tt.specs.declared.tt.Delimiter.{Delimiter}
 use Rattle.mbe_tt.specs.declared.tt.DelimiterKind.TheVariants.{Parenthesis}
+use Rattle.mbe_wording.specs.Searching.{any_tree}
 
 -- ---- what is at the front
 
@@ -34,15 +35,15 @@ is_word word (group d inside rest) = false
 abbrev pub is_typed : List ℕ → Forest → Bool
 is_typed name f = is_word name f && is_char 58 (rest_of f) && is_word (codes "ty") (rest_of (rest_of f))
 
-abbrev pub declares_by : (Forest → Bool) → List ℕ → Forest → Bool
-declares_by inner name none = false
-declares_by inner name (leaf l rest) = (is_char_leaf 36 l && is_typed name rest) || declares_by inner name rest
-declares_by inner name (group d inside rest) = inner inside || declares_by inner name rest
+-- `$name:ty` is in a tree, or begins with it, before those
+abbrev pub has : (Forest → Bool) → List ℕ → Tree → Forest → Bool
+has inner name (Leaf_tree l) rest = is_char_leaf 36 l && is_typed name rest
+has inner name (Group_tree d inside) rest = inner inside
 
 -- `$name:ty` is somewhere among these trees, so many groups deep at most
 unfoldable pub declares : ℕ → List ℕ → Forest → Bool
 declares zero name f = false
-declares (suc levels) name f = declares_by (declares levels name) name f
+declares (suc levels) name f = any_tree (has (declares levels name) name) f
 
 -- the name of a variable that takes a type in that pattern
 abbrev pub is_type : Forest → Leaf → Bool

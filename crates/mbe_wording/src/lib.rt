@@ -2,6 +2,7 @@
 // that are built in.
 #![tactic(auto)]
 
+pub mod names;
 pub mod places;
 pub mod typing;
 pub mod wording;

@@ -3,6 +3,7 @@
 ghost use Rattle.std.specs.Prelude.{◌≡◌, ◌<◌, IfOk, OnOk, is_some, length, option_map};
 ghost use Rattle.mbe_tt.specs.Buffers.Building.{put};
 ghost use Rattle.mbe_tt.specs.Trees.Tree.{rest_of};
+ghost use Rattle.mbe_tt.specs.Views.Element.{element_tree};
 ghost use Rattle.mbe_tt.specs.Views.Shown.{leaf_of};
 ghost use Rattle.mbe_tt.specs.Views.View.{trees};
 ghost use Rattle.mbe_wording.specs.Typing as spec;
@@ -75,7 +76,25 @@ fn is_typed<A: Allocator>(name: &str, tokens: TokenTreesView<'_, A>) -> bool
     is_word(name, tokens) && is_char(':', after_name) && is_word("ty", after_first(after_name))
 }
 
+// Whether `$name:ty` is in a tree, so many groups deep, or begins with it, before those.
+#[cycle(declaring)]
+fn has<A: Allocator>(
+    name: &str,
+    tree: TtElement<'_, A>,
+    rest: TokenTreesView<'_, A>,
+    levels: u32,
+) -> bool
+    ensures { result ≡ spec.has (spec.declares levels name.now) name.now
+        (element_tree tree.entry) (trees rest.entry) }
+{
+    match tree {
+        TtElement::Leaf(leaf) => is_char_leaf('$', leaf) && is_typed(name, rest),
+        TtElement::Subtree(_, inside) => declares(name, inside.remaining(), levels),
+    }
+}
+
 // Whether `$name:ty` is somewhere among these trees, so many groups deep.
+#[cycle(declaring)]
 fn declares<A: Allocator>(name: &str, tokens: TokenTreesView<'_, A>, levels: u32) -> bool
     ensures { result ≡ spec.declares levels name.now (trees tokens.entry) }
 {
@@ -84,11 +103,7 @@ fn declares<A: Allocator>(name: &str, tokens: TokenTreesView<'_, A>, levels: u32
     }
     let mut rest = tokens.iter();
     'trees: while let Some(tree) = rest.next() {
-        let is_found = match tree {
-            TtElement::Leaf(leaf) => is_char_leaf('$', leaf) && is_typed(name, rest.remaining()),
-            TtElement::Subtree(_, inside) => declares(name, inside.remaining(), levels - 1),
-        };
-        if is_found {
+        if has(name, tree, rest.remaining(), levels - 1) {
             return true;
         }
     }
