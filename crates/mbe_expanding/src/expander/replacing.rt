@@ -25,6 +25,7 @@ use mbe_renaming::contexts::told_apart;
 use mbe_renaming::renaming::Doubt;
 use mbe_tt::span::Span;
 use mbe_tt::tt::{Delimiter, Leaf, TokenTreesView, TopSubtree, TopSubtreeBuilder, TtElement};
+use mbe_wording::names::names_builtin;
 use mbe_wording::places::{Place, place_of};
 use mbe_wording::wording::{Builtins, worded};
 use std::alloc::{AllocError, Allocator};
@@ -356,6 +357,10 @@ impl<A: Allocator + Copy> Expander<'_, A> {
             (wording.worded (spec.builtins (state_of self.now) place.line place.column)
             tree.now.1)) }
     {
+        // Which macros are built in is asked among all definitions, so only of an expansion that has such a name.
+        if !names_builtin(tree) {
+            return text_of(self.alloc, tree.iter().remaining(), indentation);
+        }
         let shown = worded(self.alloc, self.builtins(place), tree)?;
         text_of(self.alloc, shown.iter().remaining(), indentation)
     }
