@@ -30,6 +30,13 @@ attribute_by s n close f name r h e m =
     m ∙ (ap (by_name s (attribute s (n - 1)) f) e
     ∙ (sym (attribute_suc s (n - 1) close f) ∙ sym (ap (λ k. attribute s k close f) (one_more n h))))
 
+-- what the name says that was read at the front
+pub attribute_named : (s : Settings) (n : ℕ) (close : Span) (f read : Forest) (name : Ident) (r : Result Bool Fault)
+    → 0 < n → Some name ≡ front_ident read → read ≡ f → r ≡ by_name s (attribute s (n - 1)) f (Some name)
+    → r ≡ attribute s n close f
+attribute_named s n close f read name r h word e m =
+    attribute_by s n close f (Some name) r h (word ∙ ap front_ident e) m
+
 pub attribute_none : (s : Settings) (n : ℕ) (close : Span) (f : Forest) (r : Result Bool Fault)
     → n ≡ 0 → r ≡ fails w.TooDeep (place close f) → r ≡ attribute s n close f
 attribute_none s n close f r e m = m ∙ (sym (attribute_zero s close f) ∙ sym (ap (λ k. attribute s k close f) e))

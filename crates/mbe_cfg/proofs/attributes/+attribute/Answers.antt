@@ -1,10 +1,10 @@
-use Rattle.std.proofs.Common.{◌≡◌, ◌<◌, Some, None, rules, refl, sym, ap, ◌∙◌, arith}
+use Rattle.std.proofs.Common.{◌≡◌, ◌<◌, None, rules, refl, sym, ap, ◌∙◌, arith}
 use Rattle.std.proofs.lemmas.Result.{err_from_is_err_and}
 use Rattle.mbe_tt.specs.Trees.Tree.{rest_of, front_ident}
 use Rattle.mbe_tt.specs.Views.Shown.{ident_of}
 use Rattle.mbe_tt.specs.Views.View.{trees}
 use Rattle.mbe_cfg.specs.Attributes.{attribute}
-use Rattle.mbe_cfg.proofs.AttributeLemmas.{attribute_by, attribute_none, metas_end, metas_fail, metas_none, metas_on}
+use Rattle.mbe_cfg.proofs.AttributeLemmas.{attribute_by, attribute_named, attribute_none, metas_end, metas_fail, metas_none, metas_on}
 use Rattle.mbe_cfg.proofs.attributes.+attribute.Goals as goal
 
 pub attribute-returns-then-depth-eq0 : goal.attribute-returns-then-depth-eq0
@@ -22,32 +22,25 @@ attribute-returns-in_default g t c =
 
 pub attribute-returns-in-Cfg : goal.attribute-returns-in-Cfg
 attribute-returns-in-Cfg g t c =
-    let f = trees c.args.tokens in
-    let name = ident_of c.in-Ok.name.now in
     let some = c.if-depth-eq0.false in
-    let left : 0 < c.args.depth = omega (arith, some) in
-    let word : Some name ≡ front_ident f = c.in-Ok.ensures.value ∙ ap front_ident c.iter-iter.ensures in
-    let after : c.expect_ident.new.self ≡ rest_of f = c.in-Ok.ensures.rest ∙ ap rest_of c.iter-iter.ensures in
-    attribute_by c.args.settings.now c.args.depth c.args.close f (Some name) _ left word (search (rules, after))
+    let after : c.expect_ident.new.self ≡ rest_of (trees c.args.tokens) =
+    c.in-Ok.ensures.rest ∙ ap rest_of c.iter-iter.ensures in
+    attribute_named c.args.settings.now c.args.depth c.args.close _ _ (ident_of c.in-Ok.name.now) _
+    (omega (arith, some)) c.in-Ok.ensures.value c.iter-iter.ensures (search (rules, after))
 
 pub attribute-returns-in-CfgAttr : goal.attribute-returns-in-CfgAttr
 attribute-returns-in-CfgAttr g t c =
-    let f = trees c.args.tokens in
-    let name = ident_of c.in-Ok.name.now in
     let some = c.if-depth-eq0.false in
-    let left : 0 < c.args.depth = omega (arith, some) in
-    let word : Some name ≡ front_ident f = c.in-Ok.ensures.value ∙ ap front_ident c.iter-iter.ensures in
-    let after : c.expect_ident.new.self ≡ rest_of f = c.in-Ok.ensures.rest ∙ ap rest_of c.iter-iter.ensures in
-    attribute_by c.args.settings.now c.args.depth c.args.close f (Some name) _ left word (search (rules, after))
+    let after : c.expect_ident.new.self ≡ rest_of (trees c.args.tokens) =
+    c.in-Ok.ensures.rest ∙ ap rest_of c.iter-iter.ensures in
+    attribute_named c.args.settings.now c.args.depth c.args.close _ _ (ident_of c.in-Ok.name.now) _
+    (omega (arith, some)) c.in-Ok.ensures.value c.iter-iter.ensures (search (rules, after))
 
 pub attribute-returns-in-Other : goal.attribute-returns-in-Other
 attribute-returns-in-Other g t c =
-    let f = trees c.args.tokens in
-    let name = ident_of c.in-Ok.name.now in
     let some = c.if-depth-eq0.false in
-    let left : 0 < c.args.depth = omega (arith, some) in
-    let word : Some name ≡ front_ident f = c.in-Ok.ensures.value ∙ ap front_ident c.iter-iter.ensures in
-    attribute_by c.args.settings.now c.args.depth c.args.close f (Some name) _ left word (search rules)
+    attribute_named c.args.settings.now c.args.depth c.args.close _ _ (ident_of c.in-Ok.name.now) _
+    (omega (arith, some)) c.in-Ok.ensures.value c.iter-iter.ensures (search rules)
 
 pub metas-returns-then-is_empty : goal.metas-returns-then-is_empty
 metas-returns-then-is_empty g t c =
