@@ -271,9 +271,7 @@ impl<'g, A: Allocator + Copy> Expander<'g, A> {
             return Ok(None);
         }
         let (tree, _rule) = value;
-        self.note_step(call, &tree)?;
-        self.note_origins(call, &tree)?;
-        self.note_captures(call, &tree)?;
+        self.note_expansion(call, &tree)?;
         self.explain(call, &argument, true)?;
         self.add_contexts(call)?;
         Ok(Some(tree))
@@ -288,6 +286,16 @@ impl<'g, A: Allocator + Copy> Expander<'g, A> {
         let (span, kind) = &*error.inner;
         let message = format!(in self.alloc; "{kind} in the call of `{name}!`")?;
         self.note(Level::Error, *span, message)
+    }
+
+    // Notes what the settings ask to be said of what a call expands to.
+    fn note_expansion(&mut self, call: Call<'_, A>, tree: &TopSubtree<A>) -> Result<(), AllocError>
+        ensures setting { OnOk result (setting_of self.new ≡ setting_of self.old) }
+        ensures state { OnOk result (state_of self.new ≡ state_of self.old) }
+    {
+        self.note_step(call, tree)?;
+        self.note_origins(call, tree)?;
+        self.note_captures(call, tree)
     }
 
     // Notes what a call expands to, if steps are traced, in the words of rustc's `trace_macros`.

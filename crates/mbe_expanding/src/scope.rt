@@ -384,7 +384,8 @@ impl<A: Allocator + Copy> Scope<A> {
 
     // Whether that definition is one of these, has the name, and is found by what is asked for. Few have the name.
     fn is_asked(&self, number: usize, name: &str, asked: Reach, among: Among<'_>) -> bool
-        ensures { result ≡ (spec.is_among (scope_of self.now).crates (among_shown among.entry) number
+        ensures { result
+            ≡ (spec.is_among (scope_of self.now).crates (among_shown among.entry) number
             && is_found name.now asked (spec.definition_at (scope_of self.now) number)) }
     {
         self.is_found(number, name, asked) && self.is_among(number, among)

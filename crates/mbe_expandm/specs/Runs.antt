@@ -27,8 +27,9 @@ pub record IsRustTable (edition : Edition) (table : RuleTable) : Type 0 where
   pub edition_is : table.edition ≡ edition
 
 -- Where a run begins: the files are read, the definitions of other crates of these names are known, whose roots are the
--- files after the first so many, with what these export of each other, and those of the crates whose roots are these, in
--- the order of the crates' trees, and no call is expanded yet. The limit of depth is that of the words, or that of the files, or 128.
+-- files after the first so many, with what these export of each other, and those of the crates whose roots are these,
+-- in the order of the crates' trees, and no call is expanded yet. The limit of depth is that of the words, or that of
+-- the files, or 128.
 pub record IsBegun (edition : Edition) (c : Conditions) (depth : Option ℕ) (fuel : ℕ) (follows : Bool) (given : ℕ)
     (others : List (List ℕ)) (texts : List Text) (files : List Source) (e : Setting) (s : State) : Type 0 where
   pub texts_are : map source_text files ≡ texts

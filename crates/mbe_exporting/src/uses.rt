@@ -343,7 +343,8 @@ fn add_next<A: Allocator + Copy>(
     }
 }
 
-/// Adds what the paths among these trees name, up to a `;`, where each begins as `start` says, and so many groups are looked into.
+/// Adds what the paths among these trees name, up to a `;`, where each begins as `start` says. So many groups in one another are
+/// looked into.
 pub(crate) fn add_uses<'t, A: Allocator + Copy>(
     alloc: A,
     exports: &mut Vec<Export<A>, A>,
@@ -372,15 +373,8 @@ pub(crate) fn add_uses<'t, A: Allocator + Copy>(
                 walk = next(root, start, walk, leaf, rest.remaining());
             }
             TtElement::Subtree(_, inside) => {
-                add_uses(
-                    alloc,
-                    exports,
-                    by,
-                    root,
-                    walk,
-                    inside.remaining(),
-                    levels - 1,
-                )?;
+                let inside = inside.remaining();
+                add_uses(alloc, exports, by, root, walk, inside, levels - 1)?;
             }
         }
     }

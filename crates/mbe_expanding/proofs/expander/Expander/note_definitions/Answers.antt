@@ -1,4 +1,4 @@
-use Rattle.std.proofs.Common.{◌∙◌, ◌≤◌, refl, ap, map, length, arith}
+use Rattle.std.proofs.Common.{◌∙◌, ◌≤◌, ◌++◌, refl, ap, map, length, arith}
 use Rattle.mbe_expanding.specs.Calls.{State}
 use Rattle.mbe_expanding.specs.Explained.{note_seen}
 use Rattle.mbe_expanding.specs.Faults.{fault_at, noted}

@@ -2,7 +2,7 @@ use Rattle.std.proofs.Common.{◌≡◌, map, take}
 use Rattle.mbe_exporting.specs.Shown.{export_of}
 use Rattle.mbe_expanding.specs.Linking.{all_exported}
 use Rattle.mbe_expanding.specs.Shown.{scope_of}
-use Rattle.mbe_expanding.proofs.scope.linking.Scope.link_exports.Given as goal
+use Rattle.mbe_expanding.proofs.scope.Scope.link_exports.Given as goal
 
 abbrev pub invariant-loop-export : goal.invariant-loop-export
 invariant-loop-export g l =

@@ -1,7 +1,7 @@
 use Rattle.std.proofs.Common.{◌≡◌}
 use Rattle.mbe_expanding.specs.Linking.{with_first}
 use Rattle.mbe_expanding.specs.Shown.{scope_of}
-use Rattle.mbe_expanding.proofs.scope.linking.Scope.link_all.Given as goal
+use Rattle.mbe_expanding.proofs.scope.Scope.link_all.Given as goal
 
 abbrev pub invariant-loop-number : goal.invariant-loop-number
 invariant-loop-number g l =

@@ -2,7 +2,7 @@ use Rattle.std.proofs.Common.{◌≡◌, map}
 use Rattle.mbe_exporting.specs.Shown.{export_of}
 use Rattle.mbe_expanding.specs.Linking.{linked}
 use Rattle.mbe_expanding.specs.Shown.{scope_of}
-use Rattle.mbe_expanding.proofs.scope.linking.Scope.link.Given as goal
+use Rattle.mbe_expanding.proofs.scope.Scope.link.Given as goal
 
 abbrev pub invariant-rounds : goal.invariant-rounds
 invariant-rounds g l =

@@ -2,7 +2,7 @@ use Rattle.std.proofs.Common.{◌∙◌, ◌<◌, ◌≡◌, map, sym, arith}
 use Rattle.mbe_exporting.specs.Shown.{export_of}
 use Rattle.mbe_expanding.specs.Shown.{scope_of}
 use Rattle.mbe_expanding.proofs.LinkLemmas.{no_round, round_on}
-use Rattle.mbe_expanding.proofs.scope.linking.Scope.link.Goals as goal
+use Rattle.mbe_expanding.proofs.scope.Scope.link.Goals as goal
 
 pub rounds-preserved : goal.rounds-preserved
 rounds-preserved g c = (

@@ -2,7 +2,7 @@ use Rattle.std.proofs.Common.{◌∙◌, ◌≡◌, refl, ap, length, arith}
 use Rattle.mbe_expanding.specs.Linking.{with_first}
 use Rattle.mbe_expanding.specs.Shown.{scope_of}
 use Rattle.mbe_expanding.proofs.LinkLemmas.{first_on, none_first}
-use Rattle.mbe_expanding.proofs.scope.linking.Scope.link_all.Goals as goal
+use Rattle.mbe_expanding.proofs.scope.Scope.link_all.Goals as goal
 
 pub loop-number-init : goal.loop-number-init
 loop-number-init g c = (none_first c.args.by.now c.args.from.now (scope_of c.args.self.now), refl)

@@ -2,7 +2,7 @@ use Rattle.std.proofs.Common.{◌∙◌}
 use Rattle.mbe_exporting.specs.Shown.{export_of}
 use Rattle.mbe_expanding.specs.Shown.{scope_of}
 use Rattle.mbe_expanding.proofs.LinkLemmas.{exported_on}
-use Rattle.mbe_expanding.proofs.scope.linking.Scope.link_exports.Goals as goal
+use Rattle.mbe_expanding.proofs.scope.Scope.link_exports.Goals as goal
 
 pub loop-export-preserved : goal.loop-export-preserved
 loop-export-preserved g c = (
