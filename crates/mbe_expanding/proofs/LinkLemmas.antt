@@ -1,8 +1,8 @@
 -- What crates have of others, one export after another.
-use Rattle.std.proofs.Common.{◌≡◌, ◌<◌, ◌+◌, ◌-◌, ℕ, zero, suc, Bool, true, false, List, [], ◌∷◌, ◌++◌, length, map, take, get_or, refl, ap, sym, ◌∙◌, arith}
+use Rattle.std.proofs.Common.{◌≡◌, ◌<◌, ◌+◌, ◌-◌, ℕ, suc, Bool, true, false, List, [], ◌∷◌, ◌++◌, length, map, take, get_or, refl, ap, sym, ◌∙◌, arith}
 use Rattle.std.proofs.lemmas.List.{map-append, take_more}
 use Rattle.mbe_exporting.specs.Exports.{Export}
-use Rattle.mbe_expanding.specs.Linking.{all_exported, exported, linked, with_first, with_number}
+use Rattle.mbe_expanding.specs.Linking.{all_exported, exported, linked, with_all, with_first, with_number}
 use Rattle.mbe_expanding.specs.Scopes.{Scope}
 
 -- ---- definitions
@@ -22,6 +22,10 @@ first_on crate from n s t u before e =
     let next : n + 1 ≡ suc n = omega arith in
     e ∙ ap (with_number crate from n) before
     ∙ sym (ap (λ k. with_first crate from k s) next ∙ first_suc crate from n s)
+
+pub all_on : (crate from : List ℕ) (n : ℕ) (s t : Scope) → t ≡ with_first crate from n s → n ≡ length s.definitions
+    → t ≡ with_all crate from s
+all_on crate from n s t before all = before ∙ ap (λ k. with_first crate from k s) all
 
 -- ---- exports
 

@@ -24,6 +24,6 @@ loop-number-preserved g c = (
 pub returns-clause-notes : goal.returns-clause-notes
 returns-clause-notes g c =
     let past : length (state_of c.args.self.now).scope.definitions ≤ c.loop-number.number =
-    omega (arith, c.count.ensures) in
+    omega (arith, c.count-number-end.ensures) in
     all_said (state_of c.args.self.now).scope.definitions c.loop-number.number
     (map note_seen c.loop-number.self.notes.items) _ past c.loop-number.invariant.0

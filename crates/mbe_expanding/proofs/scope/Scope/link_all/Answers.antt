@@ -1,7 +1,6 @@
-use Rattle.std.proofs.Common.{◌∙◌, ◌≡◌, refl, ap, length, arith}
-use Rattle.mbe_expanding.specs.Linking.{with_first}
+use Rattle.std.proofs.Common.{◌∙◌, refl, arith}
 use Rattle.mbe_expanding.specs.Shown.{scope_of}
-use Rattle.mbe_expanding.proofs.LinkLemmas.{first_on, none_first}
+use Rattle.mbe_expanding.proofs.LinkLemmas.{all_on, first_on, none_first}
 use Rattle.mbe_expanding.proofs.scope.Scope.link_all.Goals as goal
 
 pub loop-number-init : goal.loop-number-init
@@ -16,5 +15,5 @@ loop-number-preserved g c = (
 
 pub returns-clause-linked : goal.returns-clause-linked
 returns-clause-linked g c =
-    let all : c.loop-number.number ≡ length (scope_of c.args.self.now).definitions = omega (arith, c.count.ensures) in
-    c.loop-number.invariant.0 ∙ ap (λ n. with_first c.args.by.now c.args.from.now n (scope_of c.args.self.now)) all
+    all_on c.args.by.now c.args.from.now c.loop-number.number (scope_of c.args.self.now) (scope_of c.loop-number.self)
+    c.loop-number.invariant.0 (omega (arith, c.count-number-end.ensures))
