@@ -4,10 +4,12 @@ pub mod DefineLemmas
 pub mod EachLemmas
 pub mod EditionLemmas
 pub mod ExplainLemmas
+pub mod FaultLemmas
 pub mod FitLemmas
 pub mod FrontLemmas
 pub mod GroupLemmas
 pub mod ItemLemmas
+pub mod LinkLemmas
 pub mod MarkLemmas
 pub mod ReplaceLemmas
 pub mod StepLemmas

@@ -2,7 +2,9 @@ pub mod Becoming
 pub mod Calls
 pub mod Defining
 pub mod Explained
+pub mod Faults
 pub mod Fitting
+pub mod Linking
 pub mod Replacing
 pub mod Scopes
 pub mod Shown

@@ -1,5 +1,5 @@
 -- Which definition a call names.
-use Rattle.std.specs.Prelude.{◌≡◌, ℕ, zero, suc, Bool, true, false, not, ◌&&◌, ◌==◌, if◌then◌else◌, nat_le, nat_lt, List, [], ◌∷◌, ◌++◌, length, take, Option, Some, None, option_map, option_and_then}
+use Rattle.std.specs.Prelude.{◌≡◌, ℕ, zero, suc, Bool, true, false, not, ◌&&◌, ◌==◌, ◌-◌, if◌then◌else◌, nat_le, nat_lt, List, [], ◌∷◌, ◌++◌, length, take, Option, Some, None, option_map, option_and_then}
 use Rattle.std.specs.List.{list_any, slice_get}
 use Rattle.std.specs.Option.{option_or}
 use Rattle.std.specs.Str.{bytes_eq}
@@ -22,11 +22,11 @@ pub record Definition : Type 0 where
   pub reach : Reach
   pub place : Span
 
--- another crate: its name, and the numbers of its definitions, which are the first one and those up to the end
+-- definitions of another crate: its name, the number of the first one, and how many follow each other from there on
 pub record Outside : Type 0 where
   pub name : List ℕ
   pub first : ℕ
-  pub end : ℕ
+  pub count : ℕ
 
 -- the definitions that were read, in order, and the numbers of those that a name finds at present, the latest last; and
 -- the other crates
@@ -70,7 +70,7 @@ pub record IsRead (edition : Edition) (d : Defined) (reach : Reach) (before afte
 -- ---- other crates
 
 abbrev pub is_within : ℕ → Outside → Bool
-is_within n c = nat_le c.first n && nat_lt n c.end
+is_within n c = nat_le c.first n && nat_lt (n - c.first) c.count
 
 abbrev pub is_named : List ℕ → ℕ → Outside → Bool
 is_named name n c = bytes_eq c.name name && is_within n c
@@ -110,7 +110,7 @@ with_crate name first s = record s {
   crates = s.crates ++ (record {
     name = name;
     first = first;
-    end = length s.definitions;
+    count = length s.definitions - first;
   }) ∷ [];
 }
 

@@ -22,7 +22,7 @@ definition_of d = record {
 }
 
 abbrev pub outside_of : {A : Type 0} → Outside A → spec.Outside
-outside_of c = record { name = string_bytes c.name; first = c.first; end = c.end }
+outside_of c = record { name = string_bytes c.name; first = c.first; count = c.count }
 
 abbrev pub among_shown : Among → spec.Among
 among_shown a.Own = spec.Own

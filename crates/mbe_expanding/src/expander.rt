@@ -4,7 +4,8 @@
 // it. A call of a macro that is found is replaced by its expansion, whose calls are expanded in turn, as far as the
 // settings say; any other tree stays. So the trees that come out have no call left but those of macros that no file
 // defines, those that no rule fits, and those beyond the limits; of the latter two a note says so.
-ghost use Rattle.std.specs.Prelude.{◌≡◌, ◌++◌, [], IsSome, IfOk, OnOk, length, option_map, unwrap_or};
+ghost use Rattle.std.specs.Prelude.{◌≡◌, ◌++◌, ◌∷◌, [], IsSome, IfOk, OnOk, length, map, option_map};
+ghost use Rattle.std.specs.Prelude.{true, unwrap_or};
 ghost use Rattle.std.specs.String.{string_bytes};
 ghost use Rattle.mbe_tt.specs.Views.View.{trees};
 ghost use Rattle.mbe.specs.MacroViews.{macro_of};
@@ -12,6 +13,8 @@ ghost use Rattle.mbe_calls.specs.Shown.{call_shown, defined_shown};
 ghost use Rattle.mbe_rules.specs.Lawful.{grammar_of};
 ghost use Rattle.mbe_rust_text.specs.Writing as text;
 ghost use Rattle.mbe_expanding.specs.Calls.{Allows, Applies, Tries, contexts_named, named, next_context, stepped};
+ghost use Rattle.mbe_expanding.specs.Explained.{note_seen};
+ghost use Rattle.mbe_expanding.specs.Faults as faults;
 ghost use Rattle.mbe_expanding.specs.Scopes.{IsRead, contexts_found};
 ghost use Rattle.mbe_expanding.specs.Shown.{scope_of, setting_of, state_of};
 
@@ -77,6 +80,12 @@ impl<'g, A: Allocator + Copy> Expander<'g, A> {
     fn note(&mut self, level: Level, span: Span, message: String<A>) -> Result<(), AllocError>
         ensures setting { OnOk result (setting_of self.new ≡ setting_of self.old) }
         ensures state { OnOk result (state_of self.new ≡ state_of self.old) }
+        ensures notes { OnOk result (map note_seen self.new.notes.items
+            ≡ map note_seen self.old.notes.items ++ (record {
+              level = level;
+              place = span;
+              text = string_bytes message;
+            }) ∷ []) }
     {
         self.notes.push(Note {
             level,
@@ -84,6 +93,20 @@ impl<'g, A: Allocator + Copy> Expander<'g, A> {
             message,
         })?;
         Ok(())
+    }
+
+    // Reads a definition, and notes nothing.
+    fn learn(&mut self, defined: Defined<'_, A>, reach: Reach) -> Result<usize, AllocError>
+        ensures read { OnOk result (IsRead (setting_of self.old).edition
+            (defined_shown defined.entry) reach
+            (scope_of self.old.scope) (scope_of self.new.scope)) }
+        ensures number { IfOk result (λ n. n ≡ length (scope_of self.old.scope).definitions) }
+        ensures setting { OnOk result (setting_of self.new ≡ setting_of self.old) }
+        ensures fuel { OnOk result (self.new.fuel ≡ self.old.fuel) }
+        ensures contexts { OnOk result (self.new.contexts.items ≡ self.old.contexts.items) }
+        ensures notes { OnOk result (self.new.notes.items ≡ self.old.notes.items) }
+    {
+        self.scope.read(defined, reach)
     }
 
     // Reads a definition, and notes what is wrong with it.
@@ -96,11 +119,40 @@ impl<'g, A: Allocator + Copy> Expander<'g, A> {
         ensures fuel { OnOk result (self.new.fuel ≡ self.old.fuel) }
         ensures contexts { OnOk result (self.new.contexts.items ≡ self.old.contexts.items) }
     {
-        let (number, fault) = self.scope.read(defined, reach)?;
-        if let Some(message) = fault {
-            self.note(Level::Error, defined.name.span, message)?;
-        }
+        let number = self.learn(defined, reach)?;
+        self.note_definition(number)?;
         Ok(number)
+    }
+
+    // Notes what is wrong with the definition of that number.
+    fn note_definition(&mut self, number: usize) -> Result<(), AllocError>
+        ensures setting { OnOk result (setting_of self.new ≡ setting_of self.old) }
+        ensures state { OnOk result (state_of self.new ≡ state_of self.old) }
+        ensures notes { OnOk result (map note_seen self.new.notes.items
+            ≡ map note_seen self.old.notes.items
+            ++ faults.noted (faults.fault_at (state_of self.old).scope number)) }
+    {
+        let Some((place, message)) = self.scope.fault(number)? else {
+            return Ok(());
+        };
+        self.note(Level::Error, place, message)
+    }
+
+    // Notes what is wrong with the definition of another crate that a call names.
+    fn note_refusal(&mut self, call: Call<'_, A>) -> Result<(), AllocError>
+        ensures setting { OnOk result (setting_of self.new ≡ setting_of self.old) }
+        ensures state { OnOk result (state_of self.new ≡ state_of self.old) }
+        ensures notes { OnOk result (map note_seen self.new.notes.items
+            ≡ map note_seen self.old.notes.items
+            ++ faults.refusal (state_of self.old).scope (call_shown call.entry)) }
+    {
+        let Some((place, message)) = self.scope.fault_called(call)? else {
+            return Ok(());
+        };
+        let name = call.name.sym.as_str();
+        let there = format!(in self.alloc; "`{name}!` is defined here")?;
+        self.note(Level::Error, call.name.span, message)?;
+        self.note(Level::Note, place, there)
     }
 
     // What the macro that a call names says.
@@ -190,11 +242,16 @@ impl<'g, A: Allocator + Copy> Expander<'g, A> {
         ensures applies { IfOk result (Applies (setting_of self.old) (call_shown call.entry)
             (state_of self.old) (state_of self.new)) }
         ensures setting { OnOk result (setting_of self.new ≡ setting_of self.old) }
+        ensures refused { OnOk result (faults.is_faulty
+            (named (state_of self.old) (call_shown call.entry)) ≡ true
+            → map note_seen self.new.notes.items ≡ map note_seen self.old.notes.items
+            ++ faults.refusal (state_of self.old).scope (call_shown call.entry)) }
     {
         let Some(rules) = self.rules(call) else {
             return Ok(None);
         };
         if rules.err().is_some() {
+            self.note_refusal(call)?;
             return Ok(None);
         }
         let argument = parted_buffer(self.alloc, call.group.delimiter, call.argument)?;
@@ -214,9 +271,7 @@ impl<'g, A: Allocator + Copy> Expander<'g, A> {
             return Ok(None);
         }
         let (tree, _rule) = value;
-        self.note_step(call, &tree)?;
-        self.note_origins(call, &tree)?;
-        self.note_captures(call, &tree)?;
+        self.note_expansion(call, &tree)?;
         self.explain(call, &argument, true)?;
         self.add_contexts(call)?;
         Ok(Some(tree))
@@ -231,6 +286,16 @@ impl<'g, A: Allocator + Copy> Expander<'g, A> {
         let (span, kind) = &*error.inner;
         let message = format!(in self.alloc; "{kind} in the call of `{name}!`")?;
         self.note(Level::Error, *span, message)
+    }
+
+    // Notes what the settings ask to be said of what a call expands to.
+    fn note_expansion(&mut self, call: Call<'_, A>, tree: &TopSubtree<A>) -> Result<(), AllocError>
+        ensures setting { OnOk result (setting_of self.new ≡ setting_of self.old) }
+        ensures state { OnOk result (state_of self.new ≡ state_of self.old) }
+    {
+        self.note_step(call, tree)?;
+        self.note_origins(call, tree)?;
+        self.note_captures(call, tree)
     }
 
     // Notes what a call expands to, if steps are traced, in the words of rustc's `trace_macros`.

@@ -1,9 +1,12 @@
 // Which definition a call names.
-ghost use Rattle.std.specs.Prelude.{◌≡◌, ◌∷◌, [], length, IfOk, OnOk, option_map, false};
+ghost use Rattle.std.specs.Prelude.{◌≡◌, ◌&&◌, ◌∷◌, [], length, IfOk, OnOk, option_map, false};
+ghost use Rattle.std.specs.String.{string_bytes};
 ghost use Rattle.std.specs.List.{list_any, slice_get};
 ghost use Rattle.mbe_tt.specs.Views.View.{trees};
 ghost use Rattle.mbe.specs.MacroViews.{macro_of};
 ghost use Rattle.mbe_calls.specs.Shown.{call_shown, defined_shown, form_shown};
+ghost use Rattle.mbe_errors.specs.ErrorViews.{parse_error_of};
+ghost use Rattle.mbe_expanding.specs.Faults as faults;
 ghost use Rattle.mbe_expanding.specs.Scopes as spec;
 ghost use Rattle.mbe_semantics.specs.Expansion.ReadAs.{IsReadAs, IsReadAsMacro};
 ghost use Rattle.mbe_expanding.specs.Scopes.{IsEdition, IsRead, IsReadIn, is_found, is_placed, reaches};
@@ -11,7 +14,9 @@ ghost use Rattle.mbe_expanding.specs.Scopes.{with_crate, with_shown, with_left};
 ghost use Rattle.mbe_expanding.specs.Shown.{among_shown, definition_of, outside_of, scope_of};
 ghost use Rattle.mbe_expanding.specs.declared.scope.Reach.TheVariants.{Text};
 
-use mbe::DeclarativeMacro;
+mod linking;
+
+use mbe::{DeclarativeMacro, ParseError};
 use mbe_calls::calls::{Call, Defined, Form};
 use mbe_renaming::contexts::contexts_in;
 use mbe_tt::span::{Edition, Span};
@@ -59,14 +64,42 @@ pub struct Definition<A: Allocator = Global> {
     place: Span,
 }
 
+impl<A: Allocator + Copy> Definition<A> {
+    // Where it is, and what is wrong with it, if anything.
+    fn fault(&self, alloc: A) -> Result<Option<(Span, String<A>)>, AllocError>
+        ensures { IfOk result (λ f. option_map (λ x. (x.0, string_bytes x.1)) f
+            ≡ faults.fault_of (definition_of self.now)) }
+    {
+        match self.rules.err() {
+            Some(error) => {
+                let text = fault_text(alloc, self.name.as_str(), error)?;
+                Ok(Some((self.place, text)))
+            }
+            None => Ok(None),
+        }
+    }
+}
+
+// What is wrong with a macro of that name, in words.
+fn fault_text<A: Allocator>(
+    alloc: A,
+    name: &str,
+    error: &ParseError<A>,
+) -> Result<String<A>, AllocError>
+    ensures { IfOk result (λ text. string_bytes text
+        ≡ faults.fault_text name.now (parse_error_of error.now)) }
+{
+    format!(in alloc; "macro `{name}`: {error}")
+}
+
 /// Another crate.
 #[derive(Drop)]
 pub struct Outside<A: Allocator = Global> {
     name: String<A>,
     // The number of its first definition.
     first: usize,
-    // The number after that of its last one.
-    end: usize,
+    // How many there are.
+    count: usize,
 }
 
 impl<A: Allocator> Outside<A> {
@@ -74,7 +107,7 @@ impl<A: Allocator> Outside<A> {
     fn is_within(&self, number: usize) -> bool
         ensures { result ≡ spec.is_within number (outside_of self.now) }
     {
-        self.first <= number && number < self.end
+        self.first <= number && number - self.first < self.count
     }
 
     // Whether it is one of its own, and it has that name.
@@ -218,31 +251,14 @@ impl<A: Allocator + Copy> Scope<A> {
         }
     }
 
-    // What is wrong with a definition of that name.
-    fn fault_of(
-        &self,
-        name: &str,
-        rules: &DeclarativeMacro<A>,
-    ) -> Result<Option<String<A>>, AllocError> {
-        match rules.err() {
-            Some(error) => Ok(Some(format!(in self.alloc; "macro `{name}`: {error}")?)),
-            None => Ok(None),
-        }
-    }
-
-    /// Reads a definition, which no name finds yet. It returns its number, and what is wrong with it.
-    pub fn read(
-        &mut self,
-        defined: Defined<'_, A>,
-        reach: Reach,
-    ) -> Result<(usize, Option<String<A>>), AllocError>
+    /// Reads a definition, which no name finds yet. It returns its number.
+    pub fn read(&mut self, defined: Defined<'_, A>, reach: Reach) -> Result<usize, AllocError>
         ensures read { OnOk result (IsRead self.old.edition (defined_shown defined.entry) reach
             (scope_of self.old) (scope_of self.new)) }
-        ensures number { IfOk result (λ r. r.0 ≡ length (scope_of self.old).definitions) }
+        ensures number { IfOk result (λ n. n ≡ length (scope_of self.old).definitions) }
         ensures edition { OnOk result (self.new.edition ≡ self.old.edition) }
     {
         let rules = rules_of(self.alloc, self.edition, defined)?;
-        let fault = self.fault_of(defined.name.sym.as_str(), &rules)?;
         let number = self.definitions.len();
         let name = String::from_str(self.alloc, defined.name.sym.as_str())?;
         self.definitions.push(Definition {
@@ -252,7 +268,7 @@ impl<A: Allocator + Copy> Scope<A> {
             reach,
             place: defined.name.span,
         })?;
-        Ok((number, fault))
+        Ok(number)
     }
 
     // The definition of that number.
@@ -366,6 +382,15 @@ impl<A: Allocator + Copy> Scope<A> {
         }
     }
 
+    // Whether that definition is one of these, has the name, and is found by what is asked for. Few have the name.
+    fn is_asked(&self, number: usize, name: &str, asked: Reach, among: Among<'_>) -> bool
+        ensures { result
+            ≡ (spec.is_among (scope_of self.now).crates (among_shown among.entry) number
+            && is_found name.now asked (spec.definition_at (scope_of self.now) number)) }
+    {
+        self.is_found(number, name, asked) && self.is_among(number, among)
+    }
+
     // The number of the last definition of that name among those that is found by what is asked for.
     fn last_found(&self, name: &str, asked: Reach, among: Among<'_>) -> Option<usize>
         ensures { result ≡ spec.last_found (among_shown among.entry)
@@ -374,7 +399,7 @@ impl<A: Allocator + Copy> Scope<A> {
         let mut left = self.definitions.len();
         'numbers: while left > 0 {
             left -= 1;
-            if self.is_among(left, among) && self.is_found(left, name, asked) {
+            if self.is_asked(left, name, asked, among) {
                 return Some(left);
             }
         }
@@ -460,6 +485,40 @@ impl<A: Allocator + Copy> Scope<A> {
         Some(&self.definition(number)?.rules)
     }
 
+    /// Where the definition of that number is, and what is wrong with it, if anything.
+    pub fn fault(&self, number: usize) -> Result<Option<(Span, String<A>)>, AllocError>
+        ensures { IfOk result (λ f. option_map (λ x. (x.0, string_bytes x.1)) f
+            ≡ faults.fault_at (scope_of self.now) number) }
+    {
+        match self.definition(number) {
+            Some(found) => found.fault(self.alloc),
+            None => Ok(None),
+        }
+    }
+
+    // The same of that definition, if it is another crate's.
+    fn fault_outside(&self, number: usize) -> Result<Option<(Span, String<A>)>, AllocError>
+        ensures { IfOk result (λ f. option_map (λ x. (x.0, string_bytes x.1)) f
+            ≡ faults.fault_outside (scope_of self.now) number) }
+    {
+        if self.is_outside(number) {
+            self.fault(number)
+        } else {
+            Ok(None)
+        }
+    }
+
+    /// The same of the definition that a call names.
+    pub fn fault_called(&self, call: Call<'_, A>) -> Result<Option<(Span, String<A>)>, AllocError>
+        ensures { IfOk result (λ f. option_map (λ x. (x.0, string_bytes x.1)) f
+            ≡ faults.fault_called (scope_of self.now) (call_shown call.entry)) }
+    {
+        match self.lookup(call) {
+            Some(number) => self.fault_outside(number),
+            None => Ok(None),
+        }
+    }
+
     /// How many definitions were read.
     pub fn count(&self) -> usize
         ensures { result ≡ length (scope_of self.now).definitions }
@@ -476,7 +535,7 @@ impl<A: Allocator + Copy> Scope<A> {
         self.crates.push(Outside {
             name: String::from_str(self.alloc, name)?,
             first,
-            end: self.definitions.len(),
+            count: self.definitions.len().saturating_sub(first),
         })?;
         Ok(())
     }

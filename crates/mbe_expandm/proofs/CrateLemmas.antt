@@ -1,5 +1,5 @@
 -- The trees of crates, and their parts.
-use Rattle.std.proofs.Common.{◌≡◌, ◌<◌, ◌≤◌, ◌+◌, ◌-◌, ℕ, Bool, true, false, List, [], ◌∷◌, ◌++◌, length, map, take, drop, get_or, Option, Some, None, Result, Ok, Err, refl, ap, sym, ◌∙◌, subst, append-nil, arith}
+use Rattle.std.proofs.Common.{◌≡◌, ◌<◌, ◌≤◌, ◌+◌, ◌-◌, ℕ, Bool, true, false, List, [], ◌∷◌, ◌++◌, length, map, take, drop, get_or, Option, Some, None, Result, Ok, Err, refl, ap, sym, ◌∙◌, subst, append-nil, append_assoc, arith}
 use Rattle.std.specs.Prelude.{IfNone, IfOk, IfSome, OnOk, is_ok, is_some, not, option_and_then, option_map, if◌then◌else◌}
 use Rattle.std.specs.List.{All, slice_get}
 use Rattle.std.proofs.lemmas.Option.{IfSome_then, slice_get-map, slice_get_past, slice_get_read}
@@ -8,6 +8,8 @@ use Rattle.std.proofs.lemmas.List.Elements.{filter-append}
 use Rattle.mbe_calls.specs.Splicing.{Part}
 use Rattle.mbe_tt.specs.Trees.Top.{Top}
 use Rattle.mbe_expanding.specs.Calls.{Setting, State}
+use Rattle.mbe_exporting.specs.Exports.{Export, exports_of}
+use Rattle.mbe_expanding.specs.Linking.{linked}
 use Rattle.mbe_expanding.specs.Replacing.{Adds, IsOfCall, NoneCalled, PartsOfFile}
 use Rattle.mbe_expanding.specs.Defining.{Defines, DefinesOutside}
 use Rattle.mbe_expanding.specs.Scopes.{Definition, Scope}
@@ -17,7 +19,7 @@ use Rattle.mbe_modules.specs.Places.{in_file}
 use Rattle.mbe_expandm.specs.declared.places.Position.{Position}
 use Rattle.mbe_expandm.specs.Crates.{crate_at, crate_of, file_of, is_followed}
 use Rattle.mbe_expandm.specs.Expansions as spec
-use Rattle.mbe_expandm.specs.Expansions.{CrateParts, CratesParts, DefinesCrate, DefinesCrates, DefinesOther, DefinesOthers, FileBecomes, FilesBecome, RootBecomes, TextBecomes, TreeBecomes, is_in, parts_in}
+use Rattle.mbe_expandm.specs.Expansions.{CrateParts, CratesParts, DefinesCrate, DefinesCrates, DefinesOther, DefinesOthers, FileBecomes, FilesBecome, KnowsOthers, RootBecomes, TextBecomes, TreeBecomes, exports_at, exports_from, is_in, parts_in}
 use Rattle.mbe_expandm.specs.Naming.{named_tree}
 use Rattle.mbe_expandm.specs.Sources.{Source}
 use Rattle.mbe_expandm.proofs.SessionLemmas.{map_taken}
@@ -130,6 +132,52 @@ pub first_other : {X R S : Type 0} (e d : Edition) (levels : ℕ) (follows : Boo
 first_other e d levels follows files n s t u name r all none same some one more =
     other_added e d levels follows files n s t u name r all none same some one
     (subst (λ ys. OnOk r (DefinesOthers d levels follows files (n + 1) t (map name ys) u)) (take_rest all 1) more)
+
+-- ---- what other crates export of each other
+
+pub none_exported : (c : Option Top) (name : List ℕ) (old : List Export) → None ≡ c → old ≡ old ++ exports_at name c
+none_exported c name old is = subst (λ o. old ≡ old ++ exports_at name o) is (sym (append-nil old))
+
+pub some_exported : {X E : Type 0} (r : Result X E) (c : Option Top) (tree : Top) (name : List ℕ)
+    (old new : List Export) → Some tree ≡ c → new ≡ old ++ exports_of name tree.1
+    → OnOk r (new ≡ old ++ exports_at name c)
+some_exported (Ok x) c tree name old new is e = subst (λ o. new ≡ old ++ exports_at name o) is e
+some_exported (Err x) c tree name old new is e = tt
+
+pub none_from : {X : Type 0} (follows : Bool) (files : List Source) (n : ℕ) (name : X → List ℕ) (all : List X)
+    (old : List Export) → length all < 1 → old ≡ old ++ exports_from follows files n (map name all)
+none_from follows files n name [] old few = sym (append-nil old)
+none_from follows files n name (x ∷ xs) old few = absurd (omega (arith, few))
+
+from_added : {X R S : Type 0} (follows : Bool) (files : List Source) (n : ℕ) (name : X → List ℕ) (r : Result R S)
+    (all : List X) (none : X) (old mid new : List Export) → 1 ≤ length all
+    → mid ≡ old ++ exports_at (name (get_or all 0 none)) (crate_at follows files n)
+    → OnOk r (new ≡ mid ++ exports_from follows files (n + 1) (map name (drop 1 all)))
+    → OnOk r (new ≡ old ++ exports_from follows files n (map name all))
+from_added follows files n name r [] none old mid new some one more = absurd (omega (arith, some))
+from_added follows files n name (Ok v) (x ∷ xs) none old mid new some one more =
+    let rest = exports_from follows files (n + 1) (map name xs) in
+    more ∙ (ap (λ es. es ++ rest) one ∙ append_assoc old (exports_at (name x) (crate_at follows files n)) rest)
+from_added follows files n name (Err v) (x ∷ xs) none old mid new some one more = more
+
+-- of a slice's first element and the others
+pub first_from : {X R S : Type 0} (follows : Bool) (files : List Source) (n : ℕ) (name : X → List ℕ) (r : Result R S)
+    (all : List X) (none : X) (old mid new : List Export) → 1 ≤ length all
+    → mid ≡ old ++ exports_at (name (get_or all 0 none)) (crate_at follows files n)
+    → OnOk r (new ≡ mid ++ exports_from follows files (n + 1) (map name (take (length all - 1) (drop 1 all))))
+    → OnOk r (new ≡ old ++ exports_from follows files n (map name all))
+first_from follows files n name r all none old mid new some one more =
+    from_added follows files n name r all none old mid new some one
+    (subst (λ ys. OnOk r (new ≡ mid ++ exports_from follows files (n + 1) (map name ys))) (take_rest all 1) more)
+
+pub others_known : {R S : Type 0} (e : Edition) (levels : ℕ) (follows : Bool) (files : List Source) (n : ℕ)
+    (s read u : Scope) (names : List (List ℕ)) (r : Result R S) (rounds : ℕ) (es : List Export)
+    → DefinesOthers e levels follows files n s names read → rounds ≡ length names
+    → es ≡ exports_from follows files n names → OnOk r (u ≡ linked rounds es read)
+    → OnOk r (KnowsOthers e levels follows files n s names u)
+others_known e levels follows files n s read u names (Ok x) rounds es defines so_many are h =
+    (read, defines, h ∙ (ap (λ k. linked k es read) so_many ∙ ap (λ xs. linked (length names) xs read) are))
+others_known e levels follows files n s read u names (Err x) rounds es defines so_many are h = tt
 
 -- ---- its parts
 

@@ -12,7 +12,7 @@ use Rattle.mbe_expandm.specs.declared.places.Position.{Position}
 use Rattle.mbe_expandm.specs.declared.reading.Reading.{Reading}
 use Rattle.mbe_expandm.specs.Conditions.{Conditions}
 use Rattle.mbe_expandm.specs.Expansions as spec
-use Rattle.mbe_expandm.specs.Expansions.{DefinesCrates, DefinesOthers, IsThere, RootBecomes, TextsThere, WritesOne}
+use Rattle.mbe_expandm.specs.Expansions.{DefinesCrates, IsThere, KnowsOthers, RootBecomes, TextsThere, WritesOne}
 use Rattle.mbe_expandm.specs.Runs.{IsBegun, IsPrinted}
 use Rattle.mbe_expandm.specs.Sources as sources
 use Rattle.mbe_expandm.specs.Sources.{AreSources, IsSource, Source, Text, source_text}
@@ -146,14 +146,14 @@ printed edition c depth fuel call asked follows followed given n others texts fi
 -- ---- definitions, of values that are the same
 
 pub others_are : (e d : Edition) (follows : Bool) (fs gs : List Source) (n m : ℕ) (s t u : Scope)
-    (xs ys : List (List ℕ)) → e ≡ d → fs ≡ gs → n ≡ m → s ≡ t → xs ≡ ys → DefinesOthers e 1001 follows fs n s xs u
-    → DefinesOthers d 1001 follows gs m t ys u
+    (xs ys : List (List ℕ)) → e ≡ d → fs ≡ gs → n ≡ m → s ≡ t → xs ≡ ys → KnowsOthers e 1001 follows fs n s xs u
+    → KnowsOthers d 1001 follows gs m t ys u
 others_are e d follows fs gs n m s t u xs ys edition files number scope names h =
-    subst (λ x. DefinesOthers x 1001 follows gs m t ys u) edition
-    (subst (λ x. DefinesOthers e 1001 follows x m t ys u) files
-    (subst (λ x. DefinesOthers e 1001 follows fs x t ys u) number
-    (subst (λ x. DefinesOthers e 1001 follows fs n x ys u) scope
-    (subst (λ x. DefinesOthers e 1001 follows fs n s x u) names h))))
+    subst (λ x. KnowsOthers x 1001 follows gs m t ys u) edition
+    (subst (λ x. KnowsOthers e 1001 follows x m t ys u) files
+    (subst (λ x. KnowsOthers e 1001 follows fs x t ys u) number
+    (subst (λ x. KnowsOthers e 1001 follows fs n x ys u) scope
+    (subst (λ x. KnowsOthers e 1001 follows fs n s x u) names h))))
 
 pub crates_are : (e d : Edition) (follows : Bool) (fs gs : List Source) (n m : ℕ) (s t : Scope) → e ≡ d → fs ≡ gs
     → n ≡ m → DefinesCrates e 1001 follows fs s n t → DefinesCrates d 1001 follows gs s m t

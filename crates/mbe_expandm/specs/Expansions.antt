@@ -7,8 +7,10 @@ use Rattle.mbe_calls.specs.Splicing.{Part, spliced}
 use Rattle.mbe_text.specs.Writing.{Writes}
 use Rattle.mbe_expanding.specs.Calls.{Setting, State}
 use Rattle.mbe_expanding.specs.Defining.{Defines, DefinesOutside}
+use Rattle.mbe_expanding.specs.Linking.{linked}
 use Rattle.mbe_expanding.specs.Replacing.{IsOfCall, PartsOfFile}
 use Rattle.mbe_expanding.specs.Scopes.{Scope}
+use Rattle.mbe_exporting.specs.Exports.{Export, exports_of}
 use Rattle.mbe_expandm.specs.declared.places.Position.{Position}
 use Rattle.mbe_expandm.specs.Crates.{crate_at, crate_of}
 use Rattle.mbe_expandm.specs.Naming.{named_tree}
@@ -45,6 +47,23 @@ pub data DefinesOthers (edition : Edition) (levels : ℕ) (follows : Bool) (file
       → DefinesOther edition levels name (crate_at follows files n) s t
       → DefinesOthers edition levels follows files (n + 1) t names u
       → DefinesOthers edition levels follows files n s (name ∷ names) u
+
+-- what a crate exports of others
+abbrev pub exports_at : List ℕ → Option Top → List Export
+exports_at name None = []
+exports_at name (Some tree) = exports_of name tree.1
+
+-- the exports of the crates of these names, whose roots are the files from that number on
+abbrev pub exports_from : Bool → List Source → ℕ → List (List ℕ) → List Export
+exports_from follows files n [] = []
+exports_from follows files n (name ∷ names) =
+    exports_at name (crate_at follows files n) ++ exports_from follows files (n + 1) names
+
+-- their definitions are read, and they have what they export of each other
+abbrev pub KnowsOthers : Edition → ℕ → Bool → List Source → ℕ → Scope → List (List ℕ) → Scope → Type 0
+KnowsOthers edition levels follows files n s names u =
+    (read : Scope) × DefinesOthers edition levels follows files n s names read
+    × (u ≡ linked (length names) (exports_from follows files n names) read)
 
 -- ---- parts
 

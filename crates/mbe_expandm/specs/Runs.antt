@@ -13,7 +13,7 @@ use Rattle.mbe_expanding.specs.Scopes.{Scope}
 use Rattle.mbe_cfg.specs.declared.settings.Settings.{Settings}
 use Rattle.mbe_expandm.specs.declared.places.Position.{Position}
 use Rattle.mbe_expandm.specs.Conditions.{Conditions, IsUnder}
-use Rattle.mbe_expandm.specs.Expansions.{CratesParts, DefinesCrates, DefinesOthers, FilesBecome, RootBecomes}
+use Rattle.mbe_expandm.specs.Expansions.{CratesParts, DefinesCrates, FilesBecome, KnowsOthers, RootBecomes}
 use Rattle.mbe_expandm.specs.Sources.{Source, Text, AreSources, source_text}
 
 -- how many groups and calls may be in one another
@@ -27,8 +27,9 @@ pub record IsRustTable (edition : Edition) (table : RuleTable) : Type 0 where
   pub edition_is : table.edition ≡ edition
 
 -- Where a run begins: the files are read, the definitions of other crates of these names are known, whose roots are the
--- files after the first so many, and those of the crates whose roots are these, in the order of the crates' trees, and
--- no call is expanded yet. The limit of depth is that of the words, or that of the files, or 128.
+-- files after the first so many, with what these export of each other, and those of the crates whose roots are these,
+-- in the order of the crates' trees, and no call is expanded yet. The limit of depth is that of the words, or that of
+-- the files, or 128.
 pub record IsBegun (edition : Edition) (c : Conditions) (depth : Option ℕ) (fuel : ℕ) (follows : Bool) (given : ℕ)
     (others : List (List ℕ)) (texts : List Text) (files : List Source) (e : Setting) (s : State) : Type 0 where
   pub texts_are : map source_text files ≡ texts
@@ -42,7 +43,7 @@ pub record IsBegun (edition : Edition) (c : Conditions) (depth : Option ℕ) (fu
   pub limit : Option ℕ
   pub depth_is : e.depth ≡ unwrap_or (option_or depth limit) 128
   pub known : Scope
-  pub outside : DefinesOthers edition 1001 follows files given
+  pub outside : KnowsOthers edition 1001 follows files given
       (record { definitions = []; visible = []; crates = [] }) others known
   pub defines : DefinesCrates edition 1001 follows files known given s.scope
   pub fuel_is : s.fuel ≡ fuel

@@ -1,14 +1,16 @@
 // The definitions of crates, and the parts of their files that are replaced.
-ghost use Rattle.std.specs.Prelude.{◌≡◌, ◌+◌, ◌<◌, ◌^◌, [], None, IfOk, IfSome, OnOk, length};
+ghost use Rattle.std.specs.Prelude.{◌≡◌, ◌+◌, ◌++◌, ◌<◌, ◌^◌, [], None, IfOk, IfSome, OnOk, length};
 ghost use Rattle.std.specs.Prelude.{map, suc, true};
 ghost use Rattle.std.specs.List.{All};
 ghost use Rattle.mbe_calls.specs.Replacements.{part_of};
 ghost use Rattle.mbe_expanding.specs.Defining.{Defines, DefinesOutside};
+ghost use Rattle.mbe_exporting.specs.Shown.{export_of};
 ghost use Rattle.mbe_expanding.specs.Replacing.{Adds, IsOfCall, NoneCalled, PartsOfFile};
 ghost use Rattle.mbe_expanding.specs.Shown.{setting_of, state_of};
 ghost use Rattle.mbe_expandm.specs.Crates.{crate_at, crate_of, file_of, is_followed};
 ghost use Rattle.mbe_expandm.specs.Expansions.{CrateParts, CratesParts, DefinesCrate, DefinesCrates};
-ghost use Rattle.mbe_expandm.specs.Expansions.{DefinesOther, DefinesOthers};
+ghost use Rattle.mbe_expandm.specs.Expansions.{DefinesOther, DefinesOthers, KnowsOthers};
+ghost use Rattle.mbe_expandm.specs.Expansions.{exports_at, exports_from};
 ghost use Rattle.mbe_expandm.specs.Naming.{named_tree};
 ghost use Rattle.mbe_expandm.specs.ShownFiles.{source_of};
 ghost use Rattle.mbe_following.specs.Following.{crate_tree};
@@ -23,6 +25,8 @@ use mbe_calls::splicing::Replacement;
 use mbe_expanding::expander::{Expander, LEVELS};
 use mbe_expanding::notes::Note;
 use mbe_expanding::scope::buffer_of;
+use mbe_exporting::export::Export;
+use mbe_exporting::exporting::add_exports;
 use mbe_following::following::follow;
 use mbe_following::taking::File;
 use mbe_modules::places::Place;
@@ -226,16 +230,19 @@ fn define_named(
     ensures contexts { OnOk result ((state_of expander.new).contexts
         ≡ (state_of expander.old).contexts) }
     ensures setting { OnOk result (setting_of expander.new ≡ setting_of expander.old) }
+    ensures notes { OnOk result (expander.new.notes.items ≡ expander.old.notes.items) }
 {
     let named = named_tree(alloc, name, tree)?;
     expander.define_outside(name, named.iter().remaining())
 }
 
-// Has the expander know the definitions of the crate of that name, whose root is the file of that number.
+// Has the expander know the definitions of the crate of that name, whose root is the file of that number, and adds what it exports
+// of others.
 fn define_other(
     alloc: Global,
     follows: bool,
     expander: &mut Expander<'_>,
+    exports: &mut Vec<Export>,
     files: &[SourceFile<'_>],
     number: usize,
     name: &str,
@@ -243,22 +250,31 @@ fn define_other(
     ensures defines { OnOk result (DefinesOther (setting_of expander.old).edition (suc LEVELS)
         name.now (crate_at follows (map source_of files.now) number)
         (state_of expander.old).scope (state_of expander.new).scope) }
+    ensures exports { OnOk result (map export_of exports.new.items
+        ≡ map export_of exports.old.items
+        ++ exports_at name.now (crate_at follows (map source_of files.now) number)) }
     ensures fuel { OnOk result ((state_of expander.new).fuel ≡ (state_of expander.old).fuel) }
     ensures contexts { OnOk result ((state_of expander.new).contexts
         ≡ (state_of expander.old).contexts) }
     ensures setting { OnOk result (setting_of expander.new ≡ setting_of expander.old) }
+    ensures notes { OnOk result (expander.new.notes.items ≡ expander.old.notes.items) }
 {
     match outside_tree(alloc, follows, files, number)? {
-        Some(tree) => define_named(alloc, expander, name, &tree),
+        Some(tree) => {
+            add_exports(alloc, exports, name, tree.iter().remaining())?;
+            define_named(alloc, expander, name, &tree)
+        }
         None => Ok(()),
     }
 }
 
-/// Has the expander know the definitions of other crates, whose roots are the files after the first so many, one crate after another.
-pub fn define_others(
+// Has the expander know the definitions of other crates, whose roots are the files after the first so many, one crate after another,
+// and adds what these export of others.
+fn define_others(
     alloc: Global,
     follows: bool,
     expander: &mut Expander<'_>,
+    exports: &mut Vec<Export>,
     files: &[SourceFile<'_>],
     given: usize,
     externs: &[Extern<'_>],
@@ -267,18 +283,55 @@ pub fn define_others(
     ensures defines { OnOk result (DefinesOthers (setting_of expander.old).edition (suc LEVELS)
         follows (map source_of files.now) given (state_of expander.old).scope
         (map (λ x. x.name.now) externs.now) (state_of expander.new).scope) }
+    ensures exports { OnOk result (map export_of exports.new.items
+        ≡ map export_of exports.old.items ++ exports_from follows (map source_of files.now)
+        given (map (λ x. x.name.now) externs.now)) }
     ensures fuel { OnOk result ((state_of expander.new).fuel ≡ (state_of expander.old).fuel) }
     ensures contexts { OnOk result ((state_of expander.new).contexts
         ≡ (state_of expander.old).contexts) }
     ensures setting { OnOk result (setting_of expander.new ≡ setting_of expander.old) }
+    ensures notes { OnOk result (expander.new.notes.items ≡ expander.old.notes.items) }
 {
     match externs {
         [] => Ok(()),
         [one, rest @ ..] => {
-            define_other(alloc, follows, expander, files, given, one.name)?;
-            define_others(alloc, follows, expander, files, given + 1, rest)
+            define_other(alloc, follows, expander, exports, files, given, one.name)?;
+            define_others(alloc, follows, expander, exports, files, given + 1, rest)
         }
     }
+}
+
+/// Has the expander know the definitions of other crates, whose roots are the files after the first so many, and what these crates
+/// export of each other. What is wrong with a definition isn't noted.
+pub fn know_others(
+    alloc: Global,
+    follows: bool,
+    expander: &mut Expander<'_>,
+    files: &[SourceFile<'_>],
+    given: usize,
+    externs: &[Extern<'_>],
+) -> Result<(), AllocError>
+    requires numbers { given + length externs.now < 2 ^ 64 }
+    ensures knows { OnOk result (KnowsOthers (setting_of expander.old).edition (suc LEVELS)
+        follows (map source_of files.now) given (state_of expander.old).scope
+        (map (λ x. x.name.now) externs.now) (state_of expander.new).scope) }
+    ensures fuel { OnOk result ((state_of expander.new).fuel ≡ (state_of expander.old).fuel) }
+    ensures contexts { OnOk result ((state_of expander.new).contexts
+        ≡ (state_of expander.old).contexts) }
+    ensures setting { OnOk result (setting_of expander.new ≡ setting_of expander.old) }
+    ensures notes { OnOk result (expander.new.notes.items ≡ expander.old.notes.items) }
+{
+    let mut exports = Vec::new(alloc);
+    define_others(
+        alloc,
+        follows,
+        expander,
+        &mut exports,
+        files,
+        given,
+        externs,
+    )?;
+    expander.link(exports.as_slice(), externs.len())
 }
 
 // The texts that spans of the files are in.

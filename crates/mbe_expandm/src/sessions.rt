@@ -11,7 +11,7 @@ ghost use Rattle.mbe_expandm.specs.Sources.{AreSources, source_text};
 ghost use Rattle.mbe_expandm.specs.Statuses.{is_error, status_of};
 
 use crate::arguments::Options;
-use crate::crates::{crates_parts, define_crates, define_others};
+use crate::crates::{crates_parts, define_crates, know_others};
 use crate::expansions::{Wanted, file_texts, write_last};
 use crate::files::{SourceFile, source_file};
 use crate::limits::recursion_limit;
@@ -118,7 +118,7 @@ impl<'f> Session<'f> {
         let settings = options.settings(limit_of(&files, given), explain);
         let mut expander = Expander::new(alloc, grammar, settings);
         let externs = options.externs.as_slice();
-        define_others(
+        know_others(
             alloc,
             options.follows,
             &mut expander,

@@ -59,7 +59,7 @@ static MADE: [(Made, &str, usize); 13] = [
     (Made::Decided, conditions::ROWS, 16),
     (Made::Crate, modules::ROWS, 19),
     (Made::Target, modules::TARGETS, 12),
-    (Made::Outside, outside::ROWS, 25),
+    (Made::Outside, outside::ROWS, 55),
     (Made::Place, places::ROWS, 14),
 ];
 

@@ -1,5 +1,5 @@
 // The definitions of files.
-ghost use Rattle.std.specs.Prelude.{◌≡◌, ◌&&◌, suc, true, OnOk};
+ghost use Rattle.std.specs.Prelude.{◌≡◌, ◌&&◌, ◌++◌, suc, true, OnOk, length, map, drop};
 ghost use Rattle.mbe_tt.specs.Views.Element.{element_tree};
 ghost use Rattle.mbe_tt.specs.Views.View.{trees};
 ghost use Rattle.mbe_calls.specs.Shown.{defined_shown};
@@ -7,12 +7,17 @@ ghost use Rattle.mbe_expanding.specs.Defining.{Defines, DefinesOutside, DefinesT
 ghost use Rattle.mbe_expanding.specs.Defining.{after_definition, after_group, after_tree};
 ghost use Rattle.mbe_expanding.specs.Defining.{is_offered, marked, reach_of, unmarked};
 ghost use Rattle.mbe_expanding.specs.Defining.{with_attribute};
+ghost use Rattle.mbe_exporting.specs.Shown.{export_of};
+ghost use Rattle.mbe_expanding.specs.Explained.{note_seen};
+ghost use Rattle.mbe_expanding.specs.Faults.{all_noted};
+ghost use Rattle.mbe_expanding.specs.Linking.{linked};
 ghost use Rattle.mbe_expanding.specs.Shown.{scope_of, setting_of, state_of};
 
 use crate::expander::{Expander, LEVELS};
 use crate::scope::Reach;
 use crate::using::is_used_in;
 use mbe_calls::calls::{Defined, Front, attribute_at, front_of};
+use mbe_exporting::export::Export;
 use mbe_tt::tt::{DelimiterKind, TokenTreesView, TtElement};
 use std::alloc::{AllocError, Allocator};
 
@@ -130,8 +135,8 @@ impl Marks {
 }
 
 impl<A: Allocator + Copy> Expander<'_, A> {
-    /// Reads the definitions of trees. From then on, wherever the call is, names that find no other find those in no group, and
-    /// paths those that are exported, `macro` items, or named by a `use`.
+    /// Reads the definitions of trees, and notes what is wrong with each. From then on, wherever the call is, names that find no
+    /// other find those in no group, and paths those that are exported, `macro` items, or named by a `use`.
     pub fn define(&mut self, tokens: TokenTreesView<'_, A>) -> Result<(), AllocError>
         ensures defines { OnOk result (Defines (setting_of self.old).edition (suc LEVELS) true
             (trees tokens.entry) (state_of self.old).scope (state_of self.new).scope) }
@@ -139,12 +144,32 @@ impl<A: Allocator + Copy> Expander<'_, A> {
         ensures contexts { OnOk result ((state_of self.new).contexts
             ≡ (state_of self.old).contexts) }
         ensures setting { OnOk result (setting_of self.new ≡ setting_of self.old) }
+        ensures notes { OnOk result (map note_seen self.new.notes.items
+            ≡ map note_seen self.old.notes.items
+            ++ all_noted (drop (length (state_of self.old).scope.definitions)
+            (state_of self.new).scope.definitions)) }
     {
-        self.define_in(tokens, true, LEVELS)
+        let (first, is_top) = (self.scope.count(), true);
+        self.define_in(tokens, is_top, LEVELS)?;
+        self.note_definitions(first)
     }
 
-    /// Reads the definitions of another crate's trees, as those of that crate. From then on, those that it offers are found by paths
-    /// that begin with its name, and by names that find no other, if no other crate offers one.
+    // Notes what is wrong with the definitions from that number on.
+    fn note_definitions(&mut self, first: usize) -> Result<(), AllocError>
+        ensures setting { OnOk result (setting_of self.new ≡ setting_of self.old) }
+        ensures state { OnOk result (state_of self.new ≡ state_of self.old) }
+        ensures notes { OnOk result (map note_seen self.new.notes.items
+            ≡ map note_seen self.old.notes.items
+            ++ all_noted (drop first (state_of self.old).scope.definitions)) }
+    {
+        for number in first..self.scope.count() {
+            self.note_definition(number)?;
+        }
+        Ok(())
+    }
+
+    /// Reads the definitions of another crate's trees, as those of that crate, and notes nothing. From then on, those that it
+    /// offers are found by paths that begin with its name, and by names that find no other, if no other crate offers one.
     pub fn define_outside(
         &mut self,
         name: &str,
@@ -156,10 +181,25 @@ impl<A: Allocator + Copy> Expander<'_, A> {
         ensures contexts { OnOk result ((state_of self.new).contexts
             ≡ (state_of self.old).contexts) }
         ensures setting { OnOk result (setting_of self.new ≡ setting_of self.old) }
+        ensures notes { OnOk result (self.new.notes.items ≡ self.old.notes.items) }
     {
         let first = self.scope.count();
-        self.define(tokens)?;
+        self.define_in(tokens, true, LEVELS)?;
         self.scope.close_crate(name, first)
+    }
+
+    /// From here on, other crates have what they export of others: in so many rounds, since what is exported may be exported in
+    /// turn.
+    pub fn link(&mut self, exports: &[Export<A>], rounds: usize) -> Result<(), AllocError>
+        ensures linked { OnOk result ((state_of self.new).scope
+            ≡ linked rounds (map export_of exports.now) (state_of self.old).scope) }
+        ensures fuel { OnOk result ((state_of self.new).fuel ≡ (state_of self.old).fuel) }
+        ensures contexts { OnOk result ((state_of self.new).contexts
+            ≡ (state_of self.old).contexts) }
+        ensures setting { OnOk result (setting_of self.new ≡ setting_of self.old) }
+        ensures notes { OnOk result (self.new.notes.items ≡ self.old.notes.items) }
+    {
+        self.scope.link(exports, rounds)
     }
 
     // Reads the definitions among trees, where `is_top` says whether they are in no group.
@@ -175,6 +215,7 @@ impl<A: Allocator + Copy> Expander<'_, A> {
         ensures fuel { OnOk result (self.new.fuel ≡ self.old.fuel) }
         ensures contexts { OnOk result (self.new.contexts.items ≡ self.old.contexts.items) }
         ensures setting { OnOk result (setting_of self.new ≡ setting_of self.old) }
+        ensures notes { OnOk result (self.new.notes.items ≡ self.old.notes.items) }
     {
         let mut rest = tokens;
         let mut marks = Marks::none();
@@ -182,7 +223,7 @@ impl<A: Allocator + Copy> Expander<'_, A> {
             match front_of(rest) {
                 Front::End => return Ok(()),
                 Front::Definition(defined) => {
-                    let _number = self.read(defined, marks.reach(is_top, defined))?;
+                    let _number = self.learn(defined, marks.reach(is_top, defined))?;
                     marks = marks.after_definition();
                     rest = defined.rest;
                 }
@@ -212,6 +253,7 @@ impl<A: Allocator + Copy> Expander<'_, A> {
         ensures fuel { OnOk result (self.new.fuel ≡ self.old.fuel) }
         ensures contexts { OnOk result (self.new.contexts.items ≡ self.old.contexts.items) }
         ensures setting { OnOk result (setting_of self.new ≡ setting_of self.old) }
+        ensures notes { OnOk result (self.new.notes.items ≡ self.old.notes.items) }
     {
         let TtElement::Subtree(_group, inside) = tree else {
             return Ok(());
@@ -232,6 +274,7 @@ impl<A: Allocator + Copy> Expander<'_, A> {
         ensures fuel { OnOk result (self.new.fuel ≡ self.old.fuel) }
         ensures contexts { OnOk result (self.new.contexts.items ≡ self.old.contexts.items) }
         ensures setting { OnOk result (setting_of self.new ≡ setting_of self.old) }
+        ensures notes { OnOk result (self.new.notes.items ≡ self.old.notes.items) }
     {
         if levels == 0 {
             return Ok(());

@@ -17,6 +17,7 @@ define_in-trees-init g t c = (
   refl,
   refl,
   refl,
+  refl,
 )
 
 pub define_in-returns-in-End-clause-defines : goal.define_in-returns-in-End-clause-defines
@@ -50,6 +51,7 @@ define_in-trees-preserved-in-Call g t c = (
   c.trees.invariant.1,
   c.trees.invariant.2,
   c.trees.invariant.3,
+  c.trees.invariant.4,
 )
 
 pub define_in-trees-preserved-in-Definition : goal.define_in-trees-preserved-in-Definition
@@ -58,7 +60,7 @@ define_in-trees-preserved-in-Definition g t c = (
       c.reach.result
       (trees c.args.tokens) (trees c.trees.rest) (defined_shown c.in-Definition.defined)
       (scope_of c.args.self.now.scope)
-      (scope_of c.trees.self.scope) (scope_of c.read.new.self.scope) c.trees.marks c.after_definition-marks.result
+      (scope_of c.trees.self.scope) (scope_of c.learn.new.self.scope) c.trees.marks c.after_definition-marks.result
       (ap (λ (x : Setting). x.edition) c.trees.invariant.3) c.trees.invariant.0
       (front_is front_shown c.front_of.result (v.Definition c.in-Definition.defined) (trees c.trees.rest)
       c.front_of.ensures c.in-Definition.is)
@@ -66,6 +68,7 @@ define_in-trees-preserved-in-Definition g t c = (
   c.in_ok-_number-in-Definition.ensures.fuel ∙ c.trees.invariant.1,
   c.in_ok-_number-in-Definition.ensures.contexts ∙ c.trees.invariant.2,
   c.in_ok-_number-in-Definition.ensures.setting ∙ c.trees.invariant.3,
+  c.in_ok-_number-in-Definition.ensures.notes ∙ c.trees.invariant.4,
 )
 
 pub define_in-trees-preserved : goal.define_in-trees-preserved
@@ -84,6 +87,7 @@ define_in-trees-preserved g t c = (
   c.in_ok-define_tree-in-Tree.ensures.fuel ∙ c.trees.invariant.1,
   c.in_ok-define_tree-in-Tree.ensures.contexts ∙ c.trees.invariant.2,
   c.in_ok-define_tree-in-Tree.ensures.setting ∙ c.trees.invariant.3,
+  c.in_ok-define_tree-in-Tree.ensures.notes ∙ c.trees.invariant.4,
 )
 
 pub define_inside-returns-then-levels-eq0-clause-defines : goal.define_inside-returns-then-levels-eq0-clause-defines

@@ -24,3 +24,4 @@ invariant-define_in-trees g l =
     × (l.self.fuel ≡ l.initial.self.fuel)
     × (l.self.contexts.items ≡ l.initial.self.contexts.items)
     × (setting_of l.self ≡ setting_of l.initial.self)
+    × (l.self.notes.items ≡ l.initial.self.notes.items)

@@ -5,6 +5,7 @@ use Rattle.mbe_errors.specs.ErrorViews.{error_of, errors_of}
 use Rattle.mbe_expanding.specs.Shown.{setting_of, state_of}
 use Rattle.mbe.specs.MacroViews.{macro_of}
 use Rattle.mbe_expanding.specs.Calls.{by_definition, by_rules, stepped}
+use Rattle.mbe_expanding.proofs.FaultLemmas.{sound}
 use Rattle.mbe_expanding.proofs.MarkLemmas.{makes}
 use Rattle.mbe_expanding.proofs.CallLemmas.{found_as, there, not_there}
 use Rattle.mbe_expanding.proofs.expander.Expander.applied.Goals as goal
@@ -40,3 +41,15 @@ returns-clause-applies g c = (
       (λ s t asked. search rules) (search rules) (search rules),
   c.in_ok-add_contexts.ensures.state ∙ ap (stepped (call_shown c.args.call)) (search rules),
 )
+
+pub returns-in-Some-err-clause-refused : goal.returns-in-Some-err-clause-refused
+returns-in-Some-err-clause-refused g c =
+    sound _ (macro_of c.in-Some.rules.now)
+    (found_as _ c.rules.result c.in-Some.rules _ c.rules.ensures (search rules))
+    (not_there _ c.err.result _ c.err.ensures (search rules))
+
+pub returns-clause-refused : goal.returns-clause-refused
+returns-clause-refused g c =
+    sound _ (macro_of c.in-Some.rules.now)
+    (found_as _ c.rules.result c.in-Some.rules _ c.rules.ensures (search rules))
+    (not_there _ c.err.result _ c.err.ensures (search rules))

@@ -6,11 +6,11 @@ use Rattle.mbe_expanding.proofs.expander.Expander.define_outside.Goals as goal
 
 pub returns-clause-defines : goal.returns-clause-defines
 returns-clause-defines g c =
-    let read = scope_of c.define.new.self.scope in
+    let read = scope_of c.define_in.new.self.scope in
     on_ok_weaker c.close_crate.result
     (λ closed. (
       read,
-      c.in_ok-define.ensures.defines,
+      c.in_ok-define_in.ensures.defines,
       closed ∙ ap (λ first. with_crate c.args.name.now first read) c.count-first.ensures,
     ))
     c.close_crate.ensures.closed

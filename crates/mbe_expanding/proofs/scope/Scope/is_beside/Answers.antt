@@ -7,5 +7,6 @@ use Rattle.mbe_expanding.proofs.scope.Scope.is_beside.Goals as goal
 
 pub returns : goal.returns
 returns g c =
-    c.are_in_one.ensures ∙ (ap (list_any (λ x. (is_around c.args.other c.args.number) (outside_of x))) c.as_slice.ensures.value
+    c.are_in_one.ensures
+    ∙ (ap (list_any (λ x. is_around c.args.other c.args.number (outside_of x))) c.as_slice.ensures.value
     ∙ any_shown outside_of (is_around c.args.other c.args.number) c.args.self.now.crates.items)

@@ -7,5 +7,6 @@ use Rattle.mbe_expanding.proofs.scope.Scope.is_from.Goals as goal
 
 pub returns : goal.returns
 returns g c =
-    c.is_in_named.ensures ∙ (ap (list_any (λ x. (is_named c.args.name.now c.args.number) (outside_of x))) c.as_slice.ensures.value
+    c.is_in_named.ensures
+    ∙ (ap (list_any (λ x. is_named c.args.name.now c.args.number (outside_of x))) c.as_slice.ensures.value
     ∙ any_shown outside_of (is_named c.args.name.now c.args.number) c.args.self.now.crates.items)

@@ -7,8 +7,8 @@ use Rattle.mbe_expandm.specs.Sources.{source_text}
 use Rattle.mbe_expandm.proofs.SessionLemmas.{crates_are, others_are}
 use Rattle.mbe_expandm.proofs.sessions.Session.begin.Goals as goal
 
-pub define_others-requires : goal.define_others-requires
-define_others-requires c =
+pub know_others-requires : goal.know_others-requires
+know_others-requires c =
     let options = c.args.options.now in
     omega (
       arith,
@@ -22,7 +22,7 @@ pub returns : goal.returns
 returns c =
     let files = c.in_ok-files.files.items in
     let at_start = c.new-expander.ensures.setting in
-    let before = c.in_ok-define_others.ensures.setting ∙ at_start in
+    let before = c.in_ok-know_others.ensures.setting ∙ at_start in
     let setting = c.in_ok-define_crates.ensures.setting ∙ before in
     let options = c.args.options.now in
     let n : c.len-given.result ≡ length options.names.items =
@@ -42,21 +42,21 @@ returns c =
       edition_is = ap (λ e. e.edition) setting ∙ c.settings-settings.ensures.edition;
       limit = c.limit_of.result;
       depth_is = ap (λ e. e.depth) setting ∙ c.settings-settings.ensures.depth;
-      known = (state_of c.define_others.new.expander).scope;
+      known = (state_of c.know_others.new.expander).scope;
       outside = others_are (setting_of c.new-expander.result).edition options.edition options.follows
           (map source_of c.deref-2.result.now) (map source_of files) c.len-given.result (length options.names.items)
           (state_of c.new-expander.result).scope (record { definitions = []; visible = []; crates = [] })
-          (state_of c.define_others.new.expander).scope (map (λ x. x.name.now) c.as_slice-externs.result.now)
+          (state_of c.know_others.new.expander).scope (map (λ x. x.name.now) c.as_slice-externs.result.now)
           (names_of options) (ap (λ e. e.edition) at_start ∙ c.settings-settings.ensures.edition)
           (ap (map source_of) c.deref-2.ensures.value) n (ap (λ s. s.scope) c.new-expander.ensures.state)
-          (ap (map (λ x. x.name.now)) c.as_slice-externs.ensures.value) c.in_ok-define_others.ensures.defines;
-      defines = crates_are (setting_of c.define_others.new.expander).edition options.edition options.follows
+          (ap (map (λ x. x.name.now)) c.as_slice-externs.ensures.value) c.in_ok-know_others.ensures.knows;
+      defines = crates_are (setting_of c.know_others.new.expander).edition options.edition options.follows
           (map source_of c.deref-3.result.now) (map source_of files) c.len-given.result (length options.names.items)
-          (state_of c.define_others.new.expander).scope (state_of c.define_crates.new.expander).scope
+          (state_of c.know_others.new.expander).scope (state_of c.define_crates.new.expander).scope
           (ap (λ e. e.edition) before ∙ c.settings-settings.ensures.edition)
           (ap (map source_of) c.deref-3.ensures.value) n c.in_ok-define_crates.ensures.defines;
-      fuel_is = c.in_ok-define_crates.ensures.fuel ∙ c.in_ok-define_others.ensures.fuel
+      fuel_is = c.in_ok-define_crates.ensures.fuel ∙ c.in_ok-know_others.ensures.fuel
           ∙ ap (λ s. s.fuel) c.new-expander.ensures.state ∙ c.settings-settings.ensures.fuel;
-      contexts_are = c.in_ok-define_crates.ensures.contexts ∙ c.in_ok-define_others.ensures.contexts
+      contexts_are = c.in_ok-define_crates.ensures.contexts ∙ c.in_ok-know_others.ensures.contexts
           ∙ ap (λ s. s.contexts) c.new-expander.ensures.state;
     }
