@@ -1,4 +1,4 @@
-use Rattle.std.proofs.Common.{◌≡◌, ℕ, ◌+◌, ◌-◌, ◌<◌, ◌≤◌, ◌∙◌, ap, sym, arith}
+use Rattle.std.proofs.Common.{◌≡◌, ℕ, ◌+◌, ◌-◌, ◌<◌, ◌≤◌, ◌∙◌, ap, sym, arith, refl, rules, subst}
 use Rattle.std.specs.Prelude.{◌||◌, false}
 use Rattle.mbe_tt.specs.Trees.Tree.{flat_len, passed}
 use Rattle.mbe_semantics.specs.Syntax.Nullable.{is_refused, is_refused_op}
@@ -16,6 +16,17 @@ opened g t c =
     opens _ _ c.args.src.now c.eat_front.new.src c.in_ok-front.front c.in_ok-front.ensures.front
     c.requires.read.0 (op_of c.args.op.now) c.in-Some.inner c.in-Some-inside.inside c.requires.read.1
     c.in-Some.ensures c.in_ok-front.ensures.fits (sym c.inside.ensures ∙ c.in-Some-inside.is)
+
+pub first_empty-ops-init : goal.first_empty-ops-init
+first_empty-ops-init g t c = record {
+  read = c.requires.read;
+  at = λ n h.
+      let here : n ≡ passed c.args.src c.args.src + n = omega arith in
+      subst (EmptyAt (λ ctx e. g.E.Fn.post c.args.edition (ctx, tt) e) c.args.src) here h;
+  none = refl;
+  shorter = omega arith;
+  whole = search rules;
+}
 
 pub empty_at_front-returns-in_default-clause-past : goal.empty_at_front-returns-in_default-clause-past
 empty_at_front-returns-in_default-clause-past g t c =
