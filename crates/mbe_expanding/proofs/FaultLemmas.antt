@@ -1,6 +1,6 @@
 -- What is said of definitions, one after another, and where a macro has no fault.
 use Rattle.std.proofs.Common.{◌≡◌, ◌≤◌, ◌+◌, ℕ, zero, suc, true, false, List, [], ◌∷◌, ◌++◌, length, drop, Option, Some, None, refl, ap, sym, ◌∙◌, arith, append_assoc}
-use Rattle.std.specs.Prelude.{is_some, option_and_then}
+use Rattle.std.specs.Prelude.{Result, Ok, Err, OnOk, is_some, option_and_then}
 use Rattle.std.specs.List.{slice_get}
 use Rattle.std.proofs.lemmas.List.{drop_all}
 use Rattle.mbe_semantics.specs.Expansion.Macro.{Macro}
@@ -35,6 +35,12 @@ pub all_said : (ds : List Definition) (n : ℕ) (now whole : List Note) → leng
     → now ++ all_noted (drop n ds) ≡ whole → now ≡ whole
 all_said ds n now whole past h =
     sym (ap (λ xs. now ++ all_noted xs) (drop_all n ds past) ∙ nil_right now) ∙ h
+
+pub two_noted : {R S : Type 0} (r : Result R S) (old mid new : List Note) (a b : Note) → mid ≡ old ++ a ∷ []
+    → OnOk r (new ≡ mid ++ b ∷ []) → OnOk r (new ≡ old ++ a ∷ b ∷ [])
+two_noted (Ok x) old mid new a b first second =
+    second ∙ (ap (λ xs. xs ++ b ∷ []) first ∙ append_assoc old (a ∷ []) (b ∷ []))
+two_noted (Err x) old mid new a b first second = tt
 
 -- a macro without a fault isn't refused
 pub sound : {P : Type 0} (o : Option Macro) (m : Macro) → o ≡ Some m → m.err ≡ None → is_faulty o ≡ true → P

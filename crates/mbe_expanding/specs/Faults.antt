@@ -51,11 +51,14 @@ fault_outside s n = if is_outside s.crates n then fault_at s n else None
 abbrev pub fault_called : Scope → Call → Option (Span × List ℕ)
 fault_called s c = option_and_then (fault_outside s) (lookup s c)
 
+-- where the macro of that name is defined
+abbrev pub defined_at : Span → List ℕ → Note
+defined_at place name = note_at place (codes "`" ++ (name ++ codes "!` is defined here"))
+
 -- it is said at the call, with the place of the definition
 abbrev pub refused_at : Call → Option (Span × List ℕ) → List Note
 refused_at c None = []
-refused_at c (Some f) =
-    error_at c.name.span f.1 ∷ note_at f.0 (codes "`" ++ (c.name.sym ++ codes "!` is defined here")) ∷ []
+refused_at c (Some f) = error_at c.name.span f.1 ∷ defined_at f.0 c.name.sym ∷ []
 
 abbrev pub refusal : Scope → Call → List Note
 refusal s c = refused_at c (fault_called s c)

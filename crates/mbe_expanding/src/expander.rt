@@ -149,9 +149,37 @@ impl<'g, A: Allocator + Copy> Expander<'g, A> {
         let Some((place, message)) = self.scope.fault_called(call)? else {
             return Ok(());
         };
+        self.note_refused(call, place, message)
+    }
+
+    // Notes at a call what is wrong with its macro, which is defined there.
+    fn note_refused(
+        &mut self,
+        call: Call<'_, A>,
+        place: Span,
+        message: String<A>,
+    ) -> Result<(), AllocError>
+        ensures setting { OnOk result (setting_of self.new ≡ setting_of self.old) }
+        ensures state { OnOk result (state_of self.new ≡ state_of self.old) }
+        ensures notes { OnOk result (map note_seen self.new.notes.items
+            ≡ map note_seen self.old.notes.items
+            ++ faults.error_at (call_shown call.entry).name.span (string_bytes message)
+            ∷ faults.defined_at place (call_shown call.entry).name.sym ∷ []) }
+    {
+        self.note(Level::Error, call.name.span, message)?;
+        self.note_place(call, place)
+    }
+
+    // Notes where the macro of a call is defined.
+    fn note_place(&mut self, call: Call<'_, A>, place: Span) -> Result<(), AllocError>
+        ensures setting { OnOk result (setting_of self.new ≡ setting_of self.old) }
+        ensures state { OnOk result (state_of self.new ≡ state_of self.old) }
+        ensures notes { OnOk result (map note_seen self.new.notes.items
+            ≡ map note_seen self.old.notes.items
+            ++ faults.defined_at place (call_shown call.entry).name.sym ∷ []) }
+    {
         let name = call.name.sym.as_str();
         let there = format!(in self.alloc; "`{name}!` is defined here")?;
-        self.note(Level::Error, call.name.span, message)?;
         self.note(Level::Note, place, there)
     }
 

@@ -1,4 +1,4 @@
-use Rattle.std.proofs.Common.{rules, refl, ap, ◌∙◌}
+use Rattle.std.proofs.Common.{rules, ap, ◌∙◌}
 use Rattle.std.specs.Prelude.{Some, None}
 use Rattle.mbe_calls.specs.Shown.{call_shown}
 use Rattle.mbe_errors.specs.ErrorViews.{error_of, errors_of}
@@ -15,7 +15,7 @@ returns-then-is_some-clause-applies g c = (
   by_definition (macro_of c.in-Some.rules.now)
       (found_as _ c.rules.result c.in-Some.rules _ c.rules.ensures (search rules))
       (there _ c.err.result _ c.err.ensures (search rules)),
-  refl,
+  search rules,
 )
 
 pub returns-in-Some-err-clause-applies : goal.returns-in-Some-err-clause-applies
