@@ -5,8 +5,8 @@ use Rattle.mbe_exporting.specs.Shown.{export_of}
 use Rattle.mbe_expandm.proofs.CrateLemmas.{no_others, none_exported, some_exported, some_others}
 use Rattle.mbe_expandm.proofs.crates.define_other.Goals as goal
 
-pub returns-in-Some-clause-defines : goal.returns-in-Some-clause-defines
-returns-in-Some-clause-defines c =
+pub returns-in_ok-add_exports-in-Some-clause-defines : goal.returns-in_ok-add_exports-in-Some-clause-defines
+returns-in_ok-add_exports-in-Some-clause-defines c =
     some_others c.define_named.result _ c.in-Some.tree (setting_of c.args.expander.now).edition 1001 c.args.name.now
     (state_of c.args.expander.now).scope (state_of c.define_named.new.expander).scope
     (sym c.in-Some.is ∙ c.in_ok-tree.ensures) c.define_named.ensures.defines
@@ -16,8 +16,8 @@ returns-in-None-clause-defines c =
     no_others _ (setting_of c.args.expander.now).edition 1001 c.args.name.now (state_of c.args.expander.now).scope
     (sym c.in-None.is ∙ c.in_ok-tree.ensures)
 
-pub returns-in-Some-clause-exports : goal.returns-in-Some-clause-exports
-returns-in-Some-clause-exports c =
+pub returns-in_ok-add_exports-in-Some-clause-exports : goal.returns-in_ok-add_exports-in-Some-clause-exports
+returns-in_ok-add_exports-in-Some-clause-exports c =
     let old = map export_of c.args.exports.now.items in
     some_exported c.define_named.result _ c.in-Some.tree c.args.name.now old
     (map export_of c.add_exports.new.exports.items) (sym c.in-Some.is ∙ c.in_ok-tree.ensures)
