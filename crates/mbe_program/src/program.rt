@@ -1,5 +1,5 @@
 // A run, from both texts to what is written.
-ghost use Rattle.std.specs.Prelude.{◌≡◌, ◌<◌, ◌^◌, ◌⊎◌, length, map, Ok, IfErr, IfOk};
+ghost use Rattle.std.specs.Prelude.{◌≡◌, ◌<◌, ◌^◌, ◌⊎◌, length, map, true, false, Ok, IfErr, IfOk};
 ghost use Rattle.mbe_tt.specs.Trees.Top.{top_group};
 ghost use Rattle.mbe_errors.specs.ErrorViews.{errors_of};
 ghost use Rattle.mbe.specs.Matched.{verdict_seen};
