@@ -6,10 +6,10 @@ ghost use Rattle.mbe_errors.specs.ErrorViews.{error_of, parse_error_of};
 ghost use Rattle.mbe_replies.specs.Answers.{answer_of};
 ghost use Rattle.mbe_replies.specs.Answers as spec;
 
-use mbe_program::expanding::Unread;
 use mbe::{ExpandError, ParseError};
 use mbe_flat::reading::{FlatError, Wrong};
 use mbe_flat::token::FlatToken;
+use mbe_program::expanding::Unread;
 use mbe_rules_text::fault::RuleFault;
 use mbe_text::scanner::{LexFault, file_span};
 use mbe_tt::span::Span;

@@ -12,13 +12,13 @@ ghost use Rattle.mbe_replies.specs.Calls as spec;
 
 use crate::answer::{Answer, Part, Status, error_span, error_text};
 use crate::asked::{Form, GrammarKind, dialect_of, edition_of, form_of, grammar_of, style_of};
-use mbe_program::expanding::{Expansion, defined, verdicts_by};
 use crate::read_macro::ReadMacro;
 use mbe::{MacroCallStyle, Verdict};
 use mbe_flat::reading::trees_of;
 use mbe_flat::token::{FlatSpan, FlatToken, span_of};
 use mbe_flat::writing::flat_trees;
 use mbe_grammar::SampleGrammar;
+use mbe_program::expanding::{Expansion, defined, verdicts_by};
 use mbe_rules_text::rules::Rules;
 use mbe_rust::fragments::rust_rules;
 use mbe_rust_text::writing::Writer;
