@@ -175,8 +175,8 @@ fn make_copy<A: Allocator + Copy>(alloc: A) -> Result<Ended, AllocError> {
 }
 
 fn make_symbol<A: Allocator + Copy>(alloc: A) -> Ended {
-    match Symbol::intern(alloc, "text") {
-        Ok(symbol) => Ended::answered(symbol.as_str() == "text"),
+    match Symbol::intern(alloc, "a text of many letters") {
+        Ok(symbol) => Ended::answered(symbol.as_str() == "a text of many letters"),
         Err(AllocError) => Ended::OutOfMemory,
     }
 }

@@ -48,7 +48,18 @@ impl<A: Allocator + Copy> SymbolTable<A> {
 
     /// The symbol of that text, whatever the table was asked for before. `AllocError` if out of memory; the table may be
     /// used again then.
+    #[inline]
     pub fn intern(&mut self, text: &str) -> Result<Symbol<A>, AllocError>
+        ensures { IfOk result (λ s. s ≡ text.now) }
+    {
+        if let Some(symbol) = Symbol::short(text) {
+            return Ok(symbol);
+        }
+        self.share(text)
+    }
+
+    // The symbol of a text that isn't kept in the symbol itself.
+    fn share(&mut self, text: &str) -> Result<Symbol<A>, AllocError>
         ensures { IfOk result (λ s. s ≡ text.now) }
     {
         let hash = hash_of(text);

@@ -1,4 +1,5 @@
-// The table of symbols: texts that it has and has not, many of them, and requests for memory that are refused.
+// The table of symbols: texts that it has and has not, many of them, and requests for memory that are refused. Texts of at most 14
+// bytes are in the symbols themselves; the others are shared.
 use crate::lexing::trees;
 use mbe_text::lexer::{LexError, lex_in};
 use mbe_text::symbols::SymbolTable;
@@ -25,7 +26,7 @@ fn has<A: Allocator + Copy>(table: &mut SymbolTable<A>, text: &str) -> bool {
 // Whether the table has for each of so many texts the symbol of that text.
 fn has_all(alloc: Global, table: &mut SymbolTable) -> bool {
     for number in 0..COUNT {
-        match format!(in alloc; "name{number}") {
+        match format!(in alloc; "name{number} of many letters") {
             Ok(text) if has(table, text.as_str()) => {}
             _ => return false,
         }
@@ -36,8 +37,11 @@ fn has_all(alloc: Global, table: &mut SymbolTable) -> bool {
 fn are_apart(alloc: Global) -> bool {
     let mut table = SymbolTable::new(alloc);
     has(&mut table, "")
+        && has(&mut table, "fourteen_bytes")
+        && has(&mut table, "of_fifteen_byte")
         && has_all(alloc, &mut table)
         && has_all(alloc, &mut table)
+        && has(&mut table, "of_fifteen_byte")
         && has(&mut table, "")
 }
 
@@ -63,7 +67,13 @@ fn is_same(alloc: Global, table: &mut SymbolTable, text: &str) -> bool {
     }
 }
 
-static TEXTS: [&str; 4] = ["a b a 1u8 1u8", "b (a) \"a\" 1u8", "", "a b a 1u8 1u8"];
+static TEXTS: [&str; 5] = [
+    "a b a 1u8 1u8",
+    "b (a) \"a\" 1u8",
+    "",
+    "a_name_of_many_letters b a_name_of_many_letters \"a text of many letters\"",
+    "a b a_name_of_many_letters \"a text of many letters\" 1u8",
+];
 
 fn are_same(alloc: Global) -> bool {
     let mut table = SymbolTable::new(alloc);
@@ -83,9 +93,13 @@ fn one_table_for_many_texts(rt: HostRuntime) -> Result<(), Wrong> {
 // Whether memory is there for the first text. Then the same text takes none, and another one does.
 fn takes_none(alloc: &Refusing<Global>) -> Option<bool> {
     let mut table = SymbolTable::new(alloc);
-    let is_so = found(&mut table, "a")?;
-    let is_free = is_so && has(&mut table, "a") && !alloc.has_refused();
-    Some(is_free && found(&mut table, "b").is_none() && alloc.has_refused())
+    let is_so = found(&mut table, "one text of many letters")?;
+    let is_free = is_so && has(&mut table, "one text of many letters") && !alloc.has_refused();
+    Some(
+        is_free
+            && found(&mut table, "another text of many letters").is_none()
+            && alloc.has_refused(),
+    )
 }
 
 // The first refused request that lies after those of the first text.
@@ -121,7 +135,7 @@ fn are_right<A: Allocator + Copy>(alloc: A, names: &[String]) -> bool {
 fn names(alloc: Global) -> Result<Vec<String>, AllocError> {
     let mut names = Vec::new(alloc);
     for number in 0..70 {
-        names.push(format!(in alloc; "name{number}")?)?;
+        names.push(format!(in alloc; "name{number} of many letters")?)?;
     }
     Ok(names)
 }
@@ -152,4 +166,19 @@ fn stays_right(alloc: Global) -> bool {
 #[test]
 fn a_refusal_leaves_the_table_right(rt: HostRuntime) -> Result<(), Wrong> {
     holds(Ok(stays_right(rt.alloc())))
+}
+
+// Whether a short text takes no memory, and a longer one does.
+fn are_short(global: Global) -> bool {
+    let alloc = Refusing::new(global, 1);
+    let mut table = SymbolTable::new(&alloc);
+    has(&mut table, "")
+        && has(&mut table, "fourteen_bytes")
+        && !alloc.has_refused()
+        && found(&mut table, "of_fifteen_byte").is_none()
+}
+
+#[test]
+fn a_short_text_takes_no_memory(rt: HostRuntime) -> Result<(), Wrong> {
+    holds(Ok(are_short(rt.alloc())))
 }

@@ -13,3 +13,4 @@ pub mod symbol;
 mod text;
 pub mod tt;
 mod view;
+mod word;
