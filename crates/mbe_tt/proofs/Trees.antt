@@ -1,0 +1,3 @@
+-- The first of trees, and trees after trees.
+pub mod Firsts
+pub mod Joined
