@@ -14,7 +14,8 @@ put-none (g ∷ outer) = ap (λ (f : Forest). let x : Delimiter × Forest = (g.0
 
 pub put-put : (f h : Forest) (b : Levels) → put h (put f b) ≡ put (append f h) b
 put-put f h [] = refl
-put-put f h (g ∷ outer) = ap (λ (k : Forest). let x : Delimiter × Forest = (g.0, k) in x ∷ outer) (append_append g.1 f h)
+put-put f h (g ∷ outer) =
+    ap (λ (k : Forest). let x : Delimiter × Forest = (g.0, k) in x ∷ outer) (append_append g.1 f h)
 
 -- a tree, and those after it
 pub put_one : (t : Tree) (h : Forest) (b : Levels) → put h (put (tree t none) b) ≡ put (tree t h) b

@@ -55,7 +55,8 @@ ends g c f t =
     (sym c.in-Some.is ∙ (c.last_invisible.ensures ∙ ap last_invisible (read_back f _ t)))
 
 -- its opening is before the last entry
-fits : (g : _) (c : In-Some g) → entries_of c.split_at.result.1.now ≡ spell (innermost_of _ _ _ _ c.self.invariant).inside
+fits : (g : _) (c : In-Some g)
+    → entries_of c.split_at.result.1.now ≡ spell (innermost_of _ _ _ _ c.self.invariant).inside
     → c.self.inside.at + 1 + c.in-Some.place + 1 < length c.self.inside.entries.items
 fits g c t =
     omega (
