@@ -1,6 +1,6 @@
 -- The options of targets, which `tools/cfg-tables` compares with those that rustc prints.
 use Prim.Native.String.{String}
-use Rattle.std.specs.Prelude.{ℕ, List, [], ◌∷◌, codes, Option, Some, None}
+use Rattle.std.specs.Prelude.{ℕ, List, [], ◌∷◌, ◌++◌, codes, map, Option, Some, None}
 
 -- a name, and its value if it has one
 abbrev pub Row : Type 0
@@ -12,153 +12,99 @@ name text = (codes text, None)
 abbrev pair : String → String → Row
 pair text value = (codes text, Some (codes value))
 
+-- a name with each of its values
+abbrev pairs : List (String × List String) → List Row
+pairs [] = []
+pairs (named ∷ more) = map (pair named.0) named.1 ++ pairs more
+
+abbrev table : List String → List (String × List String) → List Row
+table names named = map name names ++ pairs named
+
 abbrev pub x86_64_linux : List Row
 x86_64_linux =
-    name "debug_assertions"
-    ∷ pair "panic" "unwind"
-    ∷ pair "target_abi" ""
-    ∷ pair "target_arch" "x86_64"
-    ∷ pair "target_endian" "little"
-    ∷ pair "target_env" "gnu"
-    ∷ pair "target_family" "unix"
-    ∷ pair "target_feature" "fxsr"
-    ∷ pair "target_feature" "sse"
-    ∷ pair "target_feature" "sse2"
-    ∷ pair "target_has_atomic" "16"
-    ∷ pair "target_has_atomic" "32"
-    ∷ pair "target_has_atomic" "64"
-    ∷ pair "target_has_atomic" "8"
-    ∷ pair "target_has_atomic" "ptr"
-    ∷ pair "target_os" "linux"
-    ∷ pair "target_pointer_width" "64"
-    ∷ pair "target_vendor" "unknown"
-    ∷ name "unix"
-    ∷ []
+    table ("debug_assertions" ∷ "unix" ∷ [])
+    (("panic", "unwind" ∷ [])
+    ∷ ("target_abi", "" ∷ [])
+    ∷ ("target_arch", "x86_64" ∷ [])
+    ∷ ("target_endian", "little" ∷ [])
+    ∷ ("target_env", "gnu" ∷ [])
+    ∷ ("target_family", "unix" ∷ [])
+    ∷ ("target_feature", "fxsr" ∷ "sse" ∷ "sse2" ∷ [])
+    ∷ ("target_has_atomic", "16" ∷ "32" ∷ "64" ∷ "8" ∷ "ptr" ∷ [])
+    ∷ ("target_os", "linux" ∷ [])
+    ∷ ("target_pointer_width", "64" ∷ [])
+    ∷ ("target_vendor", "unknown" ∷ [])
+    ∷ [])
 
 abbrev pub x86_64_windows : List Row
 x86_64_windows =
-    name "debug_assertions"
-    ∷ pair "panic" "unwind"
-    ∷ pair "target_abi" ""
-    ∷ pair "target_arch" "x86_64"
-    ∷ pair "target_endian" "little"
-    ∷ pair "target_env" "msvc"
-    ∷ pair "target_family" "windows"
-    ∷ pair "target_feature" "cmpxchg16b"
-    ∷ pair "target_feature" "fxsr"
-    ∷ pair "target_feature" "sse"
-    ∷ pair "target_feature" "sse2"
-    ∷ pair "target_feature" "sse3"
-    ∷ pair "target_has_atomic" "128"
-    ∷ pair "target_has_atomic" "16"
-    ∷ pair "target_has_atomic" "32"
-    ∷ pair "target_has_atomic" "64"
-    ∷ pair "target_has_atomic" "8"
-    ∷ pair "target_has_atomic" "ptr"
-    ∷ pair "target_os" "windows"
-    ∷ pair "target_pointer_width" "64"
-    ∷ pair "target_vendor" "pc"
-    ∷ name "windows"
-    ∷ []
+    table ("debug_assertions" ∷ "windows" ∷ [])
+    (("panic", "unwind" ∷ [])
+    ∷ ("target_abi", "" ∷ [])
+    ∷ ("target_arch", "x86_64" ∷ [])
+    ∷ ("target_endian", "little" ∷ [])
+    ∷ ("target_env", "msvc" ∷ [])
+    ∷ ("target_family", "windows" ∷ [])
+    ∷ ("target_feature", "cmpxchg16b" ∷ "fxsr" ∷ "sse" ∷ "sse2" ∷ "sse3" ∷ [])
+    ∷ ("target_has_atomic", "128" ∷ "16" ∷ "32" ∷ "64" ∷ "8" ∷ "ptr" ∷ [])
+    ∷ ("target_os", "windows" ∷ [])
+    ∷ ("target_pointer_width", "64" ∷ [])
+    ∷ ("target_vendor", "pc" ∷ [])
+    ∷ [])
 
 abbrev pub x86_64_mac : List Row
 x86_64_mac =
-    name "debug_assertions"
-    ∷ pair "panic" "unwind"
-    ∷ pair "target_abi" ""
-    ∷ pair "target_arch" "x86_64"
-    ∷ pair "target_endian" "little"
-    ∷ pair "target_env" ""
-    ∷ pair "target_family" "unix"
-    ∷ pair "target_feature" "cmpxchg16b"
-    ∷ pair "target_feature" "fxsr"
-    ∷ pair "target_feature" "sse"
-    ∷ pair "target_feature" "sse2"
-    ∷ pair "target_feature" "sse3"
-    ∷ pair "target_feature" "sse4.1"
-    ∷ pair "target_feature" "ssse3"
-    ∷ pair "target_has_atomic" "128"
-    ∷ pair "target_has_atomic" "16"
-    ∷ pair "target_has_atomic" "32"
-    ∷ pair "target_has_atomic" "64"
-    ∷ pair "target_has_atomic" "8"
-    ∷ pair "target_has_atomic" "ptr"
-    ∷ pair "target_os" "macos"
-    ∷ pair "target_pointer_width" "64"
-    ∷ pair "target_vendor" "apple"
-    ∷ name "unix"
-    ∷ []
+    table ("debug_assertions" ∷ "unix" ∷ [])
+    (("panic", "unwind" ∷ [])
+    ∷ ("target_abi", "" ∷ [])
+    ∷ ("target_arch", "x86_64" ∷ [])
+    ∷ ("target_endian", "little" ∷ [])
+    ∷ ("target_env", "" ∷ [])
+    ∷ ("target_family", "unix" ∷ [])
+    ∷ ("target_feature", "cmpxchg16b" ∷ "fxsr" ∷ "sse" ∷ "sse2" ∷ "sse3" ∷ "sse4.1" ∷ "ssse3" ∷ [])
+    ∷ ("target_has_atomic", "128" ∷ "16" ∷ "32" ∷ "64" ∷ "8" ∷ "ptr" ∷ [])
+    ∷ ("target_os", "macos" ∷ [])
+    ∷ ("target_pointer_width", "64" ∷ [])
+    ∷ ("target_vendor", "apple" ∷ [])
+    ∷ [])
 
 abbrev pub aarch64_mac : List Row
 aarch64_mac =
-    name "debug_assertions"
-    ∷ pair "panic" "unwind"
-    ∷ pair "target_abi" ""
-    ∷ pair "target_arch" "aarch64"
-    ∷ pair "target_endian" "little"
-    ∷ pair "target_env" ""
-    ∷ pair "target_family" "unix"
-    ∷ pair "target_feature" "aes"
-    ∷ pair "target_feature" "crc"
-    ∷ pair "target_feature" "dit"
-    ∷ pair "target_feature" "dotprod"
-    ∷ pair "target_feature" "dpb"
-    ∷ pair "target_feature" "dpb2"
-    ∷ pair "target_feature" "fcma"
-    ∷ pair "target_feature" "fhm"
-    ∷ pair "target_feature" "flagm"
-    ∷ pair "target_feature" "fp16"
-    ∷ pair "target_feature" "frintts"
-    ∷ pair "target_feature" "jsconv"
-    ∷ pair "target_feature" "lor"
-    ∷ pair "target_feature" "lse"
-    ∷ pair "target_feature" "neon"
-    ∷ pair "target_feature" "paca"
-    ∷ pair "target_feature" "pacg"
-    ∷ pair "target_feature" "pan"
-    ∷ pair "target_feature" "pmuv3"
-    ∷ pair "target_feature" "ras"
-    ∷ pair "target_feature" "rcpc"
-    ∷ pair "target_feature" "rcpc2"
-    ∷ pair "target_feature" "rdm"
-    ∷ pair "target_feature" "sb"
-    ∷ pair "target_feature" "sha2"
-    ∷ pair "target_feature" "sha3"
-    ∷ pair "target_feature" "ssbs"
-    ∷ pair "target_feature" "vh"
-    ∷ pair "target_has_atomic" "128"
-    ∷ pair "target_has_atomic" "16"
-    ∷ pair "target_has_atomic" "32"
-    ∷ pair "target_has_atomic" "64"
-    ∷ pair "target_has_atomic" "8"
-    ∷ pair "target_has_atomic" "ptr"
-    ∷ pair "target_os" "macos"
-    ∷ pair "target_pointer_width" "64"
-    ∷ pair "target_vendor" "apple"
-    ∷ name "unix"
-    ∷ []
+    table ("debug_assertions" ∷ "unix" ∷ [])
+    (("panic", "unwind" ∷ [])
+    ∷ ("target_abi", "" ∷ [])
+    ∷ ("target_arch", "aarch64" ∷ [])
+    ∷ ("target_endian", "little" ∷ [])
+    ∷ ("target_env", "" ∷ [])
+    ∷ ("target_family", "unix" ∷ [])
+    ∷ (
+      "target_feature",
+      "aes" ∷ "crc" ∷ "dit" ∷ "dotprod" ∷ "dpb" ∷ "dpb2" ∷ "fcma" ∷ "fhm" ∷ "flagm" ∷
+          "fp16" ∷ "frintts" ∷ "jsconv" ∷ "lor" ∷ "lse" ∷ "neon" ∷ "paca" ∷ "pacg" ∷ "pan" ∷ "pmuv3" ∷
+          "ras" ∷ "rcpc" ∷ "rcpc2" ∷ "rdm" ∷ "sb" ∷ "sha2" ∷ "sha3" ∷ "ssbs" ∷ "vh" ∷ [],
+    )
+    ∷ ("target_has_atomic", "128" ∷ "16" ∷ "32" ∷ "64" ∷ "8" ∷ "ptr" ∷ [])
+    ∷ ("target_os", "macos" ∷ [])
+    ∷ ("target_pointer_width", "64" ∷ [])
+    ∷ ("target_vendor", "apple" ∷ [])
+    ∷ [])
 
 abbrev pub wasm32 : List Row
 wasm32 =
-    name "debug_assertions"
-    ∷ pair "panic" "abort"
-    ∷ pair "target_abi" ""
-    ∷ pair "target_arch" "wasm32"
-    ∷ pair "target_endian" "little"
-    ∷ pair "target_env" ""
-    ∷ pair "target_family" "wasm"
-    ∷ pair "target_feature" "bulk-memory"
-    ∷ pair "target_feature" "multivalue"
-    ∷ pair "target_feature" "mutable-globals"
-    ∷ pair "target_feature" "nontrapping-fptoint"
-    ∷ pair "target_feature" "reference-types"
-    ∷ pair "target_feature" "sign-ext"
-    ∷ pair "target_has_atomic" "16"
-    ∷ pair "target_has_atomic" "32"
-    ∷ pair "target_has_atomic" "64"
-    ∷ pair "target_has_atomic" "8"
-    ∷ pair "target_has_atomic" "ptr"
-    ∷ pair "target_os" "unknown"
-    ∷ pair "target_pointer_width" "32"
-    ∷ pair "target_vendor" "unknown"
-    ∷ []
+    table ("debug_assertions" ∷ [])
+    (("panic", "abort" ∷ [])
+    ∷ ("target_abi", "" ∷ [])
+    ∷ ("target_arch", "wasm32" ∷ [])
+    ∷ ("target_endian", "little" ∷ [])
+    ∷ ("target_env", "" ∷ [])
+    ∷ ("target_family", "wasm" ∷ [])
+    ∷ (
+      "target_feature",
+      "bulk-memory" ∷ "multivalue" ∷ "mutable-globals" ∷ "nontrapping-fptoint" ∷
+          "reference-types" ∷ "sign-ext" ∷ [],
+    )
+    ∷ ("target_has_atomic", "16" ∷ "32" ∷ "64" ∷ "8" ∷ "ptr" ∷ [])
+    ∷ ("target_os", "unknown" ∷ [])
+    ∷ ("target_pointer_width", "32" ∷ [])
+    ∷ ("target_vendor", "unknown" ∷ [])
+    ∷ [])

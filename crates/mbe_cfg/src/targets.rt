@@ -19,544 +19,93 @@ pub enum Target {
     Wasm32,
 }
 
-const X86_64_LINUX: &[Cfg<'static>] = &[
-    Cfg {
-        name: "debug_assertions",
-        value: None,
-    },
-    Cfg {
-        name: "panic",
-        value: Some("unwind"),
-    },
-    Cfg {
-        name: "target_abi",
-        value: Some(""),
-    },
-    Cfg {
-        name: "target_arch",
-        value: Some("x86_64"),
-    },
-    Cfg {
-        name: "target_endian",
-        value: Some("little"),
-    },
-    Cfg {
-        name: "target_env",
-        value: Some("gnu"),
-    },
-    Cfg {
-        name: "target_family",
-        value: Some("unix"),
-    },
-    Cfg {
-        name: "target_feature",
-        value: Some("fxsr"),
-    },
-    Cfg {
-        name: "target_feature",
-        value: Some("sse"),
-    },
-    Cfg {
-        name: "target_feature",
-        value: Some("sse2"),
-    },
-    Cfg {
-        name: "target_has_atomic",
-        value: Some("16"),
-    },
-    Cfg {
-        name: "target_has_atomic",
-        value: Some("32"),
-    },
-    Cfg {
-        name: "target_has_atomic",
-        value: Some("64"),
-    },
-    Cfg {
-        name: "target_has_atomic",
-        value: Some("8"),
-    },
-    Cfg {
-        name: "target_has_atomic",
-        value: Some("ptr"),
-    },
-    Cfg {
-        name: "target_os",
-        value: Some("linux"),
-    },
-    Cfg {
-        name: "target_pointer_width",
-        value: Some("64"),
-    },
-    Cfg {
-        name: "target_vendor",
-        value: Some("unknown"),
-    },
-    Cfg {
-        name: "unix",
-        value: None,
-    },
-];
+// Names alone, and names with each of their values.
+macro_rules! cfgs {
+    ($($name:literal),+; $($named:literal = $($value:literal),+;)+) => {
+        &[
+            $(Cfg { name: $name, value: None },)+
+            $($(Cfg { name: $named, value: Some($value) },)+)+
+        ]
+    };
+}
 
-const X86_64_WINDOWS: &[Cfg<'static>] = &[
-    Cfg {
-        name: "debug_assertions",
-        value: None,
-    },
-    Cfg {
-        name: "panic",
-        value: Some("unwind"),
-    },
-    Cfg {
-        name: "target_abi",
-        value: Some(""),
-    },
-    Cfg {
-        name: "target_arch",
-        value: Some("x86_64"),
-    },
-    Cfg {
-        name: "target_endian",
-        value: Some("little"),
-    },
-    Cfg {
-        name: "target_env",
-        value: Some("msvc"),
-    },
-    Cfg {
-        name: "target_family",
-        value: Some("windows"),
-    },
-    Cfg {
-        name: "target_feature",
-        value: Some("cmpxchg16b"),
-    },
-    Cfg {
-        name: "target_feature",
-        value: Some("fxsr"),
-    },
-    Cfg {
-        name: "target_feature",
-        value: Some("sse"),
-    },
-    Cfg {
-        name: "target_feature",
-        value: Some("sse2"),
-    },
-    Cfg {
-        name: "target_feature",
-        value: Some("sse3"),
-    },
-    Cfg {
-        name: "target_has_atomic",
-        value: Some("128"),
-    },
-    Cfg {
-        name: "target_has_atomic",
-        value: Some("16"),
-    },
-    Cfg {
-        name: "target_has_atomic",
-        value: Some("32"),
-    },
-    Cfg {
-        name: "target_has_atomic",
-        value: Some("64"),
-    },
-    Cfg {
-        name: "target_has_atomic",
-        value: Some("8"),
-    },
-    Cfg {
-        name: "target_has_atomic",
-        value: Some("ptr"),
-    },
-    Cfg {
-        name: "target_os",
-        value: Some("windows"),
-    },
-    Cfg {
-        name: "target_pointer_width",
-        value: Some("64"),
-    },
-    Cfg {
-        name: "target_vendor",
-        value: Some("pc"),
-    },
-    Cfg {
-        name: "windows",
-        value: None,
-    },
-];
+const X86_64_LINUX: &[Cfg<'static>] = cfgs! {
+    "debug_assertions", "unix";
+    "panic" = "unwind";
+    "target_abi" = "";
+    "target_arch" = "x86_64";
+    "target_endian" = "little";
+    "target_env" = "gnu";
+    "target_family" = "unix";
+    "target_feature" = "fxsr", "sse", "sse2";
+    "target_has_atomic" = "16", "32", "64", "8", "ptr";
+    "target_os" = "linux";
+    "target_pointer_width" = "64";
+    "target_vendor" = "unknown";
+};
 
-const X86_64_MAC: &[Cfg<'static>] = &[
-    Cfg {
-        name: "debug_assertions",
-        value: None,
-    },
-    Cfg {
-        name: "panic",
-        value: Some("unwind"),
-    },
-    Cfg {
-        name: "target_abi",
-        value: Some(""),
-    },
-    Cfg {
-        name: "target_arch",
-        value: Some("x86_64"),
-    },
-    Cfg {
-        name: "target_endian",
-        value: Some("little"),
-    },
-    Cfg {
-        name: "target_env",
-        value: Some(""),
-    },
-    Cfg {
-        name: "target_family",
-        value: Some("unix"),
-    },
-    Cfg {
-        name: "target_feature",
-        value: Some("cmpxchg16b"),
-    },
-    Cfg {
-        name: "target_feature",
-        value: Some("fxsr"),
-    },
-    Cfg {
-        name: "target_feature",
-        value: Some("sse"),
-    },
-    Cfg {
-        name: "target_feature",
-        value: Some("sse2"),
-    },
-    Cfg {
-        name: "target_feature",
-        value: Some("sse3"),
-    },
-    Cfg {
-        name: "target_feature",
-        value: Some("sse4.1"),
-    },
-    Cfg {
-        name: "target_feature",
-        value: Some("ssse3"),
-    },
-    Cfg {
-        name: "target_has_atomic",
-        value: Some("128"),
-    },
-    Cfg {
-        name: "target_has_atomic",
-        value: Some("16"),
-    },
-    Cfg {
-        name: "target_has_atomic",
-        value: Some("32"),
-    },
-    Cfg {
-        name: "target_has_atomic",
-        value: Some("64"),
-    },
-    Cfg {
-        name: "target_has_atomic",
-        value: Some("8"),
-    },
-    Cfg {
-        name: "target_has_atomic",
-        value: Some("ptr"),
-    },
-    Cfg {
-        name: "target_os",
-        value: Some("macos"),
-    },
-    Cfg {
-        name: "target_pointer_width",
-        value: Some("64"),
-    },
-    Cfg {
-        name: "target_vendor",
-        value: Some("apple"),
-    },
-    Cfg {
-        name: "unix",
-        value: None,
-    },
-];
+const X86_64_WINDOWS: &[Cfg<'static>] = cfgs! {
+    "debug_assertions", "windows";
+    "panic" = "unwind";
+    "target_abi" = "";
+    "target_arch" = "x86_64";
+    "target_endian" = "little";
+    "target_env" = "msvc";
+    "target_family" = "windows";
+    "target_feature" = "cmpxchg16b", "fxsr", "sse", "sse2", "sse3";
+    "target_has_atomic" = "128", "16", "32", "64", "8", "ptr";
+    "target_os" = "windows";
+    "target_pointer_width" = "64";
+    "target_vendor" = "pc";
+};
 
-const AARCH64_MAC: &[Cfg<'static>] = &[
-    Cfg {
-        name: "debug_assertions",
-        value: None,
-    },
-    Cfg {
-        name: "panic",
-        value: Some("unwind"),
-    },
-    Cfg {
-        name: "target_abi",
-        value: Some(""),
-    },
-    Cfg {
-        name: "target_arch",
-        value: Some("aarch64"),
-    },
-    Cfg {
-        name: "target_endian",
-        value: Some("little"),
-    },
-    Cfg {
-        name: "target_env",
-        value: Some(""),
-    },
-    Cfg {
-        name: "target_family",
-        value: Some("unix"),
-    },
-    Cfg {
-        name: "target_feature",
-        value: Some("aes"),
-    },
-    Cfg {
-        name: "target_feature",
-        value: Some("crc"),
-    },
-    Cfg {
-        name: "target_feature",
-        value: Some("dit"),
-    },
-    Cfg {
-        name: "target_feature",
-        value: Some("dotprod"),
-    },
-    Cfg {
-        name: "target_feature",
-        value: Some("dpb"),
-    },
-    Cfg {
-        name: "target_feature",
-        value: Some("dpb2"),
-    },
-    Cfg {
-        name: "target_feature",
-        value: Some("fcma"),
-    },
-    Cfg {
-        name: "target_feature",
-        value: Some("fhm"),
-    },
-    Cfg {
-        name: "target_feature",
-        value: Some("flagm"),
-    },
-    Cfg {
-        name: "target_feature",
-        value: Some("fp16"),
-    },
-    Cfg {
-        name: "target_feature",
-        value: Some("frintts"),
-    },
-    Cfg {
-        name: "target_feature",
-        value: Some("jsconv"),
-    },
-    Cfg {
-        name: "target_feature",
-        value: Some("lor"),
-    },
-    Cfg {
-        name: "target_feature",
-        value: Some("lse"),
-    },
-    Cfg {
-        name: "target_feature",
-        value: Some("neon"),
-    },
-    Cfg {
-        name: "target_feature",
-        value: Some("paca"),
-    },
-    Cfg {
-        name: "target_feature",
-        value: Some("pacg"),
-    },
-    Cfg {
-        name: "target_feature",
-        value: Some("pan"),
-    },
-    Cfg {
-        name: "target_feature",
-        value: Some("pmuv3"),
-    },
-    Cfg {
-        name: "target_feature",
-        value: Some("ras"),
-    },
-    Cfg {
-        name: "target_feature",
-        value: Some("rcpc"),
-    },
-    Cfg {
-        name: "target_feature",
-        value: Some("rcpc2"),
-    },
-    Cfg {
-        name: "target_feature",
-        value: Some("rdm"),
-    },
-    Cfg {
-        name: "target_feature",
-        value: Some("sb"),
-    },
-    Cfg {
-        name: "target_feature",
-        value: Some("sha2"),
-    },
-    Cfg {
-        name: "target_feature",
-        value: Some("sha3"),
-    },
-    Cfg {
-        name: "target_feature",
-        value: Some("ssbs"),
-    },
-    Cfg {
-        name: "target_feature",
-        value: Some("vh"),
-    },
-    Cfg {
-        name: "target_has_atomic",
-        value: Some("128"),
-    },
-    Cfg {
-        name: "target_has_atomic",
-        value: Some("16"),
-    },
-    Cfg {
-        name: "target_has_atomic",
-        value: Some("32"),
-    },
-    Cfg {
-        name: "target_has_atomic",
-        value: Some("64"),
-    },
-    Cfg {
-        name: "target_has_atomic",
-        value: Some("8"),
-    },
-    Cfg {
-        name: "target_has_atomic",
-        value: Some("ptr"),
-    },
-    Cfg {
-        name: "target_os",
-        value: Some("macos"),
-    },
-    Cfg {
-        name: "target_pointer_width",
-        value: Some("64"),
-    },
-    Cfg {
-        name: "target_vendor",
-        value: Some("apple"),
-    },
-    Cfg {
-        name: "unix",
-        value: None,
-    },
-];
+const X86_64_MAC: &[Cfg<'static>] = cfgs! {
+    "debug_assertions", "unix";
+    "panic" = "unwind";
+    "target_abi" = "";
+    "target_arch" = "x86_64";
+    "target_endian" = "little";
+    "target_env" = "";
+    "target_family" = "unix";
+    "target_feature" = "cmpxchg16b", "fxsr", "sse", "sse2", "sse3", "sse4.1", "ssse3";
+    "target_has_atomic" = "128", "16", "32", "64", "8", "ptr";
+    "target_os" = "macos";
+    "target_pointer_width" = "64";
+    "target_vendor" = "apple";
+};
 
-const WASM32: &[Cfg<'static>] = &[
-    Cfg {
-        name: "debug_assertions",
-        value: None,
-    },
-    Cfg {
-        name: "panic",
-        value: Some("abort"),
-    },
-    Cfg {
-        name: "target_abi",
-        value: Some(""),
-    },
-    Cfg {
-        name: "target_arch",
-        value: Some("wasm32"),
-    },
-    Cfg {
-        name: "target_endian",
-        value: Some("little"),
-    },
-    Cfg {
-        name: "target_env",
-        value: Some(""),
-    },
-    Cfg {
-        name: "target_family",
-        value: Some("wasm"),
-    },
-    Cfg {
-        name: "target_feature",
-        value: Some("bulk-memory"),
-    },
-    Cfg {
-        name: "target_feature",
-        value: Some("multivalue"),
-    },
-    Cfg {
-        name: "target_feature",
-        value: Some("mutable-globals"),
-    },
-    Cfg {
-        name: "target_feature",
-        value: Some("nontrapping-fptoint"),
-    },
-    Cfg {
-        name: "target_feature",
-        value: Some("reference-types"),
-    },
-    Cfg {
-        name: "target_feature",
-        value: Some("sign-ext"),
-    },
-    Cfg {
-        name: "target_has_atomic",
-        value: Some("16"),
-    },
-    Cfg {
-        name: "target_has_atomic",
-        value: Some("32"),
-    },
-    Cfg {
-        name: "target_has_atomic",
-        value: Some("64"),
-    },
-    Cfg {
-        name: "target_has_atomic",
-        value: Some("8"),
-    },
-    Cfg {
-        name: "target_has_atomic",
-        value: Some("ptr"),
-    },
-    Cfg {
-        name: "target_os",
-        value: Some("unknown"),
-    },
-    Cfg {
-        name: "target_pointer_width",
-        value: Some("32"),
-    },
-    Cfg {
-        name: "target_vendor",
-        value: Some("unknown"),
-    },
-];
+const AARCH64_MAC: &[Cfg<'static>] = cfgs! {
+    "debug_assertions", "unix";
+    "panic" = "unwind";
+    "target_abi" = "";
+    "target_arch" = "aarch64";
+    "target_endian" = "little";
+    "target_env" = "";
+    "target_family" = "unix";
+    "target_feature" = "aes", "crc", "dit", "dotprod", "dpb", "dpb2", "fcma", "fhm", "flagm",
+        "fp16", "frintts", "jsconv", "lor", "lse", "neon", "paca", "pacg", "pan", "pmuv3", "ras",
+        "rcpc", "rcpc2", "rdm", "sb", "sha2", "sha3", "ssbs", "vh";
+    "target_has_atomic" = "128", "16", "32", "64", "8", "ptr";
+    "target_os" = "macos";
+    "target_pointer_width" = "64";
+    "target_vendor" = "apple";
+};
+
+const WASM32: &[Cfg<'static>] = cfgs! {
+    "debug_assertions";
+    "panic" = "abort";
+    "target_abi" = "";
+    "target_arch" = "wasm32";
+    "target_endian" = "little";
+    "target_env" = "";
+    "target_family" = "wasm";
+    "target_feature" = "bulk-memory", "multivalue", "mutable-globals", "nontrapping-fptoint",
+        "reference-types", "sign-ext";
+    "target_has_atomic" = "16", "32", "64", "8", "ptr";
+    "target_os" = "unknown";
+    "target_pointer_width" = "32";
+    "target_vendor" = "unknown";
+};
 
 impl Target {
     /// The target's options.

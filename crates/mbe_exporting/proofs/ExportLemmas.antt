@@ -1,34 +1,11 @@
 -- What is left to be added, as trees are read one after another.
-use Rattle.std.proofs.Common.{ℕ, zero, suc, ◌-◌, ◌≡◌, ◌<◌, true, false, List, [], ◌∷◌, ◌++◌, Some, None, refl, ap, sym, ◌∙◌, arith, append_assoc}
+use Rattle.std.proofs.Common.{ℕ, zero, suc, ◌-◌, ◌≡◌, ◌<◌, true, false, List, [], ◌++◌, Some, None, refl, ap, sym, ◌∙◌, arith, append_assoc, append-nil}
 use Rattle.std.specs.Prelude.{if◌then◌else◌, unwrap_or}
 use Rattle.mbe_tt.specs.Trees.Leaf.{Leaf}
-use Rattle.mbe_tt.specs.Trees.Tree.{Forest, Tree, Leaf_tree, Group_tree, none, leaf, group, tree, first, rest_of, flat_len}
+use Rattle.mbe_tt.specs.Trees.Tree.{Forest, Leaf_tree, Group_tree, none, leaf, group, first, rest_of}
 use Rattle.mbe_tt.specs.declared.tt.Delimiter.{Delimiter}
+use Rattle.mbe_tt.proofs.Trees.Firsts.{whole, nothing}
 use Rattle.mbe_exporting.specs.Exports.{Export, Walk, crate_at, crate_of, ends, exported, exports_at, exports_in, next, uses_by, uses_in}
-
--- ---- trees
-
-same_some : {A : Type 0} (x y : A) → Some x ≡ Some y → x ≡ y
-same_some x y e = cc
-
-whole : (f : Forest) (t : Tree) → first f ≡ Some t → f ≡ tree t (rest_of f)
-whole none t e = cc
-whole (leaf l rest) t e = ap (λ x. tree x rest) (same_some (Leaf_tree l) t e)
-whole (group d inside rest) t e = ap (λ x. tree x rest) (same_some (Group_tree d inside) t e)
-
-nothing : (f : Forest) → None ≡ first f → f ≡ none
-nothing none e = refl
-nothing (leaf l rest) e = cc
-nothing (group d inside rest) e = cc
-
-pub rest_less : (f : Forest) (t : Tree) → Some t ≡ first f → flat_len (rest_of f) < flat_len f
-rest_less none t e = cc
-rest_less (leaf l rest) t e = omega arith
-rest_less (group d inside rest) t e = omega arith
-
-nil_right : {A : Type 0} (xs : List A) → xs ++ [] ≡ xs
-nil_right [] = refl
-nil_right (x ∷ xs) = ap (λ ys. x ∷ ys) (nil_right xs)
 
 -- ---- names of crates
 
@@ -49,7 +26,7 @@ crate_further name f rest e is =
 
 pub crate_last : (name : List ℕ) (f : Forest) → None ≡ first f → name ≡ crate_of name f
 unfolding crate_of
-crate_last name f e = sym (ap (crate_of name) (nothing f e))
+crate_last name f e = sym (ap (crate_of name) (nothing f (sym e)))
 
 -- ---- paths
 
@@ -62,7 +39,7 @@ pub no_levels : (levels : ℕ) (by : List ℕ) (root : Forest) (start : Walk) (f
     → levels ≡ 0 → old ≡ old ++ uses_in levels by root start f
 unfolding uses_in
 no_levels levels by root start f old e =
-    sym (ap (λ n. old ++ uses_in n by root start f) e ∙ nil_right old)
+    sym (ap (λ n. old ++ uses_in n by root start f) e ∙ append-nil old)
 
 pub begins : (levels : ℕ) (by : List ℕ) (root : Forest) (start : Walk) (f : Forest) (old : List Export) → 0 < levels
     → Left levels by root start f old start f old
@@ -82,7 +59,7 @@ module _ (levels : ℕ) (by : List ℕ) (root : Forest) (start : Walk) (f : Fore
   at_end l is e =
       sym (ap (λ g. now ++ more w g) (whole rest (Leaf_tree l) is)
       ∙ (ap (λ b. now ++ (if b then [] else exported by w l (rest_of rest)
-      ++ more (next root start w l (rest_of rest)) (rest_of rest))) e ∙ nil_right now)) ∙ h.same
+      ++ more (next root start w l (rest_of rest)) (rest_of rest))) e ∙ append-nil now)) ∙ h.same
 
   pub leaf_on : (l : Leaf) (v : Walk) (after_it : List Export) → first rest ≡ Some (Leaf_tree l) → ends l ≡ false
       → after_it ≡ now ++ exported by w l (rest_of rest) → v ≡ next root start w l (rest_of rest)
@@ -107,7 +84,7 @@ module _ (levels : ℕ) (by : List ℕ) (root : Forest) (start : Walk) (f : Fore
   }
 
   pub all_added : None ≡ first rest → now ≡ old ++ uses_in levels by root start f
-  all_added e = sym (ap (λ g. now ++ more w g) (nothing rest e) ∙ nil_right now) ∙ h.same
+  all_added e = sym (ap (λ g. now ++ more w g) (nothing rest (sym e)) ∙ append-nil now) ∙ h.same
 
 -- ---- roots
 
@@ -131,5 +108,5 @@ pub exports_last : (by : List ℕ) (root f : Forest) (now after_it whole : List 
     → now ++ exports_in by root f ≡ whole → after_it ≡ now ++ exports_at by root f → after_it ≡ whole
 unfolding exports_in
 exports_last by root f now after_it whole e h added =
-    added ∙ (ap (λ g. now ++ exports_at by root g) (nothing f e)
-    ∙ (sym (ap (λ g. now ++ exports_in by root g) (nothing f e)) ∙ h))
+    added ∙ (ap (λ g. now ++ exports_at by root g) (nothing f (sym e))
+    ∙ (sym (ap (λ g. now ++ exports_in by root g) (nothing f (sym e))) ∙ h))

@@ -1,3 +1,4 @@
 pub mod Buffers
 pub mod Places
 pub mod Glue
+pub mod Trees

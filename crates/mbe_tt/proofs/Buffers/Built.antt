@@ -141,7 +141,7 @@ pub record IsClosed (b : Levels) (span : Span) (es : List Entry) (capacity place
   pub levels : levels_of es ≡ closed span b
   pub building : IsBuilding es capacity place count
 
-pub after_close : (b : Levels) (old new : List Entry) (newcap place count : ℕ) (s : Subtree) (n : ℕ) (span : Span)
+after_close : (b : Levels) (old new : List Entry) (newcap place count : ℕ) (s : Subtree) (n : ℕ) (span : Span)
     → 1 < length b → old ≡ written b → place ≡ current b
     → count ≡ length b → OpensAt old place s n
     → Finishes old place (record { delimiter = record s.delimiter { close = span } }) new
@@ -219,7 +219,7 @@ opens_at_first [] es e h = absurd (omega arith)
 opens_at_first (g ∷ []) es e h = opens_at (g ∷ []) es 0 e refl (omega arith)
 opens_at_first (g ∷ (k ∷ outer)) es e h = absurd (omega arith)
 
-pub finish_len : (old new : List Entry) (place : ℕ) (s sub : Subtree) (n : ℕ) → OpensAt old place s n
+finish_len : (old new : List Entry) (place : ℕ) (s sub : Subtree) (n : ℕ) → OpensAt old place s n
     → Finishes old place sub new → length new ≡ length old + 1
 finish_len old new place s sub n o f =
     omega (
@@ -230,3 +230,13 @@ finish_len old new place s sub n o f =
       length-append o.before (Open sub (length o.after) ∷ (o.after ++ Close ∷ [])),
       length-append o.after (Close ∷ []),
     )
+
+-- the innermost group is closed, where there is room
+pub closed_after : (old new : List Entry) (capacity newcap place count : ℕ) (s : Subtree) (n : ℕ) (span : Span)
+    → 1 < length (levels_of old) → IsBuilding old capacity place count → OpensAt old place s n
+    → Finishes old place (record { delimiter = record s.delimiter { close = span } }) new → capacity ≤ newcap
+    → IsClosed (levels_of old) span new newcap n (count - 1)
+closed_after old new capacity newcap place count s n span more b o f grown =
+    let room : length new + (count - 1) ≤ newcap =
+    omega (arith, b.room, b.some, grown, finish_len old new place s _ n o f) in
+    after_close (levels_of old) old new newcap place count s n span more b.spelled b.at b.depth o f room

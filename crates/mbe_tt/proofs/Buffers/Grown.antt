@@ -1,24 +1,25 @@
 -- Trees at the end of what a builder has.
 use Rattle.std.proofs.Common.{◌≡◌, List, [], ◌∷◌, ◌++◌, refl, ap, sym, ◌∙◌}
-use Rattle.mbe_tt.specs.Trees.Tree.{Forest, none, leaf, group, append, one_leaf}
+use Rattle.mbe_tt.specs.Trees.Tree.{Forest, Tree, none, leaf, tree, append, one_leaf}
 use Rattle.mbe_tt.specs.Views.Entries.{append-none}
 use Rattle.mbe_tt.specs.Buffers.Building.{Levels, put}
 use Rattle.mbe_tt.specs.Views.Shown.{leaf_of, leaves_of}
 use Rattle.mbe_tt.specs.declared.tt.Leaf.{Leaf}
 use Rattle.mbe_tt.specs.declared.tt.Delimiter.{Delimiter}
-
-append-assoc : (f g h : Forest) → append (append f g) h ≡ append f (append g h)
-append-assoc none g h = refl
-append-assoc (leaf l rest) g h = ap (leaf l) (append-assoc rest g h)
-append-assoc (group d i rest) g h = ap (group d i) (append-assoc rest g h)
+use Rattle.mbe_tt.proofs.Trees.Joined.{append_append, tree_before}
 
 pub put-none : (b : Levels) → b ≡ put none b
 put-none [] = refl
 put-none (g ∷ outer) = ap (λ (f : Forest). let x : Delimiter × Forest = (g.0, f) in x ∷ outer) (sym (append-none g.1))
 
-put-put : (f h : Forest) (b : Levels) → put h (put f b) ≡ put (append f h) b
+pub put-put : (f h : Forest) (b : Levels) → put h (put f b) ≡ put (append f h) b
 put-put f h [] = refl
-put-put f h (g ∷ outer) = ap (λ (k : Forest). let x : Delimiter × Forest = (g.0, k) in x ∷ outer) (append-assoc g.1 f h)
+put-put f h (g ∷ outer) =
+    ap (λ (k : Forest). let x : Delimiter × Forest = (g.0, k) in x ∷ outer) (append_append g.1 f h)
+
+-- a tree, and those after it
+pub put_one : (t : Tree) (h : Forest) (b : Levels) → put h (put (tree t none) b) ≡ put (tree t h) b
+put_one t h b = put-put (tree t none) h b ∙ ap (λ (f : Forest). put f b) (tree_before t h)
 
 leaves-more : {A : Type 0} (xs : List (Leaf A)) (x : Leaf A)
     → append (leaves_of xs) (one_leaf (leaf_of x)) ≡ leaves_of (xs ++ x ∷ [])

@@ -1,5 +1,5 @@
 -- Which puncts at the front are taken together, by how many are joined there.
-use Rattle.std.specs.Prelude.{◌≡◌, ℕ, zero, suc, Bool, true, false, if◌then◌else◌, List, [], ◌∷◌, length, Option, Some, None, option_map, option_and_then, refl}
+use Rattle.std.specs.Prelude.{◌≡◌, ℕ, zero, suc, Bool, true, false, if◌then◌else◌, List, [], ◌∷◌, ◌++◌, length, Option, Some, None, option_map, option_and_then, refl}
 use Rattle.std.proofs.Common.{ap, sym, ◌∙◌}
 use Rattle.std.proofs.lemmas.Option.{none-some, same_Some}
 use Rattle.mbe_tt.specs.declared.tt.Spacing.{Spacing}
@@ -165,3 +165,9 @@ one_glued f ahead beyond left a b qs t h n e y r k =
     glues f left a (a ∷ []) qs h.first (two_or_one f ahead beyond a b t h n e
     ∙ ap (λ (x : Bool). if x then a ∷ b ∷ [] else a ∷ []) y) k
     (r ∙ h.past_first)
+
+-- two puncts are pushed after the first
+pub pushed_three : (one two three : List Punct) (a b c : Punct) → one ≡ a ∷ [] → two ≡ one ++ b ∷ []
+    → three ≡ two ++ c ∷ [] → three ≡ a ∷ b ∷ c ∷ []
+pushed_three one two three a b c f g h =
+    h ∙ ap (λ (ps : List Punct). ps ++ c ∷ []) (g ∙ ap (λ (ps : List Punct). ps ++ b ∷ []) f)

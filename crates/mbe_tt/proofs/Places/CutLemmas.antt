@@ -1,11 +1,11 @@
 -- Trees that are cut from the front of others.
 use Rattle.std.specs.Prelude.{◌≡◌, ◌≤◌, ◌+◌, ◌-◌, ◌&&◌, ℕ, zero, suc, Bool, true, false, if◌then◌else◌, IsTrue, List, [], ◌∷◌, ◌++◌, length, map, Some, None, ◌==◌, refl}
 use Rattle.std.specs.List.{list_all}
-use Rattle.std.proofs.Common.{arith, ap, ◌∙◌, subst}
+use Rattle.std.proofs.Common.{arith, ap, subst}
 use Rattle.std.proofs.Math.Bool.{false≢true}
 use Rattle.std.proofs.lemmas.Option.{none-some, same_Some}
 use Rattle.mbe_tt.specs.declared.grammar.PrefixEntryPoint.{PrefixEntryPoint}
-use Rattle.mbe_tt.specs.Trees.Tree.{Forest, FlatToken, closing, none, leaf, group, append, flat, flat_len, tree_count, Cut, cut, cut_trees, cut_flat, tree, each_tree, trees_of, all_of}
+use Rattle.mbe_tt.specs.Trees.Tree.{Forest, FlatToken, closing, none, leaf, group, append, flat, flat_len, tree_count, Cut, cut_trees, cut_flat, tree, each_tree, trees_of, all_of}
 use Rattle.mbe_tt.specs.Fragments.Grammar.{Grammar, is_good, good_front}
 use Rattle.mbe_tt.specs.Laws.TreeLaws.{IsCut, FlatLength, CutsKeepTrees, ShortestCut, EachTreeOnce, GluedExamples}
 

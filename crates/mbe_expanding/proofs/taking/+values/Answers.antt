@@ -1,5 +1,4 @@
-use Rattle.std.proofs.Common.{◌≡◌, ◌<◌, ◌++◌, ◌∙◌, ap, arith}
-use Rattle.std.specs.String.{string_bytes}
+use Rattle.std.proofs.Common.{arith}
 use Rattle.mbe_expanding.proofs.TakenLemmas.{round_smaller, rounds_smaller, nested_smaller}
 use Rattle.mbe_expanding.proofs.taking.+values.Goals as goal
 

@@ -13,8 +13,9 @@ returns-clause-knows c =
     let files = map source_of c.args.files.now in
     others_known (setting_of c.args.expander.now).edition 1001 c.args.follows files c.args.given
     (state_of c.args.expander.now).scope (state_of c.define_others.new.expander).scope
-    (state_of c.link.new.self).scope names c.link.result (length c.args.externs.now) (map export_of c.as_slice.result.now)
-    c.in_ok-define_others.ensures.defines (sym (length-map c.args.externs.now (λ x. x.name.now)))
+    (state_of c.link.new.self).scope names c.link.result (length c.args.externs.now)
+    (map export_of c.as_slice.result.now) c.in_ok-define_others.ensures.defines
+    (sym (length-map c.args.externs.now (λ x. x.name.now)))
     (ap (map export_of) c.as_slice.ensures.value ∙ (c.in_ok-define_others.ensures.exports
     ∙ ap (λ es. es ++ exports_from c.args.follows files c.args.given names)
     (ap (map export_of) c.new-exports.ensures.items)))

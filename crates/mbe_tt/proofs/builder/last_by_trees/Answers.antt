@@ -1,4 +1,4 @@
-use Rattle.std.proofs.Common.{◌≡◌, ◌+◌, ◌-◌, ap, arith, length}
+use Rattle.std.proofs.Common.{◌≡◌, ◌+◌, ◌-◌, ◌≤◌, ap, arith, length}
 use Rattle.mbe_tt.specs.Trees.Tree.{Forest, flat_len}
 use Rattle.mbe_tt.specs.Views.Entries.{forest_of}
 use Rattle.mbe_tt.specs.Views.Shown.{entries_of}
@@ -6,15 +6,16 @@ use Rattle.mbe_tt.proofs.Buffers.Seen.{length-shown}
 use Rattle.mbe_tt.proofs.Buffers.Spelled.{length-spell}
 use Rattle.mbe_tt.proofs.Places.Last.{flat_rest, passed_one, false_not}
 use Rattle.mbe_tt.proofs.builder.last_by_trees.Goals as goal
+use Rattle.mbe_tt.proofs.builder.last_by_trees.Goals.{After-flat_len}
 
-pub overflow_sub-place : goal.overflow_sub-place
-overflow_sub-place g c =
-    let all : Forest = forest_of (entries_of c.args.entries.now) in
+-- what is left is no longer than the whole
+fits : (g : _) (c : After-flat_len g) → c.flat_len.result ≤ length c.args.entries.now
+fits g c =
     omega (
       arith,
       length-shown c.args.entries.now,
       ap length c.requires,
-      length-spell all,
+      length-spell (forest_of (entries_of c.args.entries.now)),
       c.loop-tree.invariant.0,
       ap flat_len c.in-Some.ensures.rest,
       flat_rest c.loop-tree.iter,
@@ -22,18 +23,19 @@ overflow_sub-place g c =
       ap flat_len c.remaining.ensures,
     )
 
+pub overflow_sub-place : goal.overflow_sub-place
+overflow_sub-place g c = omega (arith, fits g (goal.at.overflow_sub-place g c).After-flat_len)
+
 pub loop-tree-preserved : goal.loop-tree-preserved
 loop-tree-preserved g c =
     let all : Forest = forest_of (entries_of c.args.entries.now) in
     let now : length c.args.entries.now - c.flat_len.result + flat_len c.next.new.self ≡ flat_len all =
     omega (
       arith,
+      fits g (goal.at.loop-tree-preserved g c).After-flat_len,
       length-shown c.args.entries.now,
       ap length c.requires,
       length-spell all,
-      c.loop-tree.invariant.0,
-      ap flat_len c.in-Some.ensures.rest,
-      flat_rest c.loop-tree.iter,
       c.flat_len.ensures,
       ap flat_len c.remaining.ensures,
     ) in

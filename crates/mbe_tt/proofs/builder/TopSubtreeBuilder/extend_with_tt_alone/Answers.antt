@@ -5,19 +5,23 @@ use Rattle.std.specs.Prelude.{OnOk}
 use Rattle.mbe_tt.specs.Views.Entries.{spell}
 use Rattle.mbe_tt.specs.Views.View.{trees}
 use Rattle.mbe_tt.specs.Trees.Tree.{Forest, alone}
-use Rattle.mbe_tt.specs.Buffers.Building.{put}
+use Rattle.mbe_tt.specs.Buffers.Building.{put, levels_of}
 use Rattle.mbe_tt.specs.Views.Entry.{Entry, Leaf, entry_punct}
 use Rattle.mbe_tt.specs.Trees.Leaf.{punct}
 use Rattle.mbe_tt.specs.Views.Shown.{entries_of, entry_of}
 use Rattle.mbe_tt.specs.declared.tt.Punct.{Punct}
 use Rattle.mbe_tt.specs.declared.tt.Spacing.TheVariants.{Alone}
 use Rattle.mbe_tt.proofs.Buffers.Seen.{length-shown, shown_append}
-use Rattle.mbe_tt.proofs.Buffers.Built.{after_put}
+use Rattle.mbe_tt.proofs.Buffers.Built.{Put, after_put}
 use Rattle.mbe_tt.proofs.Places.Last.{none_is, alone_keeps, alone_punct}
 use Rattle.mbe_tt.proofs.builder.TopSubtreeBuilder.extend_with_tt_alone.Goals as goal
+use Rattle.mbe_tt.proofs.builder.TopSubtreeBuilder.extend_with_tt_alone.Goals.{In-Ok}
 
-pub invariant_of-self-2 : goal.invariant_of-self-2
-invariant_of-self-2 g c =
+-- the trees, the last of them alone, are at the end of what was written
+written : (g : _) (c : In-Ok g) → Put (levels_of (entries_of c.self.inside.entries.items))
+    (alone (trees c.args.view)) (entries_of c.push.new.self.items) (vec_capacity c.push.new.self)
+    c.self.inside.at c.self.inside.depth
+written g c =
     let room : length (entries_of c.push.new.self.items) + c.self.inside.depth ≤ vec_capacity c.push.new.self =
     omega (
       arith,
@@ -48,42 +52,14 @@ invariant_of-self-2 g c =
     ∙ ap (λ (es : List Entry). entries_of c.self.inside.entries.items ++ es)
     (ap (λ (es : List Entry). es ++ Leaf (punct p) ∷ []) (ap entries_of (each_same _ _ added.2))
     ∙ alone_punct (trees c.args.view) _ _ _ whole last))) in
-    (after_put _ _ _ _ _ _ (alone (trees c.args.view)) c.self.invariant w room).building
+    after_put _ _ _ _ _ _ (alone (trees c.args.view)) c.self.invariant w room
+
+pub invariant_of-self-2 : goal.invariant_of-self-2
+invariant_of-self-2 g c = (written g (goal.at.invariant_of-self-2 g c).In-Ok).building
 
 pub returns-clause-ok : goal.returns-clause-ok
 returns-clause-ok g c =
-    let room : length (entries_of c.push.new.self.items) + c.self.inside.depth ≤ vec_capacity c.push.new.self =
-    omega (
-      arith,
-      length-shown c.push.new.self.items,
-      c.in-Ok.ensures.len,
-      c.in-Ok.ensures.capacity,
-      c.saturating_add.ensures,
-      c.in_ok-reserve.ensures.ok,
-      c.in_ok-reserve.ensures.len,
-      c.in_ok-extend_from_slice.ensures.len,
-      c.in_ok-extend_from_slice.ensures.capacity,
-      ap length c.in-Some.ensures.cases.0,
-      length-append c.in-Some.front.now (c.in-Some.last.now ∷ []),
-    ) in
-    let added = c.in_ok-extend_from_slice.ensures.items in
-    let whole : spell (trees c.args.view) ≡ entries_of c.in-Some.front.now ++ entry_of c.in-Some.last.now ∷ [] =
-    sym c.args.view.spelled ∙ shown_append _ _ _ c.in-Some.ensures.cases.0 in
-    let last : entry_punct (entry_of c.in-Some.last.now) ≡ Some c.in-Some-entry_punct.punct =
-    sym c.entry_punct.ensures ∙ c.in-Some-entry_punct.is in
-    let p : Punct = record c.in-Some-entry_punct.punct { spacing = Alone } in
-    let w : entries_of c.push.new.self.items
-    ≡ entries_of c.self.inside.entries.items ++ spell (alone (trees c.args.view)) =
-    shown_append _ _ _ c.in-Ok.ensures.items
-    ∙ (ap (λ (es : List Entry). es ++ Leaf (punct p) ∷ [])
-    (shown_append _ _ _ added.1 ∙ ap (λ (es : List Entry). es ++ entries_of added.0)
-    (ap entries_of c.in_ok-reserve.ensures.items))
-    ∙ (append_assoc (entries_of c.self.inside.entries.items) (entries_of added.0) (Leaf (punct p) ∷ [])
-    ∙ ap (λ (es : List Entry). entries_of c.self.inside.entries.items ++ es)
-    (ap (λ (es : List Entry). es ++ Leaf (punct p) ∷ []) (ap entries_of (each_same _ _ added.2))
-    ∙ alone_punct (trees c.args.view) _ _ _ whole last))) in
-    (after_put _ _ _ _ _ _ (alone (trees c.args.view)) c.self.invariant w room).levels
-    ∙ ap (put (alone (trees c.args.view))) c.self.view_is
+    (written g (goal.at.returns-clause-ok g c).In-Ok).levels ∙ ap (put (alone (trees c.args.view))) c.self.view_is
 
 pub returns-in_default-entry_punct-clause-ok : goal.returns-in_default-entry_punct-clause-ok
 returns-in_default-entry_punct-clause-ok g c =
