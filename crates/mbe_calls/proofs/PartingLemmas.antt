@@ -1,46 +1,18 @@
 -- What is left to be written, as the trees of an argument are written one after another.
-use Rattle.std.proofs.Common.{ℕ, zero, suc, ◌-◌, ◌≡◌, ◌<◌, [], ◌∷◌, length, Some, None, refl, ap, sym, ◌∙◌, arith}
+use Rattle.std.proofs.Common.{ℕ, zero, suc, ◌-◌, ◌≡◌, ◌<◌, ◌∷◌, length, Some, None, refl, ap, sym, ◌∙◌, arith}
 use Rattle.mbe_tt.specs.Buffers.Building.{Levels, put, closed}
 use Rattle.mbe_tt.specs.Trees.Leaf.{Leaf}
-use Rattle.mbe_tt.specs.Trees.Tree.{Forest, Tree, Leaf_tree, Group_tree, none, leaf, group, tree, append, first, rest_of, one_leaf, flat_len}
+use Rattle.mbe_tt.specs.Trees.Tree.{Forest, Leaf_tree, Group_tree, none, leaf, group, first, rest_of, one_leaf}
 use Rattle.mbe_tt.specs.declared.tt.Delimiter.{Delimiter}
 use Rattle.mbe_tt.proofs.Buffers.Built.{length-put}
-use Rattle.mbe_tt.proofs.Buffers.Grown.{put-none}
+use Rattle.mbe_tt.proofs.Buffers.Grown.{put-none, put_one}
+use Rattle.mbe_tt.proofs.Trees.Firsts.{whole, nothing}
 use Rattle.mbe_calls.specs.Parting.{parted_by, parted_in, parted_leaf}
 
 -- what is written of some trees, once the others are, is what is to be written of all
 pub record Left (levels : ℕ) (f : Forest) (old : Levels) (rest : Forest) (now : Levels) : Type 0 where
   pub same : put (parted_by (parted_in (levels - 1)) rest) now ≡ put (parted_in levels f) old
   pub groups : length now ≡ length old
-
-same_some : {A : Type 0} (x y : A) → Some x ≡ Some y → x ≡ y
-same_some x y e = cc
-
--- the first tree, and those after it
-whole : (f : Forest) (t : Tree) → first f ≡ Some t → f ≡ tree t (rest_of f)
-whole none t e = cc
-whole (leaf l rest) t e = ap (λ x. tree x rest) (same_some (Leaf_tree l) t e)
-whole (group d inside rest) t e = ap (λ x. tree x rest) (same_some (Group_tree d inside) t e)
-
-nothing : (f : Forest) → first f ≡ None → f ≡ none
-nothing none e = refl
-nothing (leaf l rest) e = cc
-nothing (group d inside rest) e = cc
-
-pub rest_less : (f : Forest) (t : Tree) → first f ≡ Some t → flat_len (rest_of f) < flat_len f
-rest_less none t e = cc
-rest_less (leaf l rest) t e = omega arith
-rest_less (group d inside rest) t e = omega arith
-
-after_one : (f : Forest) (t : Tree) (h : Forest) → append (append f (tree t none)) h ≡ append f (tree t h)
-after_one none (Leaf_tree l) h = refl
-after_one none (Group_tree d inside) h = refl
-after_one (leaf k rest) t h = ap (leaf k) (after_one rest t h)
-after_one (group d inside rest) t h = ap (group d inside) (after_one rest t h)
-
-put_one : (t : Tree) (h : Forest) (b : Levels) → put h (put (tree t none) b) ≡ put (tree t h) b
-put_one t h [] = refl
-put_one t h (g ∷ outer) = ap (λ (k : Forest). let x : Delimiter × Forest = (g.0, k) in x ∷ outer) (after_one g.1 t h)
 
 pub as_they_are : (levels : ℕ) (f : Forest) → levels ≡ 0 → parted_in levels f ≡ f
 unfolding parted_in

@@ -1,5 +1,5 @@
 -- A path, one name on.
-use Rattle.std.proofs.Common.{◌≡◌, ℕ, suc, ◌-◌, ◌<◌, true, Option, Some, None, refl, ap, sym, ◌∙◌, arith}
+use Rattle.std.proofs.Common.{◌≡◌, ℕ, suc, ◌-◌, ◌<◌, Option, Some, None, refl, ap, sym, ◌∙◌, arith}
 use Rattle.std.specs.Prelude.{option_and_then}
 use Rattle.mbe_tt.specs.Trees.Tree.{Forest}
 use Rattle.mbe_calls.specs.Fronts.{Path, after_colons, path_on, goes_on, longer}

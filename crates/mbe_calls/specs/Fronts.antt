@@ -30,7 +30,8 @@ after_colons f = option_and_then (after_char 58) (after_char 58 f)
 
 -- the path that ends with the name at the front
 abbrev pub path_to : Bool → Forest → Option Path
-path_to is_path f = option_map (λ i. record { first = i; name = i; is_path = is_path; rest = rest_of f }) (front_ident f)
+path_to is_path f =
+    option_map (λ i. record { first = i; name = i; is_path = is_path; rest = rest_of f }) (front_ident f)
 
 -- a path that goes on with the name at the front
 abbrev pub path_on : Ident → Forest → Option Path

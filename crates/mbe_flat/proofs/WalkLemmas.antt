@@ -1,9 +1,9 @@
 -- One token more of a walk over trees: what is still to be written, and how much that is.
-use Rattle.std.proofs.Common.{◌≡◌, ℕ, ◌+◌, List, [], ◌∷◌, ◌++◌, reverse, Some, None, refl, ap, sym, ◌∙◌}
-use Rattle.std.proofs.lemmas.List.{reverse-append}
+use Rattle.std.proofs.Common.{◌≡◌, ℕ, ◌+◌, List, [], ◌∷◌, reverse, Some, None, refl, ap, sym, ◌∙◌}
 use Rattle.mbe_tt.specs.Trees.Leaf.{Leaf}
 use Rattle.mbe_tt.specs.Trees.Tree.{Forest, none, leaf, group, Leaf_tree, Group_tree, first, rest_of, flat_len}
 use Rattle.mbe_tt.specs.declared.tt.Delimiter.{Delimiter}
+use Rattle.mbe_tt.proofs.Trees.Walks.{IsWalk}
 use Rattle.mbe_flat.specs.Writing.{State, a_leaf, opened, closed, written, written_around}
 
 -- the flat tokens of the groups around: their closings, and what follows
@@ -36,71 +36,27 @@ end_step none s h = refl
 end_step (leaf m rest) s h = absurd (cc)
 end_step (group e content rest) s h = absurd (cc)
 
--- ---- turns of the walk
-
-leaf_turn : (around : List (Delimiter × Forest)) (f : Forest) (l : Leaf) (s next whole : State)
-    → Some (Leaf_tree l) ≡ first f → next ≡ a_leaf s l → written_around around (written f s) ≡ whole
-    → written_around around (written (rest_of f) next) ≡ whole
-leaf_turn around f l s next whole h n w =
-    ap (λ t. written_around around (written (rest_of f) t)) n
-    ∙ (ap (written_around around) (sym (leaf_step f l s h)) ∙ w)
-
 around_cons : (around : List (Delimiter × Forest)) (d : Delimiter) (f : Forest) (s : State)
     → written_around ((d, f) ∷ around) s ≡ written_around around (written f (closed s d))
 unfolding written_around
 around_cons around d f s = refl
 
-group_turn : (around : List (Delimiter × Forest)) (f inside : Forest) (d : Delimiter) (s next whole : State)
-    → Some (Group_tree d inside) ≡ first f → next ≡ opened s d (flat_len inside)
-    → written_around around (written f s) ≡ whole
-    → written_around ((d, rest_of f) ∷ around) (written inside next) ≡ whole
-group_turn around f inside d s next whole h n w =
-    ap (λ t. written_around ((d, rest_of f) ∷ around) (written inside t)) n
-    ∙ (around_cons around d (rest_of f) (written inside (opened s d (flat_len inside)))
-    ∙ (ap (written_around around) (sym (group_step f inside d s h)) ∙ w))
-
-pop_turn : (around : List (Delimiter × Forest)) (f rest : Forest) (d : Delimiter) (s next whole : State)
-    → None ≡ first f → next ≡ closed s d → written_around ((d, rest) ∷ around) (written f s) ≡ whole
-    → written_around around (written rest next) ≡ whole
-pop_turn around f rest d s next whole h n w =
-    ap (λ t. written_around around (written rest t)) n
-    ∙ (sym (around_cons around d rest s) ∙ (ap (written_around ((d, rest) ∷ around)) (sym (end_step f s h)) ∙ w))
-
-all_written : (f : Forest) (s whole : State) → None ≡ first f → written_around [] (written f s) ≡ whole → s ≡ whole
+around_none : (s : State) → written_around [] s ≡ s
 unfolding written_around
-all_written f s whole h w = sym (end_step f s h) ∙ w
+around_none s = refl
 
--- ---- the same, where the groups around are a stack that grows at its end
-
-pub begins : (items : List (Delimiter × Forest)) (f g : Forest) (s : State) → items ≡ [] → f ≡ g
-    → written_around (reverse items) (written f s) ≡ written g s
-unfolding written_around
-begins items f g s i e = rw (i, e) refl
+pub walk : IsWalk written written_around (λ s d inside. opened s d (flat_len inside)) closed
+walk = record {
+  group_step = group_step;
+  end_step = end_step;
+  none_around = around_none;
+  one_around = around_cons;
+}
 
 pub leaf_on : (items : List (Delimiter × Forest)) (f after : Forest) (l : Leaf) (s next whole : State)
     → after ≡ rest_of f → Some (Leaf_tree l) ≡ first f → next ≡ a_leaf s l
     → written_around (reverse items) (written f s) ≡ whole → written_around (reverse items) (written after next) ≡ whole
 leaf_on items f after l s next whole e h n w =
-    ap (λ r. written_around (reverse items) (written r next)) e ∙ leaf_turn (reverse items) f l s next whole h n w
-
-pub group_on : (items more : List (Delimiter × Forest)) (f after inside : Forest) (d : Delimiter) (s next whole : State)
-    → after ≡ rest_of f → Some (Group_tree d inside) ≡ first f → next ≡ opened s d (flat_len inside)
-    → more ≡ items ++ ((d, after) ∷ [])
-    → written_around (reverse items) (written f s) ≡ whole → written_around (reverse more) (written inside next) ≡ whole
-group_on items more f after inside d s next whole e h n m w =
-    ap (λ i. written_around (reverse i) (written inside next)) m
-    ∙ (ap (λ i. written_around i (written inside next)) (reverse-append items ((d, after) ∷ []))
-    ∙ (ap (λ r. written_around ((d, r) ∷ reverse items) (written inside next)) e
-    ∙ group_turn (reverse items) f inside d s next whole h n w))
-
-pub pop_on : (items fewer : List (Delimiter × Forest)) (f rest : Forest) (d : Delimiter) (s next whole : State)
-    → None ≡ first f → next ≡ closed s d → items ≡ fewer ++ ((d, rest) ∷ [])
-    → written_around (reverse items) (written f s) ≡ whole → written_around (reverse fewer) (written rest next) ≡ whole
-pop_on items fewer f rest d s next whole h n m w =
-    pop_turn (reverse fewer) f rest d s next whole h n
-    (sym (ap (λ i. written_around i (written f s)) (ap reverse m ∙ reverse-append fewer ((d, rest) ∷ []))) ∙ w)
-
-pub all_done : (items : List (Delimiter × Forest)) (f : Forest) (s whole : State) → None ≡ first f → items ≡ []
-    → written_around (reverse items) (written f s) ≡ whole → s ≡ whole
-all_done items f s whole h i w =
-    all_written f s whole h (sym (ap (λ k. written_around (reverse k) (written f s)) i) ∙ w)
+    ap (λ r. written_around (reverse items) (written r next)) e
+    ∙ (ap (λ t. written_around (reverse items) (written (rest_of f) t)) n
+    ∙ (ap (written_around (reverse items)) (sym (leaf_step f l s h)) ∙ w))

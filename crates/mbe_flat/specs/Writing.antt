@@ -14,63 +14,37 @@ leaf_text (ident i) = i.sym
 leaf_text (literal l) = l.text_and_suffix
 leaf_text (punct p) = []
 
--- a leaf, whose text begins at that byte
-abbrev pub leaf_token : ℕ → Leaf → FlatToken
-leaf_token offset (ident i) = record {
-  kind = 1;
-  sort = raw_sort i.is_raw;
+-- a token that has nothing but its sort and its place
+abbrev pub plain_token : ℕ → ℕ → Span → FlatToken
+plain_token kind sort span = record {
+  kind = kind;
+  sort = sort;
   character = 0;
   hashes = 0;
   suffix_len = 0;
-  span = flat_span i.span;
-  offset = offset;
-  len = length i.sym;
-}
-leaf_token offset (punct p) = record {
-  kind = 2;
-  sort = spacing_sort p.spacing;
-  character = p.char;
-  hashes = 0;
-  suffix_len = 0;
-  span = flat_span p.span;
+  span = flat_span span;
   offset = 0;
   len = 0;
 }
-leaf_token offset (literal l) = record {
-  kind = 3;
-  sort = literal_sort l.kind;
-  character = 0;
+
+-- a leaf, whose text begins at that byte
+abbrev pub leaf_token : ℕ → Leaf → FlatToken
+leaf_token offset (ident i) =
+    record (plain_token 1 (raw_sort i.is_raw) i.span) { offset = offset; len = length i.sym }
+leaf_token offset (punct p) = record (plain_token 2 (spacing_sort p.spacing) p.span) { character = p.char }
+leaf_token offset (literal l) = record (plain_token 3 (literal_sort l.kind) l.span) {
   hashes = hashes l.kind;
   suffix_len = l.suffix_len;
-  span = flat_span l.span;
   offset = offset;
   len = length l.text_and_suffix;
 }
 
 -- an opening, with so many flat tokens inside
 abbrev pub opening_token : DelimiterKind → Span → ℕ → FlatToken
-opening_token kind span len = record {
-  kind = 4;
-  sort = delimiter_sort kind;
-  character = 0;
-  hashes = 0;
-  suffix_len = 0;
-  span = flat_span span;
-  offset = 0;
-  len = len;
-}
+opening_token kind span len = record (plain_token 4 (delimiter_sort kind) span) { len = len }
 
 abbrev pub closing_token : DelimiterKind → Span → FlatToken
-closing_token kind span = record {
-  kind = 5;
-  sort = delimiter_sort kind;
-  character = 0;
-  hashes = 0;
-  suffix_len = 0;
-  span = flat_span span;
-  offset = 0;
-  len = 0;
-}
+closing_token kind span = plain_token 5 (delimiter_sort kind) span
 
 -- what was written
 pub record State : Type 0 where

@@ -24,18 +24,29 @@ pub struct FlatTrees<A: Allocator = Global> {
     pub text: Vec<u8, A>,
 }
 
+// A token that has nothing but its sort and its place.
+fn plain_token(kind: u32, sort: u32, span: Span) -> FlatToken
+    ensures { result ≡ spec.plain_token kind sort span }
+{
+    FlatToken {
+        kind,
+        sort,
+        character: 0,
+        hashes: 0,
+        suffix_len: 0,
+        span: flat_span(span),
+        offset: 0,
+        len: 0,
+    }
+}
+
 fn ident_token<A: Allocator>(ident: &Ident<A>, offset: usize) -> FlatToken
     ensures { result ≡ spec.leaf_token offset (leaves.ident (ident_of ident.now)) }
 {
     FlatToken {
-        kind: IDENT,
-        sort: raw_sort(ident.is_raw),
-        character: 0,
-        hashes: 0,
-        suffix_len: 0,
-        span: flat_span(ident.span),
         offset,
         len: ident.sym.as_str().len(),
+        ..plain_token(IDENT, raw_sort(ident.is_raw), ident.span)
     }
 }
 
@@ -43,14 +54,8 @@ fn punct_token(punct: Punct) -> FlatToken
     ensures { result ≡ spec.leaf_token 0 (leaves.punct punct) }
 {
     FlatToken {
-        kind: PUNCT,
-        sort: spacing_sort(punct.spacing),
         character: punct.char as u32,
-        hashes: 0,
-        suffix_len: 0,
-        span: flat_span(punct.span),
-        offset: 0,
-        len: 0,
+        ..plain_token(PUNCT, spacing_sort(punct.spacing), punct.span)
     }
 }
 
@@ -58,14 +63,11 @@ fn literal_token<A: Allocator>(literal: &Literal<A>, offset: usize) -> FlatToken
     ensures { result ≡ spec.leaf_token offset (leaves.literal (literal_of literal.now)) }
 {
     FlatToken {
-        kind: LITERAL,
-        sort: literal_sort(literal.kind),
-        character: 0,
         hashes: hashes_of(literal.kind),
         suffix_len: literal.suffix_len as u32,
-        span: flat_span(literal.span),
         offset,
         len: literal.text_and_suffix.as_str().len(),
+        ..plain_token(LITERAL, literal_sort(literal.kind), literal.span)
     }
 }
 
@@ -73,30 +75,15 @@ fn opening_token(kind: DelimiterKind, span: Span, len: usize) -> FlatToken
     ensures { result ≡ spec.opening_token kind span len }
 {
     FlatToken {
-        kind: OPENING,
-        sort: delimiter_sort(kind),
-        character: 0,
-        hashes: 0,
-        suffix_len: 0,
-        span: flat_span(span),
-        offset: 0,
         len,
+        ..plain_token(OPENING, delimiter_sort(kind), span)
     }
 }
 
 fn closing_token(kind: DelimiterKind, span: Span) -> FlatToken
     ensures { result ≡ spec.closing_token kind span }
 {
-    FlatToken {
-        kind: CLOSING,
-        sort: delimiter_sort(kind),
-        character: 0,
-        hashes: 0,
-        suffix_len: 0,
-        span: flat_span(span),
-        offset: 0,
-        len: 0,
-    }
+    plain_token(CLOSING, delimiter_sort(kind), span)
 }
 
 impl<A: Allocator + Copy> FlatTrees<A> {

@@ -18,7 +18,8 @@ use Rattle.mbe_bounds.specs.Loop.Kept.{kept}
 use Rattle.mbe_bounds.proofs.Dots.Sift.{room, room_taken}
 use Rattle.mbe_bounds.proofs.Dots.Walk.{len_append}
 use Rattle.mbe_bounds.proofs.Dots.Dots.{number-within}
-use Rattle.mbe_bounds.proofs.Run.BoundedRun.{idle_short, room_all}
+use Rattle.mbe_laws.proofs.Matching.Outlines.{idle_short}
+use Rattle.mbe_bounds.proofs.Run.BoundedRun.{room_all}
 use Rattle.mbe_bounds.proofs.Loop.BoundedPlaces.{same_number}
 
 -- what is still to do: it falls at each turn

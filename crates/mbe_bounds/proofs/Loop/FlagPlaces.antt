@@ -1,5 +1,5 @@
 -- The loop over places, as long as nothing was dropped: the stack, its last on top, is that of the run that holds all.
-use Rattle.std.proofs.Common.{ℕ, ◌+◌, ◌≡◌, List, [], ◌∷◌, map, reverse, ◌∙◌}
+use Rattle.std.proofs.Common.{ℕ, ◌≡◌, List, map, reverse}
 use Rattle.mbe_semantics.specs.Syntax.Op.{Ops}
 use Rattle.mbe_semantics.specs.Readings.Input.{Input}
 use Rattle.mbe_semantics.specs.Readings.Reading.{Beginning, At}

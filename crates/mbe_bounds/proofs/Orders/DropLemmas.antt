@@ -25,6 +25,7 @@ use Rattle.mbe_bounds.specs.Orders.OrderLaws.{DropsLaw}
 use Rattle.mbe_bounds.proofs.Dots.Sift.{equal_or_not, times_same, times_other, plus_plus, some_with}
 use Rattle.mbe_bounds.proofs.Dots.Dots.{same-dot, same-number}
 use Rattle.mbe_bounds.proofs.Orders.Spare.{three_times, sift_few}
+use Rattle.mbe_bounds.proofs.Reports.EndLemmas.{first_sift}
 use Rattle.mbe_bounds.proofs.Run.BoundedRun.{held-is}
 use Rattle.mbe_bounds.proofs.Orders.OrderLemmas.{goes_any, comes-any, ordered-any, in_order}
 
@@ -104,37 +105,6 @@ module _ {A : Type 0} (key : A → ℕ) where
         go n true e = absurd (h n (three n xs d (Rattle.std.proofs.lemmas.Bool.ltb-true 2 (times n (map key xs)) e)))
         go n false e = let a : times n (map key xs) ≤ 2 =
             Rattle.std.proofs.lemmas.Bool.ltb-false 2 (times n (map key xs)) e in omega (arith, a)
-
--- ---- the first that passes
-
-module _ (Good : Beginning → Type 0) (p : Beginning → Bool)
-    (alike : (x y : Beginning) → Good x → Good y → number_of x ≡ number_of y → p x ≡ p y) where
-  first_two_sift : (s : List ℕ) (xs : List Beginning) → ((x : Beginning) → In x xs → Good x)
-      → ((x : Beginning) → Good x → p x ≡ true → times (number_of x) s ≡ 0) →
-      first_that p (sift number_of 2 s xs) ≡ first_that p xs
-  first_two_sift s [] g n = refl
-  first_two_sift s (x ∷ xs) g n = go (p x) refl (λ m. first_two_sift (number_of x ∷ s) xs (λ y h. g y (inr h)) m)
-    where
-      l : List Beginning
-      l = sift number_of 2 (number_of x ∷ s) xs
-
-      drop : (b : Bool) → p x ≡ false → first_that p (cons_if b x l) ≡ first_that p l
-      drop true e = ap (λ c. first_if c x (first_that p l)) e
-      drop false e = refl
-
-      other : p x ≡ false → (y : Beginning) → Good y → p y ≡ true → times (number_of y) (number_of x ∷ s) ≡ 0
-      other e y h f = times_other (number_of y) (number_of x) s
-          (λ d. let c : true ≡ false = sym f ∙ alike y x h (g x (inl refl)) d ∙ e in cc) ∙ n y h f
-
-      go : (b : Bool) → p x ≡ b → (((y : Beginning) → Good y → p y ≡ true → times (number_of y) (number_of x ∷ s) ≡ 0)
-          → first_that p l ≡ first_that p xs) →
-          first_that p (cons_if (nat_lt (times (number_of x) s) 2) x l) ≡ first_if b x (first_that p xs)
-      go true e r =
-          ap (λ b. first_that p (cons_if b x l))
-          (lt-ltb (times (number_of x) s) 2 (let h : times (number_of x) s
-          ≡ 0 = n x (g x (inl refl)) e in omega (arith, h)))
-          ∙ ap (λ b. first_if b x (first_that p l)) e
-      go false e r = drop (nat_lt (times (number_of x) s) 2) e ∙ r (other e)
 
 -- ---- the last that passes
 
@@ -291,7 +261,7 @@ module _ (i : Input) (pat : Ops) (len : ℕ) (lawful : Lawful i len) (checked : 
       first_that p (held_two_each i (dots pat) q xs) ≡ first_that p (held i q xs)
   first-whole q xs v p a =
       ap (first_that p) (two-whole q xs v)
-      ∙ first_two_sift (Begins i pat) p (λ x y c d e. a x y (same-dot i i pat x y c d e)) [] (held i q xs)
+      ∙ first_sift (Begins i pat) p (λ x y c d e. a x y (same-dot i i pat x y c d e)) 2 (omega arith) [] (held i q xs)
       (λ x m. (held-sound i pat len lawful checked q xs v x m).0) (λ x h e. refl)
 
   last-whole : (q : ℕ) (xs : List Beginning) → Inv i pat q xs → (p : Beginning → Bool)

@@ -13,7 +13,6 @@ use Rattle.mbe_semantics.specs.Matching.Story.{story, before, fresh}
 use Rattle.mbe_semantics.specs.Syntax.Nullable.{Checked}
 use Rattle.mbe_semantics.specs.Laws.Lawful.{Lawful}
 use Rattle.mbe_semantics.specs.Matching.Held.{held, moves_of, targets, completions, clashing}
-use Rattle.mbe_semantics.specs.Readings.Ambiguity.{OnlyReading}
 use Rattle.mbe_semantics.specs.Readings.Verdict.{ambiguous, stuck, one_reading, verdict_of, Right, IsVerdict}
 use Rattle.mbe_semantics.specs.Matching.Run.{verdict}
 use Rattle.mbe_laws.proofs.Matching.Forest.{in_left, in_right, in_either, distinct_append}
@@ -21,7 +20,7 @@ use Rattle.mbe_laws.proofs.Matching.Clashes.{from_filter, in_filter, from_target
 use Rattle.mbe_semantics.proofs.Stories.{next-after}
 use Rattle.mbe_laws.proofs.Matching.Law.{Inv, held-sound, held-once}
 use Rattle.mbe_laws.proofs.Matching.Advance.{inv-next, next_fresh, some_width, right-ambiguous, right-stuck, last-place}
-use Rattle.mbe_laws.proofs.Matching.Final.{right_of, reading_of}
+use Rattle.mbe_laws.proofs.Matching.Final.{right_of}
 use Rattle.mbe_semantics.proofs.InputLemmas.{lawful_input}
 use Rattle.mbe_laws.proofs.Matching.RunLemmas.{runs_are_right, one_verdict}
 use Rattle.mbe_semantics.specs.Matching.Dots.{dots, number_of}
@@ -33,8 +32,8 @@ use Rattle.mbe_bounds.specs.Orders.Order.{Reordered, ComesAnyhow, anyhow_start, 
 use Rattle.mbe_bounds.specs.Orders.OrderLaws.{AnyOrderLaw, InOrderLaw, TurnedLaw, TurnedFew, TurnedVerdict, TurnedRunsAreRight, TurnedReadings, TurnedReadingsHeld}
 use Rattle.mbe_bounds.proofs.Dots.Sift.{met, times_met, Full, Left, LeftTwo, sift_append, sift_full, from_sift}
 use Rattle.mbe_bounds.proofs.Dots.Dots.{dot_move, next_alike, number-within, same-number}
-use Rattle.mbe_bounds.proofs.Run.Moves.{same-end, same-one, same-clash, same-width, two_each_once, two_each_one, two_each_two}
-use Rattle.mbe_bounds.proofs.Run.BoundedRun.{Mirrors, mirrors_start, two_each-is, two_each-few, same_held, none_left, some_left, holds_two_each}
+use Rattle.mbe_bounds.proofs.Run.Moves.{same-end, same-clash, same-width, two_each_once, two_each_one, two_each_two}
+use Rattle.mbe_bounds.proofs.Run.BoundedRun.{only_fits, Mirrors, mirrors_start, two_each-is, two_each-few, same_held, none_left, some_left, holds_two_each}
 use Rattle.mbe_bounds.proofs.Orders.Spare.{spare, from_spare, in_part, distinct_spare, parts_differ, two_times, no_longer, turning}
 
 -- where a target comes from
@@ -383,70 +382,46 @@ found order i pat len (suc n) q xs h e =
 pub any_order_law : AnyOrderLaw
 any_order_law g pat argument w k = record {
   right = λ q xs h.
-      let r : Mirrored i pat len l k q xs = comes-any i pat len l k h in
-      subst (HoldsTwoEach g pat argument q) (sym (two_each-is i pat len l k q xs r.0 r.1))
+      let r : Mirrored (input_of g argument) pat (flat_len argument) l k q xs = comes-any _ _ _ l k h in
+      subst (HoldsTwoEach g pat argument q) (sym (two_each-is _ _ _ l k q xs r.0 r.1))
       (holds_two_each g pat argument w k q xs r.0 l k r.1);
-  few = λ q xs h. let a : length xs ≤ dots pat + dots pat = few-any i pat len l k h in (a, omega (arith, a));
-  readings = λ xs h is e. fits xs is (comes-any i pat len l k h) e;
+  few = λ q xs h. let a : length xs ≤ dots pat + dots pat = few-any _ _ _ l k h in (a, omega (arith, a));
+  readings = λ xs h is e.
+      let r : Mirrored (input_of g argument) pat (flat_len argument) l k (flat_len argument) xs =
+      comes-any _ _ _ l k h in
+      only_fits _ _ _ l k xs r.0 is r.1 e;
 }
   where
-    i : Input
-    i = input_of g argument
-
-    len : ℕ
-    len = flat_len argument
-
-    l : Lawful i len
+    l : Lawful (input_of g argument) (flat_len argument)
     l = lawful_input g argument w
-
-    fits : (xs : List Beginning) (is : Items) → Mirrored i pat len l k len xs
-        → completions (held_two_each i (dots pat) len xs) ≡ is ∷ []
-        → Rattle.mbe_semantics.specs.Readings.Ambiguity.Fits g pat argument is
-    fits xs is (zs, v) e = (a.0, fit a.1)
-      where
-        full : completions (held i len zs) ≡ is ∷ []
-        full = same-one is (held i len zs) (ap completions (sym (two_each-is i pat len l k len xs zs v)) ∙ e)
-
-        a : Right i pat len (verdict_of len (is ∷ []))
-        a = subst (λ rs. Right i pat len (verdict_of len rs)) full
-            (right_of i pat len l k zs v.inv (completions (held i len zs)) refl)
-
-        fit : ((js : Items) × OnlyReading i pat len js) → OnlyReading i pat len is
-        fit o =
-            let b : Reading i pat len is = reading_of i pat len l k zs v.inv is (subst (In is) (sym full) (inl refl)) in
-            subst (OnlyReading i pat len) (sym (o.1.1 is b)) o.1
 
 pub in_order_law : InOrderLaw
 unfolding verdict_in
 in_order_law order o g pat argument w k = record {
-  anyhow = λ q xs h. ordered-any i pat len l k order o h;
+  anyhow = λ q xs h. ordered-any _ _ _ l k order o h;
   same = one_verdict g pat argument (verdict_in order g pat argument) (verdict g pat argument) right
       (runs_are_right g pat argument w k);
   right = right;
   readings_held = λ e.
-      let r : OneAt order i pat len = found order i pat len (suc len) 0 (start pat ∷ []) order_start e in (
+      let r : OneAt order (input_of g argument) pat (flat_len argument) =
+      found order (input_of g argument) pat (flat_len argument) (suc (flat_len argument)) 0 (start pat ∷ [])
+      order_start e in (
         r.0,
         r.1,
         r.2,
         r.3,
-        (any_order_law g pat argument w k).readings r.0 (ordered-any i pat len l k order o r.2) r.1
+        (any_order_law g pat argument w k).readings r.0 (ordered-any _ _ _ l k order o r.2) r.1
             r.3,
       );
 }
   where
-    i : Input
-    i = input_of g argument
-
-    len : ℕ
-    len = flat_len argument
-
-    l : Lawful i len
+    l : Lawful (input_of g argument) (flat_len argument)
     l = lawful_input g argument w
 
     right : IsVerdict g pat argument (run_in order (suc (flat_len argument)) (input_of g argument) (dots pat)
         (flat_len argument) 0 (start pat ∷ []))
-    right = run-any i pat len l k order o (suc len) 0 (start pat ∷ []) (start pat ∷ [], mirrors_start i pat len l k)
-        (omega arith) (omega arith)
+    right = run-any _ _ _ l k order o (suc (flat_len argument)) 0 (start pat ∷ [])
+        (start pat ∷ [], mirrors_start _ _ _ l k) (omega arith) (omega arith)
 
 pub turned_law : TurnedLaw
 turned_law g pat argument w k q xs h = (any_order_law g pat argument w k).right q xs

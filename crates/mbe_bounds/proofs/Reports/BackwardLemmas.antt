@@ -25,7 +25,8 @@ use Rattle.mbe_bounds.specs.Reports.Backward.{Visit, enter, leave, visits, visit
 use Rattle.mbe_bounds.proofs.Dots.Sift.{equal_or_not, times_same, times_other, room}
 use Rattle.mbe_bounds.proofs.Dots.Walk.{len_append, steps_for, walk-sifts}
 use Rattle.mbe_bounds.proofs.Dots.Dots.{number-within, idle_numbers, whole-alike, targets-onward}
-use Rattle.mbe_bounds.proofs.Run.BoundedRun.{idle_short, twice}
+use Rattle.mbe_laws.proofs.Matching.Outlines.{idle_short}
+use Rattle.mbe_bounds.proofs.Run.BoundedRun.{twice}
 use Rattle.mbe_bounds.proofs.Reports.EndLemmas.{reverse_flat, numbers_reverse, from_reverse, turned_is, led_at, in_firsts, in_lasts, ends_law}
 
 from_enter : (v : Visit) (xs : List Beginning) → In v (map enter xs) → (x : Beginning) × In x xs × (v ≡ enter x)

@@ -1,5 +1,5 @@
 -- The first and the last of each dot.
-use Rattle.std.proofs.Common.{ℕ, ◌≡◌, inl, inr, Option, Some, None, Bool, true, false, List, [], ◌∷◌, ◌++◌, map, reverse, refl, sym, ◌∙◌, ap, subst, arith}
+use Rattle.std.proofs.Common.{ℕ, ◌≡◌, ◌<◌, inl, inr, Option, Some, None, Bool, true, false, List, [], ◌∷◌, ◌++◌, map, reverse, refl, sym, ◌∙◌, ap, subst, arith}
 use Rattle.std.specs.Prelude.{nat_lt}
 use Rattle.std.specs.List.{flat_map}
 use Rattle.std.proofs.lemmas.Bool.{lt-ltb}
@@ -26,14 +26,15 @@ use Rattle.mbe_bounds.proofs.Dots.Dots.{same-dot, led_to, onward, onward-alike, 
 
 module _ (Good : Beginning → Type 0) (p : Beginning → Bool)
     (alike : (x y : Beginning) → Good x → Good y → number_of x ≡ number_of y → p x ≡ p y) where
-  first_sift : (s : List ℕ) (xs : List Beginning) → ((x : Beginning) → In x xs → Good x)
+  pub first_sift : (m : ℕ) → 0 < m → (s : List ℕ) (xs : List Beginning) → ((x : Beginning) → In x xs → Good x)
       → ((x : Beginning) → Good x → p x ≡ true → times (number_of x) s ≡ 0) →
-      first_that p (sift number_of 1 s xs) ≡ first_that p xs
-  first_sift s [] g n = refl
-  first_sift s (x ∷ xs) g n = go (p x) refl (λ m. first_sift (number_of x ∷ s) xs (λ y h. g y (inr h)) m)
+      first_that p (sift number_of m s xs) ≡ first_that p xs
+  first_sift m some s [] g n = refl
+  first_sift m some s (x ∷ xs) g n =
+      go (p x) refl (λ o. first_sift m some (number_of x ∷ s) xs (λ y h. g y (inr h)) o)
     where
       l : List Beginning
-      l = sift number_of 1 (number_of x ∷ s) xs
+      l = sift number_of m (number_of x ∷ s) xs
 
       drop : (b : Bool) → p x ≡ false → first_that p (cons_if b x l) ≡ first_that p l
       drop true e = ap (λ c. first_if c x (first_that p l)) e
@@ -45,13 +46,13 @@ module _ (Good : Beginning → Type 0) (p : Beginning → Bool)
 
       go : (b : Bool) → p x ≡ b → (((y : Beginning) → Good y → p y ≡ true → times (number_of y) (number_of x ∷ s) ≡ 0)
           → first_that p l ≡ first_that p xs) →
-          first_that p (cons_if (nat_lt (times (number_of x) s) 1) x l) ≡ first_if b x (first_that p xs)
+          first_that p (cons_if (nat_lt (times (number_of x) s) m) x l) ≡ first_if b x (first_that p xs)
       go true e r =
           ap (λ b. first_that p (cons_if b x l))
-          (lt-ltb (times (number_of x) s) 1 (let h : times (number_of x) s
-          ≡ 0 = n x (g x (inl refl)) e in omega (arith, h)))
+          (lt-ltb (times (number_of x) s) m (let h : times (number_of x) s
+          ≡ 0 = n x (g x (inl refl)) e in omega (arith, h, some)))
           ∙ ap (λ b. first_if b x (first_that p l)) e
-      go false e r = drop (nat_lt (times (number_of x) s) 1) e ∙ r (other e)
+      go false e r = drop (nat_lt (times (number_of x) s) m) e ∙ r (other e)
 
 -- ---- turned lists
 
@@ -184,10 +185,11 @@ ends_law g pat argument w k q m ys a b = record {
 
 pub ends_are_kept : EndsAreKept
 ends_are_kept = record {
-  first = λ i pat p xs g a. first_sift (Begins i pat) p (λ x y c d e. a x y (same-dot i i pat x y c d e)) [] xs g
+  first = λ i pat p xs g a.
+      first_sift (Begins i pat) p (λ x y c d e. a x y (same-dot i i pat x y c d e)) 1 (omega arith) [] xs g
       (λ x h e. refl);
   last = λ i pat p xs g a.
       ap (first_that p) (reverse-reverse (firsts (reverse xs)))
-      ∙ first_sift (Begins i pat) p (λ x y c d e. a x y (same-dot i i pat x y c d e)) [] (reverse xs)
+      ∙ first_sift (Begins i pat) p (λ x y c d e. a x y (same-dot i i pat x y c d e)) 1 (omega arith) [] (reverse xs)
       (λ x h. g x (from_reverse x xs h)) (λ x h e. refl);
 }

@@ -1,22 +1,20 @@
 -- The bounded run mirrors the full one.
-use Rattle.std.proofs.Common.{ℕ, zero, suc, ◌+◌, ◌≡◌, ◌<◌, ◌≤◌, inl, Option, Some, None, Bool, true, false, List, [], ◌∷◌, ◌++◌, length, refl, sym, ◌∙◌, ap, subst, arith, eqb-true}
+use Rattle.std.proofs.Common.{ℕ, zero, suc, ◌+◌, ◌≡◌, ◌<◌, ◌≤◌, inl, Option, Some, None, Bool, true, false, List, [], ◌∷◌, length, refl, sym, ◌∙◌, ap, subst, arith, eqb-true}
 use Rattle.std.specs.Prelude.{if◌then◌else◌, ◌==◌}
 use Rattle.std.specs.List.{cons_option}
 use Rattle.mbe_tt.specs.Trees.Tree.{Forest, flat_len}
 use Rattle.mbe_tt.specs.Fragments.Grammar.{Grammar, IsLawful}
-use Rattle.mbe_semantics.specs.declared.kinds.RepeatKind.{RepeatKind}
-use Rattle.mbe_semantics.specs.declared.kinds.RepeatKind.TheVariants.{ZeroOrMore, OneOrMore, ZeroOrOne}
-use Rattle.mbe_semantics.specs.Syntax.Op.{Separator, token, group, variable, repetition, Ops, no_ops, op, names_of, expression}
-use Rattle.mbe_semantics.specs.Readings.Item.{Item, Items, item, item_width, no_items, no_rounds, skipped}
+use Rattle.mbe_semantics.specs.Syntax.Op.{Ops}
+use Rattle.mbe_semantics.specs.Readings.Item.{Items}
 use Rattle.mbe_semantics.specs.Readings.Input.{Input, input_of}
-use Rattle.mbe_semantics.specs.Readings.Reading.{Frame, inside, within, Beginning, dot, At, start, Reading}
-use Rattle.mbe_semantics.specs.Readings.Steps.{matched_by, bound_as, skip_of, again_of, if_none, empty_of, idle, Move, move, next}
+use Rattle.mbe_semantics.specs.Readings.Reading.{Beginning, At, start, Reading}
+use Rattle.mbe_semantics.specs.Readings.Steps.{idle, Move, move, next}
 use Rattle.mbe_semantics.specs.Matching.Lists.{In}
 use Rattle.mbe_semantics.specs.Matching.Story.{story}
 use Rattle.mbe_semantics.specs.Syntax.Nullable.{Checked}
 use Rattle.mbe_semantics.specs.Laws.Lawful.{Lawful}
 use Rattle.mbe_semantics.specs.Matching.Held.{whole, held, moves_of, targets, completions, clashing}
-use Rattle.mbe_semantics.specs.Readings.Ambiguity.{OnlyReading}
+use Rattle.mbe_semantics.specs.Readings.Ambiguity.{Calm, OnlyReading}
 use Rattle.mbe_semantics.specs.Readings.Verdict.{ambiguous, stuck, one_reading, verdict_of, Right, IsVerdict}
 use Rattle.mbe_semantics.specs.Matching.Run.{run, go_on, verdict, Comes, at_start, at_next}
 use Rattle.mbe_laws.proofs.Matching.Forest.{from_flat, in_flat}
@@ -28,6 +26,7 @@ use Rattle.mbe_laws.proofs.Matching.Final.{right_of, reading_of}
 use Rattle.mbe_semantics.proofs.InputLemmas.{lawful_input}
 use Rattle.mbe_laws.proofs.Matching.RunLemmas.{runs_are_right}
 use Rattle.mbe_semantics.specs.Matching.Dots.{dots, number_of}
+use Rattle.mbe_laws.proofs.Matching.Outlines.{idle_short}
 use Rattle.mbe_bounds.specs.Bounded.Dots.{dot_of}
 use Rattle.mbe_bounds.specs.Bounded.Run as from_run
 use Rattle.mbe_bounds.specs.Bounded.TwoEach.{two_each, turns, held_two_each}
@@ -37,39 +36,6 @@ use Rattle.mbe_bounds.proofs.Dots.Sift.{from_sift, sifted_first, room, sift_shor
 use Rattle.mbe_bounds.proofs.Dots.Walk.{steps_for, walk-sifts}
 use Rattle.mbe_bounds.proofs.Dots.Dots.{number-within, same-dot, same-number, onward, onward-alike, targets-onward, whole-alike}
 use Rattle.mbe_bounds.proofs.Run.Moves.{same-end, same-one, same-clash, same-width, some_move, two_each_move, two_each_at, two_each_once, two_each_one, two_each_two}
-
--- ---- at most two idle steps
-
-short_empty : (w : Option Item) (rest : Ops) (is : Items) (up : List Frame) → length (empty_of w rest is up) ≤ 2
-short_empty None rest is up = omega arith
-short_empty (Some x) rest is up = go (item_width x)
-  where
-    go : (n : ℕ) → length (if_none n (dot rest (item is x) up)) ≤ 2
-    go zero = omega arith
-    go (suc n) = omega arith
-
-short_again : (s : Option Separator) (k : RepeatKind) (x z : Beginning) → length (again_of s k x ++ (z ∷ [])) ≤ 2
-short_again (Some c) k x z = omega arith
-short_again None ZeroOrMore x z = omega arith
-short_again None OneOrMore x z = omega arith
-short_again None ZeroOrOne x z = omega arith
-
-short_skip : (k : RepeatKind) (x z : Beginning) → length (x ∷ skip_of k z) ≤ 2
-short_skip ZeroOrMore x z = omega arith
-short_skip OneOrMore x z = omega arith
-short_skip ZeroOrOne x z = omega arith
-
-pub idle_short : (i : Input) (q : ℕ) (x : Beginning) → length (idle i q x) ≤ 2
-idle_short i q (dot no_ops is []) = omega arith
-idle_short i q (dot no_ops is (inside d b rest js ∷ up)) = omega arith
-idle_short i q (dot no_ops is (within b s k rest js rs ∷ up)) = short_again s k _ _
-idle_short i q (dot (op (token t) rest) is up) = short_empty (matched_by (i.token_at t q)) rest is up
-idle_short i q (dot (op (variable name kind span) rest) is up) =
-    short_empty (bound_as name (i.fragment_at kind q)) rest is up
-idle_short i q (dot (op (expression e) rest) is up) = omega arith
-idle_short i q (dot (op (group d b) rest) is up) = omega arith
-idle_short i q (dot (op (repetition b s k) rest) is up) =
-    short_skip k (dot b no_items (within b s k rest is no_rounds ∷ up)) (dot rest (item is (skipped (names_of b))) up)
 
 pub room_all : (n : ℕ) → room number_of 2 n [] ≡ n + n
 unfolding room
@@ -361,33 +327,30 @@ pub bounded_runs_are_right : BoundedRunsAreRight
 bounded_runs_are_right g pat argument w k =
     subst (IsVerdict g pat argument) (sym (same_verdict g pat argument w k)) (runs_are_right g pat argument w k)
 
-pub bounded_readings : BoundedReadings
-bounded_readings g pat argument w k xs h is e =
-    let a : Right i pat len (verdict_of len (is ∷ [])) =
-    subst (λ rs. Right i pat len (verdict_of len rs)) full
-    (right_of i pat len l k r.0 (r.2).inv (completions (held i len r.0)) refl) in
-    (a.0, fit a.1)
+-- what is held alone at the end is the only reading
+pub only_fits : (i : Input) (pat : Ops) (len : ℕ) (l : Lawful i len) (k : Checked pat) (xs zs : List Beginning)
+    (is : Items) → Mirrors i pat len l k len xs zs → completions (held_two_each i (dots pat) len xs) ≡ is ∷ []
+    → Calm i pat × OnlyReading i pat len is
+only_fits i pat len l k xs zs is v e = (a.0, fit a.1)
   where
-    i : Input
-    i = input_of g argument
+    full : completions (held i len zs) ≡ is ∷ []
+    full = same-one is (held i len zs) (ap completions (sym (two_each-is i pat len l k len xs zs v)) ∙ e)
 
-    len : ℕ
-    len = flat_len argument
-
-    l : Lawful i len
-    l = lawful_input g argument w
-
-    r : Followed i pat len l k len xs
-    r = comes-bounded i pat len l k h
-
-    full : completions (held i len r.0) ≡ is ∷ []
-    full = same-one is (held i len r.0) (ap completions (sym (two_each-is i pat len l k len xs r.0 r.2)) ∙ e)
+    a : Right i pat len (verdict_of len (is ∷ []))
+    a = subst (λ rs. Right i pat len (verdict_of len rs)) full
+        (right_of i pat len l k zs v.inv (completions (held i len zs)) refl)
 
     fit : ((js : Items) × OnlyReading i pat len js) → OnlyReading i pat len is
     fit o =
-        let a : Reading i pat len is = reading_of i pat len l k r.0 (r.2).inv is
-        (subst (In is) (sym full) (inl refl)) in
-        subst (OnlyReading i pat len) (sym (o.1.1 is a)) o.1
+        let b : Reading i pat len is = reading_of i pat len l k zs v.inv is (subst (In is) (sym full) (inl refl)) in
+        subst (OnlyReading i pat len) (sym (o.1.1 is b)) o.1
+
+pub bounded_readings : BoundedReadings
+bounded_readings g pat argument w k xs h is e =
+    let l : Lawful (input_of g argument) (flat_len argument) = lawful_input g argument w in
+    let r : Followed (input_of g argument) pat (flat_len argument) l k (flat_len argument) xs =
+    comes-bounded (input_of g argument) pat (flat_len argument) l k h in
+    only_fits (input_of g argument) pat (flat_len argument) l k xs r.0 is r.2 e
 
 -- where the run finds one reading
 abbrev OneAt : Input → Ops → ℕ → Type 0

@@ -1,5 +1,5 @@
 -- Steps of outlines are those of beginnings, and the work that a stack stands for falls.
-use Rattle.std.proofs.Common.{ℕ, zero, suc, ◌+◌, ◌≡◌, ◌<◌, ◌≤◌, Option, Some, None, Bool, true, false, List, [], ◌∷◌, ◌++◌, map, length, refl, ◌∙◌, ap, arith, option_map}
+use Rattle.std.proofs.Common.{ℕ, zero, suc, ◌+◌, ◌≡◌, ◌≤◌, Option, Some, None, Bool, true, false, List, [], ◌∷◌, ◌++◌, map, length, refl, ◌∙◌, ap, arith, option_map}
 use Rattle.mbe_semantics.specs.declared.kinds.RepeatKind.{RepeatKind}
 use Rattle.mbe_semantics.specs.declared.kinds.RepeatKind.TheVariants.{ZeroOrMore, OneOrMore, ZeroOrOne}
 use Rattle.mbe_tt.specs.Trees.Tree.{flat_len}
@@ -144,7 +144,7 @@ short_skip ZeroOrMore x z = omega arith
 short_skip OneOrMore x z = omega arith
 short_skip ZeroOrOne x z = omega arith
 
-idle_short : (i : Input) (q : ℕ) (x : Beginning) → length (idle i q x) ≤ 2
+pub idle_short : (i : Input) (q : ℕ) (x : Beginning) → length (idle i q x) ≤ 2
 idle_short i q (dot no_ops is []) = omega arith
 idle_short i q (dot no_ops is (inside d b rest js ∷ up)) = omega arith
 idle_short i q (dot no_ops is (within b s k rest js rs ∷ up)) = short_again s k _ _
