@@ -167,10 +167,6 @@ module _ {A : Type 0} (g : Grammar) (x : code.Graph A) (w : IsGraph g x) where
       (flat_len (trees x.argument) + 1) s (subst (λ l. In s l) w.steps h) in
       omega arith
 
-  -- a node that is marked is one of them
-  pub marked-inside : (marks : List Bool) (n : ℕ) → length marks ≡ x.count → is_marked marks n ≡ true → n < x.count
-  marked-inside marks n e m = subst (λ k. n < k) e (marked-within marks n m)
-
 -- both are there
 pub some-both : (i : Input) (pat : Ops) (len p : ℕ) (v w : Option Wanted) → PartSome i pat len p v w
     → (v ≡ None → ⊥) × (w ≡ None → ⊥)

@@ -27,15 +27,6 @@ pub rest_smaller : {A : Type 0} (all rest : List (code.Op A)) (x : code.Op A) �
     → ops_size (ops_of rest) < ops_size (ops_of all)
 rest_smaller all rest x e = let same = ap (λ l. ops_size (ops_of l)) e in omega arith
 
--- a body has fewer ops than what it is the body of
-pub group_smaller : (o : Op) (d : Delimiter) (body held : Ops) → o ≡ group d body → held ≡ body
-    → ops_size held < op_size o
-group_smaller o d body held ho hb = let one = ap op_size ho in let two = ap ops_size hb in omega arith
-
-pub repetition_smaller : (o : Op) (body held : Ops) (s : Option Separator) (k : RepeatKind) → o ≡ repetition body s k
-    → held ≡ body → ops_size held < op_size o
-repetition_smaller o body held s k ho hb = let one = ap op_size ho in let two = ap ops_size hb in omega arith
-
 -- ---- what is alike
 
 pub groups_alike : (o p : Op) (d e : Delimiter) (body other held holds : Ops) (opens inside : Bool)

@@ -35,12 +35,6 @@ pub none_left : (pattern : Forest) (levels : ℕ) (w : Bool) (f : Forest) → fi
     → left_of pattern levels w f ≡ none
 none_left pattern levels w f e = ap (left_of pattern levels w) (nothing f e)
 
-pub written_left : (pattern : Forest) (levels : ℕ) (w : Bool) (f : Forest) (t : Tree) → first f ≡ Some t → w ≡ true
-    → left_of pattern levels w f ≡ left_of pattern levels false (rest_of f)
-written_left pattern levels w none t e h = cc
-written_left pattern levels w (leaf l rest) t e h = ap (λ b. left_of pattern levels b (leaf l rest)) h
-written_left pattern levels w (group d inside rest) t e h = ap (λ b. left_of pattern levels b (group d inside rest)) h
-
 pub leaf_left : (pattern : Forest) (levels : ℕ) (w : Bool) (f : Forest) (l : Leaf) → first f ≡ Some (Leaf_tree l)
     → w ≡ false → left_of pattern levels w f ≡ append (kept l (type_at pattern l (rest_of f)))
     (left_of pattern levels (is_some (type_at pattern l (rest_of f))) (rest_of f))

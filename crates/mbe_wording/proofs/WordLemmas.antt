@@ -35,14 +35,6 @@ pub none_left : (b : Builtins) (levels : ℕ) (m : Inside) (n : ℕ) (c : Before
     → left_of b levels m n c f ≡ none
 none_left b levels m n c f e = ap (left_of b levels m n c) (nothing f e)
 
--- one that goes with an earlier one
-pub taken_left : (b : Builtins) (levels : ℕ) (m : Inside) (n : ℕ) (c : Before) (f : Forest) (t : Tree)
-    → first f ≡ Some t → 0 < n → left_of b levels m n c f ≡ left_of b levels m (n - 1) c (rest_of f)
-taken_left b levels m n c none t e h = cc
-taken_left b levels m n c (leaf l rest) t e h = ap (λ k. left_of b levels m k c (leaf l rest)) (one_more n h)
-taken_left b levels m n c (group d held rest) t e h =
-    ap (λ k. left_of b levels m k c (group d held rest)) (one_more n h)
-
 pub leaf_left : (b : Builtins) (levels : ℕ) (m : Inside) (n : ℕ) (c : Before) (f : Forest) (l : Leaf)
     → first f ≡ Some (Leaf_tree l) → n ≡ 0
     → left_of b levels m n c f ≡ append (one_leaf (kept l (number_at b m c l (rest_of f))))

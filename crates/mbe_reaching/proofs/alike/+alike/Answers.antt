@@ -2,7 +2,7 @@ use Rattle.std.proofs.Common.{◌∙◌, ap, arith}
 use Rattle.std.specs.Prelude.{option_map}
 use Rattle.mbe_ops.specs.Views.{op_of, ops_of, separator_seen}
 use Rattle.mbe_ops.proofs.OpViews.{view-open, view-open_repeat}
-use Rattle.mbe_reaching.proofs.Sizes.{first_smaller, rest_smaller, group_smaller, repetition_smaller, groups_alike, repetitions_alike}
+use Rattle.mbe_reaching.proofs.Sizes.{first_smaller, rest_smaller, groups_alike, repetitions_alike}
 use Rattle.mbe_reaching.proofs.alike.+alike.Goals as goal
 
 pub are_alike-is_like-requires : goal.are_alike-is_like-requires
