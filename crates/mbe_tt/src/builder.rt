@@ -68,6 +68,13 @@ impl<A: Allocator> TopSubtreeBuilder<A> {
         })
     }
 
+    /// Takes room for so many flat tokens more. `AllocError` if out of memory.
+    pub fn reserve(&mut self, more: usize) -> Result<(), AllocError>
+        ensures { self.new ≡ self.old }
+    {
+        self.entries.reserve(more.saturating_add(self.depth))
+    }
+
     /// Writes a leaf at the end of the innermost open group. `AllocError` if out of memory.
     #[inline(always)]
     pub fn push(&mut self, leaf: Leaf<A>) -> Result<(), AllocError>
