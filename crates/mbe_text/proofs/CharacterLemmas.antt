@@ -5,13 +5,13 @@ use Rattle.std.proofs.lemmas.Str.{chars-nil, encode_ascii, chars_past_char, IsUt
 use Rattle.std.proofs.lemmas.Bool.{false≢true}
 use Rattle.std.proofs.lemmas.Bool.Decides.{nat_tests}
 use Rattle.std.proofs.Math.Seq.{take-append_seam, drop-append_seam}
-use Rattle.std.proofs.Common.{nat_lt, nat_le, ◌&&◌, ◌||◌, ◌==◌, ◌+◌}
-use Rattle.std.specs.Char.{is_ascii_alphabetic, is_ascii_alphanumeric}
+use Rattle.std.proofs.Common.{nat_lt, nat_le, not, codes, ◌&&◌, ◌||◌, ◌==◌, ◌+◌}
+use Rattle.std.specs.Char.{is_ascii_alphabetic, is_ascii_alphanumeric, char_set_contains}
 use Rattle.std.proofs.lemmas.List.{at_drop_all, at_drop_more, take-append-drop}
 use Rattle.unicode_ident.specs.Ident.{is_xid_start, is_xid_continue}
 use Rattle.unicode_ident.proofs.IdentLemmas.{is_xid_start-ascii, is_xid_continue-ascii}
 use Rattle.mbe_text.specs.declared.characters.Class.{Class}
-use Rattle.mbe_text.specs.declared.characters.Class.TheVariants.{IdentStart}
+use Rattle.mbe_text.specs.declared.characters.Class.TheVariants.{IdentStart, Decimal, Punct}
 use Rattle.mbe_text.specs.Characters.{begins, begins_with, has, past, are_ascii, bytes_before}
 use Rattle.mbe_text.specs.Ends.{IsEnd, IsRest}
 use Rattle.mbe_text.proofs.Reading.{rest_after}
@@ -254,3 +254,42 @@ and_true false = refl
 
 pub not_first : (c d : ℕ) (cs : List ℕ) → begins_with (d ∷ []) (c ∷ cs) ≡ false → (c == d) ≡ false
 not_first c d cs h = sym (and_true (c == d)) ∙ h
+
+-- a character that begins an identifier is no slash
+pub start_no_slash : (c : ℕ) (r : Bool) → r ≡ has IdentStart c → r ≡ true → (c == 47) ≡ false
+start_no_slash c r e t = sym (is_false (c == 47) (λ s.
+    let same : c ≡ 47 = grind (arith, nat_tests) in
+    let x : is_xid_start 47 ≡ false = is_xid_start-ascii 47 (omega arith) in
+    let no : has IdentStart 47 ≡ false = ap (λ (b : Bool). b || (47 == 95)) x in
+    false≢true (sym no ∙ (ap (has IdentStart) (sym same) ∙ (sym e ∙ t)))))
+
+-- none of these is such
+abbrev none_is : (ℕ → Bool) → List ℕ → Bool
+none_is p [] = true
+none_is p (d ∷ ds) = not (p d) && none_is p ds
+
+not_true : (b : Bool) → not b ≡ true → b ≡ false
+not_true true h = cc
+not_true false h = refl
+
+first_or : (p : ℕ → Bool) (d c : ℕ) (ds : List ℕ) (b : Bool) → (d == c) ≡ b → (b || char_set_contains ds c) ≡ true
+    → not (p d) ≡ true → (char_set_contains ds c ≡ true → p c ≡ false) → p c ≡ false
+first_or p d c ds true e t n i = let same : d ≡ c = grind (arith, nat_tests) in ap p (sym same) ∙ not_true (p d) n
+first_or p d c ds false e t n i = i t
+
+not_among : (p : ℕ → Bool) (ds : List ℕ) (c : ℕ) → none_is p ds ≡ true → char_set_contains ds c ≡ true → p c ≡ false
+not_among p [] c n h = absurd (false≢true h)
+not_among p (d ∷ ds) c n h =
+    let these = both_true (not (p d)) (none_is p ds) n in
+    first_or p d c ds (d == c) refl h these.0 (not_among p ds c these.1)
+
+-- a punct is no digit and no quote
+pub punct_other : (c : ℕ) (r : Bool) → r ≡ has Punct c → r ≡ true
+    → (has Decimal c ≡ false) × ((c == 34) ≡ false) × ((c == 39) ≡ false)
+punct_other c r e t =
+    let puncts = codes "=<>!&|~@.,;:#$?+-*/%^" in
+    let is : char_set_contains puncts c ≡ true = sym e ∙ t in (
+      not_among (λ (d : ℕ). has Decimal d) puncts c refl is,
+      not_among (λ (d : ℕ). d == 34) puncts c refl is,
+      not_among (λ (d : ℕ). d == 39) puncts c refl is,
+    )

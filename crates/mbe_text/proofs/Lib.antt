@@ -2,6 +2,7 @@ pub mod Attributes
 pub mod BlankLemmas
 pub mod BlanksFirst
 pub mod CharacterLemmas
+pub mod CommonLemmas
 pub mod DivisionLemmas
 pub mod DocLemmas
 pub mod Fronts

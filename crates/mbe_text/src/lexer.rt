@@ -72,6 +72,7 @@ impl From<AllocError> for LexError {
 }
 
 // Adds the token at the end of the innermost open group. A closing that doesn't fit that group is a fault.
+#[inline(always)]
 fn add<A: Allocator + Copy>(
     builder: &mut TopSubtreeBuilder<A>,
     table: &mut SymbolTable<A>,
@@ -112,6 +113,21 @@ fn add<A: Allocator + Copy>(
             }))?)
         }
     }
+}
+
+// The same as a call: the loop has `add` itself for the commonest tokens, and this for the others.
+#[inline(never)]
+fn add_any<A: Allocator + Copy>(
+    builder: &mut TopSubtreeBuilder<A>,
+    table: &mut SymbolTable<A>,
+    token: Token<'_>,
+) -> Result<(), LexError>
+    requires some_byte { token.span.start < token.span.end }
+    requires some_group { 0 < length builder.old }
+    ensures ok { OnOk result (Adds (token_item token.entry) builder.old builder.new) }
+    ensures err { IfErr result (FaultsAt (token_item token.entry) builder.old) }
+{
+    add(builder, table, token)
 }
 
 // Adds a lifetime: a joint `'`, and the identifier right after it.
@@ -364,8 +380,16 @@ pub fn lex_as_in<A: Allocator + Copy>(
     let mut scanner = Scanner::new(dialect, text, file);
     let whole = Delimiter::invisible_spanned(file_span(file, 0, len));
     let mut builder = TopSubtreeBuilder::new(table.alloc(), whole)?;
-    'tokens: while let Some(token) = scanner.token()? {
-        add(&mut builder, table, token)?;
+    builder.reserve(text.len() / 4)?;
+    'tokens: loop {
+        if let Some(token) = scanner.common() {
+            add(&mut builder, table, token)?;
+            continue;
+        }
+        let Some(token) = scanner.token()? else {
+            break;
+        };
+        add_any(&mut builder, table, token)?;
     }
     if is_unclosed(dialect, &builder) {
         return Err(LexError::Fault(LexFault {

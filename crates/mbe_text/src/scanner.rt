@@ -4,21 +4,24 @@ ghost use Rattle.std.specs.Prelude.{ℕ, true, List, [], ◌++◌, ◌∷◌, If
 ghost use Rattle.std.specs.Prelude.{encode_utf8, slice_range, chars, drop, Some, None, Ok, Err, MatchOption, MatchResult, false, ◌==◌, ◌&&◌, IsTrue, is_some, unwrap_or};
 ghost use Rattle.std.specs.Str.{IsUtf8};
 ghost use Rattle.mbe_tt.specs.Trees.Literals.{opening, closing};
-ghost use Rattle.mbe_text.specs.Ends.{IsRest, Begins};
+ghost use Rattle.mbe_text.specs.Ends.{IsRest, IsEnd, Begins};
 ghost use Rattle.mbe_text.specs.Characters as characters;
 ghost use Rattle.mbe_text.specs.Characters.{bytes_before};
 ghost use Rattle.mbe_text.specs.Dialect.{read_sample, read_shape};
 ghost use Rattle.mbe_text.specs.Dialect as dialects;
 ghost use Rattle.mbe_text.specs.Division.{IsNext, next_token};
 ghost use Rattle.mbe_text.specs.Signs as signs;
-ghost use Rattle.mbe_text.specs.Shapes.{Gives};
+ghost use Rattle.mbe_text.specs.Shapes.{Gives, shape_of};
 ghost use Rattle.mbe_text.specs.Blanks.{PassesBlock, begins_comment, blank};
 ghost use Rattle.mbe_text.specs.Trivia.{PassesBlanks, after_head, is_doc, past_mark, past_shebang};
 ghost use Rattle.mbe_text.specs.Faults.{fault_at};
 ghost use Rattle.mbe_text.specs.declared.dialect.Dialect.TheVariants.{Sample};
 ghost use Rattle.mbe_text.specs.Words as words;
+ghost use Rattle.mbe_text.specs.Words.{read_identifier};
+ghost use Rattle.mbe_text.specs.Signs.{read_sign};
+ghost use Rattle.mbe_text.specs.declared.wrong.Wrong.TheVariants as wrong;
 ghost use Rattle.mbe_text.specs.Literals as literals;
-ghost use Rattle.mbe_text.specs.declared.characters.Class.TheVariants.{InLine};
+ghost use Rattle.mbe_text.specs.declared.characters.Class.TheVariants.{InLine, Decimal};
 ghost use Rattle.mbe_text.specs.Tokens.{bytes_of, token_item, item_text, lexeme_text};
 
 use crate::characters::{
@@ -139,6 +142,102 @@ fn begins_hashes(rest: &str) -> bool
     begins(rest, Class::Hash) && begins_with(past(rest, Class::Hash), "\"")
 }
 
+// A punct is joint where the next one begins right after it. The `/` of a comment is none.
+#[inline(always)]
+fn spacing_before(rest: &str) -> Spacing
+    ensures { result ≡ signs.spacing_before (chars rest.now) }
+{
+    if begins(rest, Class::Punct) && !is_at_comment(rest) {
+        Spacing::Joint
+    } else {
+        Spacing::Alone
+    }
+}
+
+#[inline(always)]
+fn is_at_comment(rest: &str) -> bool
+    ensures { result ≡ begins_comment (chars rest.now) }
+{
+    begins_with(rest, "//") || begins_with(rest, "/*")
+}
+
+// The punct, or the side of a group, that this character is before this rest.
+#[inline(always)]
+#[tactic(auto, using(crate::proofs::CharacterLemmas::punct_other))]
+fn sign_of<'t>(char: char, rest: &'t str) -> Option<Lexeme<'t>>
+    ensures exact { MatchOption result
+        ((total : ℕ) → read_sign total (char ∷ chars rest.now)
+        ≡ Err (fault_at wrong.Start total (char ∷ chars rest.now)))
+        (λ l. (total : ℕ) → read_sign total (char ∷ chars rest.now)
+        ≡ Ok (shape_of l, chars rest.now)) }
+    ensures text { IfSome result (λ l. encode_utf8 char ≡ lexeme_text l) }
+    ensures other { IfSome result (λ _. (characters.has Decimal char ≡ false)
+        × ((char == 34) ≡ false) × ((char == 39) ≡ false)) }
+{
+    match char {
+        '(' => Some(Lexeme::Open(DelimiterKind::Parenthesis)),
+        '[' => Some(Lexeme::Open(DelimiterKind::Bracket)),
+        '{' => Some(Lexeme::Open(DelimiterKind::Brace)),
+        ')' => Some(Lexeme::Close(DelimiterKind::Parenthesis)),
+        ']' => Some(Lexeme::Close(DelimiterKind::Bracket)),
+        '}' => Some(Lexeme::Close(DelimiterKind::Brace)),
+        _ if Class::Punct.has(char) => Some(Lexeme::Punct {
+            char,
+            spacing: spacing_before(rest),
+        }),
+        _ => None,
+    }
+}
+
+// The identifier that the text begins with, whose first character is before `after`. None where it may be raw, or begin a
+// literal.
+#[inline(always)]
+fn common_word<'t>(text: &'t str, after: &'t str) -> Option<(Lexeme<'t>, &'t str)>
+    requires end { IsEnd text.now after.now }
+    requires rest { chars after.now ≡ drop 1 (chars text.now) }
+    ensures exact { IfSome result (λ r. (total : ℕ)
+        → read_identifier total (chars text.now) ≡ Ok (shape_of r.0, chars r.1.now)) }
+    ensures reads { IfSome result (λ r. text.now ≡ lexeme_text r.0 ++ r.1.now) }
+    ensures end { IfSome result (λ r. IsEnd after.now r.1.now) }
+{
+    if begins_with(text, "r#") {
+        return None;
+    }
+    let rest = past(after, Class::IdentContinue);
+    let name = before(text, rest);
+    if begins_literal(name, rest) {
+        return None;
+    }
+    let lexeme = Lexeme::Ident {
+        name,
+        is_raw: IdentIsRaw::No,
+    };
+    Some((lexeme, rest))
+}
+
+// The token of the sample dialect that the text begins with, and what is left after it, where it is a word or a sign, as most
+// are. What begins with a `/` may be a comment.
+#[inline(always)]
+fn common_lexeme(text: &str) -> Option<(Lexeme<'_>, &str)>
+    ensures exact { IfSome result (λ r. (total : ℕ)
+        → read_sample total (chars text.now) ≡ Ok (shape_of r.0, chars r.1.now)) }
+    ensures begins { IfSome result (λ _. (c : ℕ) × (rest : List ℕ)
+        × (chars text.now ≡ c ∷ rest) × ((c == 47) ≡ false)) }
+    ensures reads { IfSome result (λ r. text.now ≡ lexeme_text r.0 ++ r.1.now) }
+    ensures end { IfSome result (λ r. IsEnd text.now r.1.now) }
+    ensures shorter { IfSome result (λ r. length r.1.now < length text.now) }
+{
+    let (char, after) = split_first(text)?;
+    if Class::IdentStart.has(char) {
+        return common_word(text, after);
+    }
+    if char == '/' {
+        return None;
+    }
+    let lexeme = sign_of(char, after)?;
+    Some((lexeme, after))
+}
+
 impl<'t> Scanner<'t> {
     ghost use Rattle.mbe_text.specs.Scanning.{GoesOn, Advances};
 
@@ -252,9 +351,19 @@ impl<'t> Scanner<'t> {
         ensures exact { chars self.new.rest.now
             ≡ characters.past (blank self.old.dialect) (chars self.old.rest.now) }
     {
+        self.rest = self.after_blanks();
+    }
+
+    // What is left after white space.
+    #[inline(always)]
+    fn after_blanks(&self) -> &'t str
+        ensures exact { chars result.now
+            ≡ characters.past (blank self.now.dialect) (chars self.now.rest.now) }
+        ensures end { IsEnd self.now.rest.now result.now }
+    {
         match self.dialect {
-            Dialect::Sample => self.pass(Class::Blank),
-            Dialect::Rust(_) => self.pass(Class::Space),
+            Dialect::Sample => past(self.rest, Class::Blank),
+            Dialect::Rust(_) => past(self.rest, Class::Space),
         }
     }
 
@@ -697,25 +806,6 @@ impl<'t> Scanner<'t> {
         self.literal(digits, kind)
     }
 
-    // A punct is joint where the next one begins right here. The `/` of a comment is none.
-    #[inline(always)]
-    fn spacing(&self) -> Spacing
-        ensures { result ≡ signs.spacing_before (chars self.now.rest.now) }
-    {
-        if begins(self.rest, Class::Punct) && !self.is_at_comment() {
-            Spacing::Joint
-        } else {
-            Spacing::Alone
-        }
-    }
-
-    #[inline(always)]
-    fn is_at_comment(&self) -> bool
-        ensures { result ≡ begins_comment (chars self.now.rest.now) }
-    {
-        begins_with(self.rest, "//") || begins_with(self.rest, "/*")
-    }
-
     // Passes a punct, or one side of a group. Another character is a fault.
     #[inline(always)]
     fn sign(&mut self) -> Result<Lexeme<'t>, LexFault>
@@ -729,22 +819,15 @@ impl<'t> Scanner<'t> {
             result (chars self.new.rest.now) }
     {
         let start = self.offset();
-        match self.bump() {
-            Some('(') => Ok(Lexeme::Open(DelimiterKind::Parenthesis)),
-            Some('[') => Ok(Lexeme::Open(DelimiterKind::Bracket)),
-            Some('{') => Ok(Lexeme::Open(DelimiterKind::Brace)),
-            Some(')') => Ok(Lexeme::Close(DelimiterKind::Parenthesis)),
-            Some(']') => Ok(Lexeme::Close(DelimiterKind::Bracket)),
-            Some('}') => Ok(Lexeme::Close(DelimiterKind::Brace)),
-            Some(char) if Class::Punct.has(char) => Ok(Lexeme::Punct {
-                char,
-                spacing: self.spacing(),
-            }),
-            _ => Err(LexFault {
-                offset: start,
-                wrong: Wrong::Start,
-            }),
+        if let Some(char) = self.bump()
+            && let Some(lexeme) = sign_of(char, self.rest)
+        {
+            return Ok(lexeme);
         }
+        Err(LexFault {
+            offset: start,
+            wrong: Wrong::Start,
+        })
     }
 
     // Passes the token of the sample dialect that begins with this character, which is here.
@@ -861,8 +944,44 @@ impl<'t> Scanner<'t> {
         }
     }
 
+    // The next token, where it is a word or a sign of the sample dialect and no comment is before it. What `token` returns
+    // is written through pointers, which most tokens needn't be.
+    #[inline(always)]
+    pub(crate) fn common(&mut self) -> Option<Token<'t>>
+        ensures none { IfNone result (self.new.rest.now ≡ self.old.rest.now) }
+        ensures on { GoesOn self.old self.new }
+        ensures sample { IfSome result (λ t. self.old.dialect ≡ Sample) }
+        ensures past { IfSome result (λ t. length self.new.rest.now < length self.old.rest.now) }
+        ensures start { IfSome result (λ t. t.span.start ≤ self.old.total) }
+        ensures span { IfSome result (λ t.
+            t.span ≡ bytes_of self.old.file t.span.start t.span.end) }
+        ensures following { IfSome result (λ t.
+            self.old.total ≤ t.span.start + length self.old.rest.now) }
+        ensures some { IfSome result (λ t. t.span.start < t.span.end) }
+        ensures up_to { IfSome result (λ t.
+            t.span.end + length self.new.rest.now ≡ self.old.total) }
+        ensures spelled { IfSome result (λ t.
+            slice_range self.old.text.now t.span.start t.span.end ≡ item_text (token_item t)) }
+        ensures exact { IfSome result (λ t. IsNext self.old.file self.old.total
+            (next_token self.old.dialect self.old.total (chars self.old.rest.now))
+            (Ok (Some t)) (chars self.new.rest.now)) }
+    {
+        match self.dialect {
+            Dialect::Rust(_) => return None,
+            Dialect::Sample => {}
+        }
+        let text = self.after_blanks();
+        let (lexeme, rest) = common_lexeme(text)?;
+        let start = offset(self.total, text);
+        let end = offset(self.total, rest);
+        self.rest = rest;
+        let span = file_span(self.file, start, end);
+        Some(Token { lexeme, span })
+    }
+
     /// Consumes white space, comments and the next token, and returns the token; `None` at the end of the text. `LexFault` if what
     /// is there isn't a token or a comment.
+    #[inline(never)]
     pub fn token(&mut self) -> Result<Option<Token<'t>>, LexFault>
         ensures on { GoesOn self.old self.new }
         ensures past { IfOk result (λ token. IsSome token
