@@ -1,5 +1,5 @@
 -- Rounds whose commands bind a name each, no two the same one.
-use Rattle.std.specs.Prelude.{◌≡◌, ◌<◌, ◌+◌, ℕ, zero, suc, List, [], ◌∷◌, ◌++◌, map, take, drop, slice_get, Option, Some, None, Bool, true, false, if◌then◌else◌, refl}
+use Rattle.std.specs.Prelude.{◌≡◌, ◌+◌, ℕ, zero, suc, List, [], ◌∷◌, ◌++◌, map, take, drop, slice_get, Some, None, true, false, if◌then◌else◌, refl}
 use Rattle.std.proofs.Common.{arith, sym, ap, subst, ◌∙◌, append_assoc}
 use Rattle.std.proofs.lemmas.List.{append-nil, map-append}
 use Rattle.std.proofs.lemmas.Map.Keys.{IsDistinct-head, IsDistinct-tail, IsDistinct-cons}
@@ -21,7 +21,7 @@ use Rattle.mbe_semantics.specs.Syntax.Op.{Name}
 use Rattle.mbe_semantics.specs.Bindings.Environment.{Environment, Value, fragment, empty, missing, value_of, set_value}
 use Rattle.mbe_semantics.specs.Bindings.Account.{Command, Commands, no_commands, command, Log, Gives, add_round_in, grown_in, nothing_taken, run, run_command}
 use Rattle.mbe_log.proofs.BindingLemmas.{values_of, grown-some}
-use Rattle.mbe_log.proofs.BuildLemmas.{get-map, command_head, end_of, flat_gives, take-none}
+use Rattle.mbe_log.proofs.BuildLemmas.{command_head, end_of, flat_gives, take-none}
 
 -- ---- lists
 
@@ -78,8 +78,8 @@ module _ {A : Type 0} where
       → IsDistinct bytes_eq (names_of (values_of es))
   names-distinct es d = subst (IsDistinct bytes_eq) (names-are es) d
 
-  pub name-found : (es : List (Name × Binding A)) (i : ℕ) (name : Name) (x : Binding A) → Some (name, x) ≡ slice_get es i
-      → Some name ≡ slice_get (names_of (values_of es)) i
+  pub name-found : (es : List (Name × Binding A)) (i : ℕ) (name : Name) (x : Binding A)
+      → Some (name, x) ≡ slice_get es i → Some name ≡ slice_get (names_of (values_of es)) i
   name-found [] i name x h = cc
   name-found (e ∷ es) zero name x h = let k : e ≡ (name, x) = cc in ap (λ p. Some p.0) (sym k)
   name-found (e ∷ es) (suc i) name x h = name-found es i name x h
@@ -232,8 +232,9 @@ module _ {A : Type 0} where
   Written es i name u w = (value_of (values_of es) name ≡ Some (value_seen u))
       × (values_of (set_value_at es i w) ≡ set_value (values_of es) name (value_seen w))
 
-  written-at : (es : List (Name × Binding A)) (i : ℕ) (name : Name) (u w : Binding A) → IsDistinct bytes_eq (names_of (values_of es))
-      → slice_get (names_of (values_of es)) i ≡ Some name → slice_get (map (λ e. e.1) es) i ≡ Some u → Written es i name u w
+  written-at : (es : List (Name × Binding A)) (i : ℕ) (name : Name) (u w : Binding A)
+      → IsDistinct bytes_eq (names_of (values_of es)) → slice_get (names_of (values_of es)) i ≡ Some name
+      → slice_get (map (λ e. e.1) es) i ≡ Some u → Written es i name u w
   written-at [] i name u w d h k = cc
   written-at (e ∷ es) zero name u w d h k =
       let n : e.0 ≡ name = cc in

@@ -1,6 +1,7 @@
 // What the names of a match are bound to. A binding is what a template writes for `$x`: the trees that the variable took,
 // or, if `$x` is in a repetition, a list with a binding for each round, to the depth of the repetitions around it.
-ghost use Rattle.std.specs.Prelude.{◌≡◌, ◌+◌, ◌-◌, ◌≤◌, ◌^◌, min, [], length, map, IfOk, IsTrue, OnOk, OnErr, Some, option_map, slice_get};
+ghost use Rattle.std.specs.Prelude.{◌≡◌, ◌+◌, ◌-◌, ◌≤◌, ◌^◌, min, [], length, map, IfOk, IsTrue};
+ghost use Rattle.std.specs.Prelude.{OnOk, OnErr, Some, option_map, slice_get};
 ghost use Rattle.std.specs.List.{IsDistinct};
 ghost use Rattle.std.specs.Str.{bytes_eq};
 ghost use Rattle.mbe_log.specs.Rows.{names_of};

@@ -476,7 +476,7 @@ fn bind_those_from<A: Allocator>(
     true
 }
 
-// What the command binds is one value more of its name's list, most likely the one at this index. Nested ones are passed by.
+// What the command binds is one value more of its name's list, most likely the one at this index. Nested ones pass by.
 fn grow_own<'a, A: Allocator + Copy>(
     alloc: A,
     command: &Command<'a, A>,
@@ -664,9 +664,10 @@ fn bind_round<'a, A: Allocator + Copy>(
 {
     // Most rounds bind one variable, which needs no map of its own.
     if let Some(Command::Fragment(name, fragment)) = only(commands, part) {
-        bindings.grow(
+        bindings.grow_at(
             alloc,
             number,
+            start,
             name,
             Binding::Fragment(fragment.try_clone()?),
         )?;
@@ -676,8 +677,21 @@ fn bind_round<'a, A: Allocator + Copy>(
     if let Some((Command::Fragment(name, one), Command::Fragment(other, two))) = two(commands, part)
         && name != other
     {
-        bindings.grow(alloc, number, name, Binding::Fragment(one.try_clone()?))?;
-        bindings.grow(alloc, number, other, Binding::Fragment(two.try_clone()?))?;
+        bindings.grow_at(
+            alloc,
+            number,
+            start,
+            name,
+            Binding::Fragment(one.try_clone()?),
+        )?;
+        let after = start.saturating_add(1);
+        bindings.grow_at(
+            alloc,
+            number,
+            after,
+            other,
+            Binding::Fragment(two.try_clone()?),
+        )?;
         return Ok(());
     }
     // Most rounds bind the names of the one before, in their order.
