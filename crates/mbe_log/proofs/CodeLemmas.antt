@@ -1,5 +1,5 @@
 -- The calls of a log, on the code's lists.
-use Rattle.std.specs.Prelude.{◌≡◌, ◌<◌, ◌≤◌, ◌+◌, ℕ, suc, List, [], ◌∷◌, ◌++◌, length, map, slice_get, Option, Some, None, Result, Ok, Err, IfOk, refl}
+use Rattle.std.specs.Prelude.{◌≡◌, ◌≤◌, ◌+◌, ℕ, suc, List, [], ◌∷◌, ◌++◌, length, map, slice_get, Option, Some, None, Result, Ok, Err, IfOk, refl}
 use Rattle.std.proofs.Common.{arith, sym, ap, subst, ◌∙◌, get_or}
 use Rattle.mbe_semantics.specs.declared.log.Part.{Part}
 use Rattle.mbe_log.specs.declared.log.Command as code

@@ -7,5 +7,6 @@ pub mod CountLemmas
 pub mod CodeLemmas
 pub mod LogLemmas
 pub mod OrderLemmas
+pub mod RowLemmas
 pub mod SoundLemmas
 pub mod StepLemmas

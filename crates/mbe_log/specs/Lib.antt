@@ -6,5 +6,6 @@ pub mod Collected
 pub mod Entries
 pub mod Growing
 pub mod Printed
+pub mod Rows
 pub mod Shared
 pub mod Sound

@@ -1,6 +1,10 @@
 // What the names of a match are bound to. A binding is what a template writes for `$x`: the trees that the variable took,
 // or, if `$x` is in a repetition, a list with a binding for each round, to the depth of the repetitions around it.
-ghost use Rattle.std.specs.Prelude.{◌≡◌, ◌-◌, ◌^◌, min, [], length, map, IfOk, OnOk, OnErr, option_map};
+ghost use Rattle.std.specs.Prelude.{◌≡◌, ◌+◌, ◌-◌, ◌≤◌, ◌^◌, min, [], length, map, IfOk, IsTrue};
+ghost use Rattle.std.specs.Prelude.{OnOk, OnErr, Some, option_map, slice_get};
+ghost use Rattle.std.specs.List.{IsDistinct};
+ghost use Rattle.std.specs.Str.{bytes_eq};
+ghost use Rattle.mbe_log.specs.Rows.{names_of};
 ghost use Rattle.indexmap.specs.IndexMap.{index_map_len};
 ghost use Rattle.mbe_semantics.specs.Bindings.Environment.{add_value, binding_total, set_value};
 ghost use Rattle.mbe_semantics.specs.Bindings.Environment.{value_of};
@@ -92,6 +96,45 @@ impl<'a, A: Allocator> Bindings<'a, A> {
         }
         count
     }
+
+    // Whether there are so many names from this index on.
+    #[inline(always)]
+    pub(crate) fn has_names(&self, start: usize, count: usize) -> bool
+        ensures within { IsTrue result → start + count ≤ 2 ^ 63 }
+        ensures distinct { IsDistinct bytes_eq (names_of (bound_by self.now)) }
+    {
+        let len = self.inner.len();
+        if len < start {
+            return false;
+        }
+        if len - start < count {
+            return false;
+        }
+        true
+    }
+
+    // The name at this index.
+    #[inline(always)]
+    pub(crate) fn name_at(&self, index: usize) -> Option<&Symbol<A>>
+        ensures { option_map (λ x. x.now) result ≡ slice_get (names_of (bound_by self.now)) index }
+    {
+        match self.inner.get_index(index) {
+            Some((name, _binding)) => Some(name),
+            None => None,
+        }
+    }
+
+    // Whether the name is the one at this index.
+    #[inline(always)]
+    pub(crate) fn is_at(&self, index: usize, name: &Symbol<A>) -> bool
+        ensures { IsTrue result
+            → slice_get (names_of (bound_by self.now)) index ≡ Some name.now }
+    {
+        match self.name_at(index) {
+            Some(found) => found == name,
+            None => false,
+        }
+    }
 }
 
 impl<'a, A: Allocator + Copy> Bindings<'a, A> {
@@ -145,6 +188,28 @@ impl<'a, A: Allocator + Copy> Bindings<'a, A> {
             self.grow(alloc, number, &name, value)?;
         }
         Ok(())
+    }
+
+    // The same as `grow`, for a name that most likely is the one at this index.
+    pub(crate) fn grow_at(
+        &mut self,
+        alloc: A,
+        number: usize,
+        index: usize,
+        name: &Symbol<A>,
+        value: Binding<'a, A>,
+    ) -> Result<(), AllocError>
+        ensures { OnOk result (bound_by self.new
+            ≡ grown_in number (bound_by self.old) name.now (value_seen value.entry)
+            (value_of (bound_by self.old) name.now)) }
+    {
+        if self.is_at(index, name)
+            && let Some(found) = self.inner.get_index_mut(index)
+        {
+            grow_value(alloc, found, number, value)?;
+            return Ok(());
+        }
+        self.grow(alloc, number, name, value)
     }
 
     // One value more of a list. A name that has no list yet gets one, and any other value stays.

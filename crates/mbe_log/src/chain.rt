@@ -1,5 +1,5 @@
 // A list that may begin with the first entries of another.
-ghost use Rattle.std.specs.Prelude.{◌≡◌, ◌↔◌, IsTrue, ◌<◌, [], ◌∷◌, ◌++◌, length, slice_get, Some};
+ghost use Rattle.std.specs.Prelude.{◌≡◌, ◌↔◌, IsTrue, ◌<◌, [], ◌∷◌, ◌++◌, ◌≤◌, length, slice_get, take, Some};
 ghost use Rattle.std.specs.Prelude.{None, IfOk, OnOk, OnErr, IfSome};
 ghost use Rattle.mbe_log.specs.Chain.{chain_len, link_to, link_in, own_in, IsChained, IsWithin};
 ghost use Rattle.mbe_log.specs.Chain.{IsExtended, ArePlaces, Flat, places_down};
@@ -188,6 +188,23 @@ pub(crate) fn two<T, A: Allocator>(lists: &[Linked<T, A>], part: Part) -> Option
             let second = list.own_at(1);
             Some((first, second))
         }
+        _ => None,
+    }
+}
+
+/// The list of a part that has no link, and how many of its first entries are the part's.
+#[inline(always)]
+pub(crate) fn unlinked<T, A: Allocator>(
+    lists: &[Linked<T, A>],
+    part: Part,
+) -> Option<(&Linked<T, A>, usize)>
+    requires { IsWithin lists.now part }
+    ensures { IfSome result (λ p. (p.1 ≤ length p.0.now.own)
+        × Flat lists.now part (take p.1 p.0.now.own)) }
+{
+    let list = &lists[part.list];
+    match list.cut(part.first) {
+        (None, count) => Some((list, count)),
         _ => None,
     }
 }

@@ -19,12 +19,12 @@
 //     push w to k    k = 2,2            0: x y v  2: ->0,2 w
 //
 // Building follows the links of a list by a loop, and recurses only into nested commands.
-ghost use Rattle.std.specs.Prelude.{◌≡◌, ◌↔◌, ◌≤◌, [], IsTrue, IfOk, OnOk, OnErr};
+ghost use Rattle.std.specs.Prelude.{◌≡◌, ◌↔◌, ◌≤◌, [], length, take, option_map, IsTrue, IfOk, OnOk, OnErr};
 ghost use Rattle.mbe_semantics.specs.Bindings.Account.{Account, Commands, CommandRounds, IsLive};
 ghost use Rattle.mbe_semantics.specs.Bindings.Account.{HasEntriesOf, Order, IsOrdered};
 ghost use Rattle.mbe_semantics.specs.Bindings.Account.{IsAccount, no_account, no_lists, pushed};
 ghost use Rattle.mbe_semantics.specs.Bindings.Account.{pushed_nested, pushed_default, run};
-ghost use Rattle.mbe_semantics.specs.Bindings.Account.{run_command, run_rounds, no_commands};
+ghost use Rattle.mbe_semantics.specs.Bindings.Account.{add_round_in, run_command, run_rounds, no_commands};
 ghost use Rattle.mbe_semantics.specs.Bindings.Account.{no_command_rounds, command_round, PartGives};
 ghost use Rattle.mbe_semantics.specs.Bindings.Account.{PartGivesRounds, Command as Written};
 ghost use Rattle.mbe_semantics.specs.Bindings.Account.{HasOneListMore};
@@ -36,10 +36,11 @@ ghost use Rattle.mbe_log.specs.Entries.{entry_seen, log_of};
 ghost use Rattle.mbe_log.specs.Sound.{GivesCommand, IsPartGrounded, IsCommandGrounded};
 ghost use Rattle.mbe_log.specs.Sound.{AreRoundsGrounded};
 ghost use Rattle.mbe_log.specs.Building.{BindsRound};
+ghost use Rattle.mbe_log.specs.Rows.{entry_name, entry_row, entry_rows, names_of, BindsThat, BindApart};
 ghost use Rattle.mbe_log.specs.BindingViews.{fragment_seen};
 
 use crate::bindings::{Binding, Bindings};
-use crate::chain::{Linked, extend, is_within, only, places, two};
+use crate::chain::{Linked, extend, is_within, only, places, two, unlinked};
 use crate::fragment::Fragment;
 use mbe_semantics::kinds::MetaVarKind;
 use mbe_semantics::log::Part;
@@ -425,6 +426,121 @@ fn release<T: Drop, A: Allocator>(lists: Vec<Linked<T, A>, A>) {
     let _lists = lists;
 }
 
+// The name that the command binds, which isn't nested.
+#[inline(always)]
+fn plain_name<'c, A: Allocator>(command: &'c Command<'_, A>) -> Option<&'c Symbol<A>>
+    ensures { option_map (λ x. x.now) result ≡ entry_name command.now }
+{
+    match command {
+        Command::Fragment(name, _) => Some(name),
+        Command::Optional(name) => Some(name),
+        Command::Empty(name) => Some(name),
+        Command::Missing(name, _) => Some(name),
+        Command::Nested { .. } => None,
+    }
+}
+
+// Whether the command binds the name at this index, by itself.
+#[inline(always)]
+fn binds_that_at<A: Allocator>(
+    command: &Command<'_, A>,
+    bindings: &Bindings<'_, A>,
+    index: usize,
+) -> bool
+    ensures { IsTrue result → BindsThat command.now (names_of (bound_by bindings.now)) index }
+{
+    match plain_name(command) {
+        Some(name) => bindings.is_at(index, name),
+        None => false,
+    }
+}
+
+// Whether the first so many commands bind the names from this index on, one each.
+fn bind_those_from<A: Allocator>(
+    list: &Linked<Command<'_, A>, A>,
+    count: usize,
+    bindings: &Bindings<'_, A>,
+    start: usize,
+) -> bool
+    requires { count ≤ length list.now.own }
+    ensures { IsTrue result → BindApart (take count list.now.own) }
+{
+    if !bindings.has_names(start, count) {
+        return false;
+    }
+    for index in 0..count {
+        if !binds_that_at(list.own_at(index), bindings, start + index) {
+            return false;
+        }
+    }
+    true
+}
+
+// What the command binds is one value more of its name's list, most likely the one at this index. Nested ones pass by.
+fn grow_own<'a, A: Allocator + Copy>(
+    alloc: A,
+    command: &Command<'a, A>,
+    number: usize,
+    index: usize,
+    bindings: &mut Bindings<'a, A>,
+) -> Result<(), AllocError>
+    ensures { OnOk result (bound_by bindings.new
+        ≡ add_round_in number (entry_row command.now) (bound_by bindings.old)) }
+{
+    match command {
+        Command::Fragment(name, fragment) => {
+            bindings.grow_at(
+                alloc,
+                number,
+                index,
+                name,
+                Binding::Fragment(fragment.try_clone()?),
+            )
+        }
+        Command::Optional(name) => bindings.grow_at(
+            alloc,
+            number,
+            index,
+            name,
+            Binding::Fragment(Fragment::Empty),
+        ),
+        Command::Empty(name) => bindings.grow_at(alloc, number, index, name, Binding::Empty),
+        Command::Missing(name, kind) => bindings.grow_at(
+            alloc,
+            number,
+            index,
+            name,
+            Binding::Missing(*kind),
+        ),
+        Command::Nested { .. } => Ok(()),
+    }
+}
+
+// The same for the first so many commands of the list.
+fn grow_all<'a, A: Allocator + Copy>(
+    alloc: A,
+    list: &Linked<Command<'a, A>, A>,
+    count: usize,
+    number: usize,
+    start: usize,
+    bindings: &mut Bindings<'a, A>,
+) -> Result<(), AllocError>
+    requires { count ≤ length list.now.own }
+    ensures { OnOk result (bound_by bindings.new
+        ≡ add_round_in number (entry_rows (take count list.now.own)) (bound_by bindings.old)) }
+{
+    for index in 0..count {
+        grow_own(
+            alloc,
+            list.own_at(index),
+            number,
+            start.saturating_add(index),
+            bindings,
+        )?;
+    }
+    Ok(())
+}
+
 // What the commands of a part bind, which nest no deeper than that.
 #[cycle(building)]
 fn build_part<'a, A: Allocator + Copy>(
@@ -508,11 +624,23 @@ fn bind_rounds<'a, A: Allocator + Copy>(
         → bound_by bindings.new ≡ run_rounds (command_round rs ds) (bound_by bindings.old)) }
 {
     let found = places(alloc, rounds, finished)?;
+    let start = bindings.len();
     for (number, place) in found.iter().enumerate() {
         let part = *rounds[place.list].own_at(place.first);
-        bind_round(alloc, commands, rounds, part, depth, number, bindings)?;
+        bind_round(
+            alloc, commands, rounds, part, depth, number, start, bindings,
+        )?;
     }
-    bind_round(alloc, commands, rounds, last, depth, found.len(), bindings)?;
+    bind_round(
+        alloc,
+        commands,
+        rounds,
+        last,
+        depth,
+        found.len(),
+        start,
+        bindings,
+    )?;
     Ok(())
 }
 
@@ -525,6 +653,7 @@ fn bind_round<'a, A: Allocator + Copy>(
     part: Part,
     depth: usize,
     number: usize,
+    start: usize,
     bindings: &mut Bindings<'a, A>,
 ) -> Result<(), AllocError>
     requires links { IsChained commands.now }
@@ -535,9 +664,10 @@ fn bind_round<'a, A: Allocator + Copy>(
 {
     // Most rounds bind one variable, which needs no map of its own.
     if let Some(Command::Fragment(name, fragment)) = only(commands, part) {
-        bindings.grow(
+        bindings.grow_at(
             alloc,
             number,
+            start,
             name,
             Binding::Fragment(fragment.try_clone()?),
         )?;
@@ -547,8 +677,28 @@ fn bind_round<'a, A: Allocator + Copy>(
     if let Some((Command::Fragment(name, one), Command::Fragment(other, two))) = two(commands, part)
         && name != other
     {
-        bindings.grow(alloc, number, name, Binding::Fragment(one.try_clone()?))?;
-        bindings.grow(alloc, number, other, Binding::Fragment(two.try_clone()?))?;
+        bindings.grow_at(
+            alloc,
+            number,
+            start,
+            name,
+            Binding::Fragment(one.try_clone()?),
+        )?;
+        let after = start.saturating_add(1);
+        bindings.grow_at(
+            alloc,
+            number,
+            after,
+            other,
+            Binding::Fragment(two.try_clone()?),
+        )?;
+        return Ok(());
+    }
+    // Most rounds bind the names of the one before, in their order.
+    if let Some((list, count)) = unlinked(commands, part)
+        && bind_those_from(list, count, bindings, start)
+    {
+        grow_all(alloc, list, count, number, start, bindings)?;
         return Ok(());
     }
     let round = build_part(alloc, commands, rounds, part, depth)?;

@@ -1,4 +1,4 @@
-use Rattle.std.proofs.Common.{◌≡◌, ◌<◌, ◌≤◌, ◌-◌, ◌∙◌, [], ◌∷◌, length, refl, ap, sym, subst, arith, rules}
+use Rattle.std.proofs.Common.{◌≡◌, ◌<◌, ◌≤◌, ◌-◌, ◌∙◌, [], ◌∷◌, length, take, refl, ap, sym, subst, arith, rules}
 use Rattle.mbe_semantics.specs.Bindings.Account.{Command, no_commands, no_command_rounds, add_round_in, grown_in, run}
 use Rattle.mbe_semantics.specs.Bindings.Environment.{fragment, value_of}
 use Rattle.mbe_log.specs.Chain.{Flat}
@@ -9,7 +9,8 @@ use Rattle.mbe_log.specs.BindingViews.{bound_by, fragment_seen}
 use Rattle.mbe_log.specs.Entries.{entry_seen, log_of}
 use Rattle.mbe_log.specs.Sound.{GivesCommand, IsPartGrounded, IsCommandGrounded, AreRoundsGrounded}
 use Rattle.mbe_log.proofs.BuildLemmas.{is_within, is_rounds_within}
-use Rattle.mbe_log.proofs.StepLemmas.{list_there, own_in_list, same_entry, is_false, bound_alone, bound_pair, grounded_command, built-step, built-end, grounded_round, bound-step, bound-end, written_by, nested_grounded, nested_returns}
+use Rattle.mbe_log.proofs.StepLemmas.{list_there, own_in_list, same_entry, is_false, bound_apart, bound_alone, bound_pair, grounded_command, built-step, built-end, grounded_round, bound-step, bound-end, written_by, nested_grounded, nested_returns}
+use Rattle.mbe_log.proofs.RowLemmas.{bound_rows}
 use Rattle.mbe_log.proofs.log.+building.Goals as goal
 
 pub build_part-places-requires-clause-within : goal.build_part-places-requires-clause-within
@@ -148,13 +149,16 @@ bind_round-only-requires g t c = is_within c.args.commands.now c.args.rounds.now
 pub bind_round-returns-in-Some-Fragment : goal.bind_round-returns-in-Some-Fragment
 bind_round-returns-in-Some-Fragment g t c =
     bound_alone c.args.commands.now c.args.rounds.now c.args.part c.args.number (bound_by c.args.bindings.now)
-    (bound_by c.grow.new.self)
+    (bound_by c.grow_at.new.self)
     c.in-Some-Fragment.name c.in-Some-Fragment.fragment
     (subst (λ e. Flat c.args.commands.now c.args.part (e ∷ [])) c.in-Some-Fragment.field-0-is
     c.in-Some-Fragment.ensures)
-    (c.in_ok-grow.ensures ∙ ap (λ v. grown_in c.args.number (bound_by c.args.bindings.now) c.in-Some-Fragment.name v
+    (c.in_ok-grow_at.ensures ∙ ap (λ v. grown_in c.args.number (bound_by c.args.bindings.now) c.in-Some-Fragment.name v
     (value_of (bound_by c.args.bindings.now) c.in-Some-Fragment.name))
     (seen-fragment _ ∙ ap fragment c.in_ok-try_clone.ensures))
+
+pub bind_round-unlinked-requires : goal.bind_round-unlinked-requires
+bind_round-unlinked-requires g t c = is_within c.args.commands.now c.args.rounds.now c.requires.grounded.1
 
 pub bind_round-two-requires : goal.bind_round-two-requires
 bind_round-two-requires g t c = is_within c.args.commands.now c.args.rounds.now c.requires.grounded.1
@@ -163,15 +167,26 @@ pub bind_round-returns : goal.bind_round-returns
 bind_round-returns g t c =
     let here = c.in-Some-Fragment-Fragment in
     bound_pair c.args.commands.now c.args.rounds.now c.args.part c.args.number (bound_by c.args.bindings.now)
-    (bound_by c.grow-2.new.self) (bound_by c.grow-3.new.self) here.name here.other here.one here.two
+    (bound_by c.grow_at-2.new.self) (bound_by c.grow_at-3.new.self) here.name here.other here.one here.two
     (subst (λ e. Flat c.args.commands.now c.args.part (e ∷ (code.TheVariants.Fragment here.other here.two ∷ [])))
     here.field-0-0-is
     (subst (λ e. Flat c.args.commands.now c.args.part (here.field-0-0.now ∷ (e ∷ []))) here.field-0-1-is here.ensures))
     (is_false _ (sym c.ne.ensures ∙ c.if-ne.true))
-    (c.in_ok-grow-2.ensures ∙ ap (λ v. grown_in c.args.number (bound_by c.args.bindings.now) here.name v
+    (c.in_ok-grow_at-2.ensures ∙ ap (λ v. grown_in c.args.number (bound_by c.args.bindings.now) here.name v
     (value_of (bound_by c.args.bindings.now) here.name)) (seen-fragment _ ∙ ap fragment c.in_ok-try_clone-2.ensures))
-    (c.in_ok-grow-3.ensures ∙ ap (λ v. grown_in c.args.number (bound_by c.grow-2.new.self) here.other v
-    (value_of (bound_by c.grow-2.new.self) here.other)) (seen-fragment _ ∙ ap fragment c.in_ok-try_clone-3.ensures))
+    (c.in_ok-grow_at-3.ensures ∙ ap (λ v. grown_in c.args.number (bound_by c.grow_at-2.new.self) here.other v
+    (value_of (bound_by c.grow_at-2.new.self) here.other)) (seen-fragment _ ∙ ap fragment c.in_ok-try_clone-3.ensures))
+
+pub bind_round-returns-2 : goal.bind_round-returns-2
+bind_round-returns-2 g t c =
+    bound_rows c.args.commands.now c.args.rounds.now c.args.part c.args.number (bound_by c.args.bindings.now)
+    (bound_by c.grow_all.new.bindings) (take c.in-Some.count c.in-Some.list.now.own) c.in-Some.ensures.1
+    (c.if-bind_those_from.ensures refl) c.in_ok-grow_all.ensures
+
+pub bind_round-returns-3 : goal.bind_round-returns-3
+bind_round-returns-3 g t c =
+    bound_apart c.args.commands.now c.args.rounds.now c.args.part c.args.number (bound_by c.args.bindings.now)
+    (bound_by c.add_round.new.self) (bound_by c.in_ok-round.round) c.in_ok-round.ensures c.in_ok-add_round.ensures
 
 pub bind_command-returns-in_ok-try_clone-in-Fragment : goal.bind_command-returns-in_ok-try_clone-in-Fragment
 bind_command-returns-in_ok-try_clone-in-Fragment g t c =
