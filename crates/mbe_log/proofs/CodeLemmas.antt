@@ -3,7 +3,7 @@ use Rattle.std.specs.Prelude.{◌≡◌, ◌≤◌, ◌+◌, ℕ, suc, List, [],
 use Rattle.std.proofs.Common.{arith, sym, ap, subst, ◌∙◌, get_or}
 use Rattle.mbe_semantics.specs.declared.log.Part.{Part}
 use Rattle.mbe_log.specs.declared.log.Command as code
-use Rattle.mbe_log.specs.Chain.{Chain, IsChained, IsWithin, IsExtended, chain_len, link_len, link_to}
+use Rattle.mbe_log.specs.Chain.{Chain, IsChained, IsWithin, IsExtended, chain_len, link_len, link_to, with_link, last_part}
 use Rattle.mbe_log.specs.Entries.{commands_seen, rounds_seen, first_link, first_round_link, entry_seen, log_of}
 use Rattle.mbe_semantics.specs.Bindings.Account.{Account, pushed, pushed_nested, pushed_default, Command, Commands, no_commands, no_command_rounds, command_round, Log, Handle, IsIn, HasEntriesOf, Gives, GivesRounds, PartGives, run, IsAccount, HasOneListMore}
 use Rattle.mbe_log.specs.Shared.{IsGiven, IsChanged, IsAtEnd, IsWhole, WritesOne, WritesRound, current_len, finished_len, len_at, IsPlain}
@@ -19,7 +19,7 @@ length-mapped : {X Y : Type 0} (f : X → Y) (xs : List X) → length (map f xs)
 length-mapped f [] = refl
 length-mapped f (x ∷ xs) = ap suc (length-mapped f xs)
 
-pub within-at : {T : Type 0} (lists : List (Chain T)) (p : Part) (x : Chain T) → IsWithin lists p
+within-at : {T : Type 0} (lists : List (Chain T)) (p : Part) (x : Chain T) → IsWithin lists p
     → x ≡ get_or lists p.list x → slice_get lists p.list ≡ Some x
 within-at lists p x w e = w.1 ∙ ap Some (sym (e ∙ got lists p.list w.0 x w.1))
 
@@ -229,28 +229,35 @@ module _ {A : Type 0} (C : List (Chain (code.Command A))) (R : List (Chain Part)
           (at-end R S finished q x e (whole-rounds-len finished e.0 (at_end_held w).1 e.1)),
     )
 
-    -- a copy
-    pub copy-sound : (n : ℕ) (l : Chain (code.Command A)) (r : Chain Part) → IsSound C R n → HasEntriesOf log h
-        → slice_get C current.list ≡ Some l → slice_get R finished.list ≡ Some r →
-        IsSound (C ++ record { link = link_to current l; own = [] } ∷ [])
-        (R ++ record { link = link_to finished r; own = [] } ∷ []) n
-    copy-sound n l r s live a b = sound-copy C R n (record { current = current; finished = finished }) l r s
-        (entries_held live) a b
+    -- a copy, which links to what is there
+    module _ (l : Chain (code.Command A)) (r : Chain Part) (live : HasEntriesOf log h)
+        (at : l ≡ get_or C current.list l) (round_at : r ≡ get_or R finished.list r)
+        (link round_link : Option Part) (is : link ≡ link_to current l) (round_is : round_link ≡ link_to finished r) where
+      pub copy-sound : (n : ℕ) (D : List (Chain (code.Command A))) (S : List (Chain Part)) → IsSound C R n
+          → D ≡ with_link C link → S ≡ with_link R round_link → IsSound D S n
+      copy-sound n D S s d e =
+          subst (λ x. IsSound x S n) (sym (d ∙ ap (with_link C) is))
+          (subst (λ x. IsSound (with_link C (link_to current l)) x n) (sym (e ∙ ap (with_link R) round_is))
+          (sound-copy C R n (record { current = current; finished = finished }) l r s
+          (entries_held live) (within-at C current l (current_within live) at)
+          (within-at R finished r (finished_within live) round_at)))
 
-    pub copy-gives : (l : Chain (code.Command A)) (r : Chain Part) → slice_get C current.list ≡ Some l
-        → slice_get R finished.list ≡ Some r → (a : Account) → IsAccount log h a →
-        Gives (log_of C R) no_commands (first_link (link_to current l)) a.current
-        × GivesRounds (log_of C R) no_command_rounds (first_round_link (link_to finished r)) a.finished
-    copy-gives l r s t a k = let m = account_held a k in
-        (linked C R current l a.current s m.current, linked_rounds C R finished r a.finished t m.finished)
+      pub copy-gives : (a : Account) → IsAccount log h a →
+          Gives (log_of C R) no_commands (first_link link) a.current
+          × GivesRounds (log_of C R) no_command_rounds (first_round_link round_link) a.finished
+      copy-gives a k = let m = account_held a k in (
+        subst (λ x. Gives (log_of C R) no_commands (first_link x) a.current) (sym is)
+            (linked C R current l a.current (within-at C current l (current_within live) at) m.current),
+        subst (λ x. GivesRounds (log_of C R) no_command_rounds (first_round_link x) a.finished) (sym round_is)
+            (linked_rounds C R finished r a.finished (within-at R finished r (finished_within live) round_at) m.finished),
+      )
 
 -- the order of a log, as clients see it
 pub order-seen : {A : Type 0} (C : List (Chain (code.Command A))) (R : List (Chain Part)) (log : Log) (n : ℕ)
     → log_of C R ≡ log → IsSound C R n → HasOrder log
 order-seen C R log n seen s = subst HasOrder seen s.grounded.ordered
 
--- a link is few entries
-pub link-few : (k : Option Part) → link_len k ≤ 3
+link-few : (k : Option Part) → link_len k ≤ 3
 link-few None = omega arith
 link-few (Some p) = omega arith
 
@@ -258,7 +265,7 @@ link-few (Some p) = omega arith
 
 module _ {A : Type 0} (C : List (Chain (code.Command A))) (R : List (Chain Part)) (log : Log) (seen : log_of C R ≡ log)
     (l r : Option Part) (D : List (Chain (code.Command A))) (S : List (Chain Part))
-    (d : D ≡ C ++ record { link = l; own = [] } ∷ []) (e : S ≡ R ++ record { link = r; own = [] } ∷ []) where
+    (d : D ≡ with_link C l) (e : S ≡ with_link R r) where
   new_log : log_of D S ≡ with_lists (log_of C R) (first_link l) (first_round_link r)
   new_log = ap (λ x. log_of x S) d ∙ ap (log_of (C ++ record { link = l; own = [] } ∷ [])) e ∙ seen-lists C R l r
 
@@ -286,46 +293,52 @@ module _ {A : Type 0} (C : List (Chain (code.Command A))) (R : List (Chain Part)
         ∙ ap (λ x. x.rounds ++ first_round_link r ∷ []) seen,
   )
 
-  module _ (current finished : Part) (i : current ≡ record { list = length C; first = link_len l })
-      (j : finished ≡ record { list = length R; first = link_len r }) where
-    first_len : (k : Option Part) → length (first_link k) ≡ link_len k
-    first_len None = refl
-    first_len (Some p) = refl
+  first_len : (k : Option Part) → length (first_link k) ≡ link_len k
+  first_len None = refl
+  first_len (Some p) = refl
 
-    first_round_len : (k : Option Part) → length (first_round_link k) ≡ link_len k
-    first_round_len None = refl
-    first_round_len (Some p) = refl
+  first_round_len : (k : Option Part) → length (first_round_link k) ≡ link_len k
+  first_round_len None = refl
+  first_round_len (Some p) = refl
 
-    part_is : (p : Part) (n m : ℕ) → p.list ≡ n → p.first ≡ m → p ≡ record { list = n; first = m }
-    part_is p n m a b = ap (λ x. record { list = x; first = p.first }) a ∙ ap (λ x. record { list = n; first = x }) b
+  part_is : (p : Part) (n m : ℕ) → p.list ≡ n → p.first ≡ m → p ≡ record { list = n; first = m }
+  part_is p n m a b = ap (λ x. record { list = x; first = p.first }) a ∙ ap (λ x. record { list = n; first = x }) b
 
-    current_is : record { list = length (map commands_seen C); first = length (first_link l) } ≡ current
-    current_is = part_is (record { list = length (map commands_seen C); first = length (first_link l) }) (length C)
-        (link_len l) (length-mapped commands_seen C) (first_len l) ∙ sym i
+  current_is : record { list = length (map commands_seen C); first = length (first_link l) } ≡ last_part C l
+  current_is = part_is (record { list = length (map commands_seen C); first = length (first_link l) }) (length C)
+      (link_len l) (length-mapped commands_seen C) (first_len l)
 
-    finished_is : record { list = length (map rounds_seen R); first = length (first_round_link r) } ≡ finished
-    finished_is = part_is (record { list = length (map rounds_seen R); first = length (first_round_link r) }) (length R)
-        (link_len r) (length-mapped rounds_seen R) (first_round_len r) ∙ sym j
+  finished_is : record { list = length (map rounds_seen R); first = length (first_round_link r) } ≡ last_part R r
+  finished_is = part_is (record { list = length (map rounds_seen R); first = length (first_round_link r) }) (length R)
+      (link_len r) (length-mapped rounds_seen R) (first_round_len r)
 
-    new_handle : next_handle (log_of C R) (first_link l) (first_round_link r)
-        ≡ record { current = current; finished = finished }
+  module _ (h : Handle) (is : h ≡ record { current = last_part C l; finished = last_part R r }) where
+    new_handle : next_handle (log_of C R) (first_link l) (first_round_link r) ≡ h
     new_handle = ap (λ p. record {
       current = p;
       finished = record { list = length (map rounds_seen R); first = length (first_round_link r) };
     }) current_is
-        ∙ ap (λ p. record { current = current; finished = p }) finished_is
+        ∙ ap (λ p. record { current = last_part C l; finished = p }) finished_is ∙ sym is
 
-    pub lists-given : IsGiven log (log_of D S) (record { current = current; finished = finished })
+    pub lists-given : IsGiven log (log_of D S) h
     lists-given =
-        subst (λ x. IsGiven x (log_of D S) (record { current = current; finished = finished })) seen
-        (subst (λ x. IsGiven (log_of C R) x (record { current = current; finished = finished })) (sym new_log)
-        (subst (λ h. IsGiven (log_of C R) (with_lists (log_of C R) (first_link l) (first_round_link r)) h) new_handle
+        subst (λ x. IsGiven x (log_of D S) h) seen
+        (subst (λ x. IsGiven (log_of C R) x h) (sym new_log)
+        (subst (λ k. IsGiven (log_of C R) (with_lists (log_of C R) (first_link l) (first_round_link r)) k) new_handle
         (given (log_of C R) (first_link l) (first_round_link r))))
 
     pub lists-account : (a : Account) → Gives (log_of C R) no_commands (first_link l) a.current
-        × GivesRounds (log_of C R) no_command_rounds (first_round_link r) a.finished →
-        IsAccount (log_of D S) (record { current = current; finished = finished }) a
+        × GivesRounds (log_of C R) no_command_rounds (first_round_link r) a.finished → IsAccount (log_of D S) h a
     lists-account a g =
-        subst (λ x. IsAccount x (record { current = current; finished = finished }) a) (sym new_log)
-        (subst (λ h. IsAccount (with_lists (log_of C R) (first_link l) (first_round_link r)) h a) new_handle
+        subst (λ x. IsAccount x h a) (sym new_log)
+        (subst (λ k. IsAccount (with_lists (log_of C R) (first_link l) (first_round_link r)) k a) new_handle
         (given-account (log_of C R) (first_link l) (first_round_link r) a g.0 g.1))
+
+    -- a link is few entries
+    pub lists-few : (h.current.first ≤ 3) × (h.finished.first ≤ 3)
+    lists-few =
+        let a = ap (λ k. k.current.first) is in
+        let b = ap (λ k. k.finished.first) is in
+        let c = link-few l in
+        let d = link-few r in
+        (omega (arith, a, c), omega (arith, b, d))

@@ -63,6 +63,14 @@ longer l x = record l { own = l.own ++ x ∷ [] }
 abbrev pub forked : {T : Type 0} → Part → Chain T → T → Chain T
 forked part l x = record { link = link_to part l; own = x ∷ [] }
 
+-- with one list more, which has nothing but this link
+abbrev pub with_link : {T : Type 0} → List (Chain T) → Option Part → List (Chain T)
+with_link lists link = lists ++ record { link = link; own = [] } ∷ []
+
+-- all of that list
+abbrev pub last_part : {T : Type 0} → List (Chain T) → Option Part → Part
+last_part lists link = record { list = length lists; first = link_len link }
+
 -- a list's own entry at the index
 abbrev pub own_of : {T : Type 0} → Option (Chain T) → ℕ → Option T
 own_of None i = None

@@ -31,7 +31,7 @@ ghost use Rattle.mbe_semantics.specs.Bindings.Account.{HasOneListMore};
 ghost use Rattle.mbe_log.specs.Shared.{IsGiven, IsChanged, IsAtEnd, WritesOne, WritesRound};
 ghost use Rattle.mbe_log.specs.Shared.{current_len, finished_len, IsPlain, IsEmptied};
 ghost use Rattle.mbe_log.specs.BindingViews.{bound_by};
-ghost use Rattle.mbe_log.specs.Chain.{IsChained};
+ghost use Rattle.mbe_log.specs.Chain.{IsChained, with_link, last_part};
 ghost use Rattle.mbe_log.specs.Entries.{entry_seen, log_of};
 ghost use Rattle.mbe_log.specs.Sound.{GivesCommand, IsPartGrounded, IsCommandGrounded};
 ghost use Rattle.mbe_log.specs.Sound.{AreRoundsGrounded};
@@ -191,23 +191,8 @@ impl<'a, A: Allocator + Copy> BindingLog<'a, A> {
         ensures empty { IfOk result (λ h. h.current.first ≡ 0 × h.finished.first ≡ 0) }
         ensures err { OnErr result (self.new ≡ self.old) }
     {
-        self.commands.reserve(1)?;
-        self.rounds.reserve(1)?;
-        let current = self.commands.len();
-        let finished = self.rounds.len();
-        self.commands
-            .push_reserved(Linked::linked(self.alloc, None));
-        self.rounds.push_reserved(Linked::linked(self.alloc, None));
-        Ok(Handle {
-            current: Part {
-                list: current,
-                first: 0,
-            },
-            finished: Part {
-                list: finished,
-                first: 0,
-            },
-        })
+        let handle = begin(self.alloc, &mut self.commands, &mut self.rounds, None, None)?;
+        Ok(handle)
     }
 
     /// A handle with an equal account. `AllocError` if out of memory.
@@ -221,29 +206,16 @@ impl<'a, A: Allocator + Copy> BindingLog<'a, A> {
         ensures few { IfOk result (λ h. h.current.first ≤ 3 × h.finished.first ≤ 3) }
         ensures err { OnErr result (self.new ≡ self.old) }
     {
-        let current = Linked::linked(
+        let link = self.commands[handle.current.list].link_to(handle.current);
+        let round_link = self.rounds[handle.finished.list].link_to(handle.finished);
+        let given = begin(
             self.alloc,
-            self.commands[handle.current.list].link_to(handle.current),
-        );
-        let finished = Linked::linked(
-            self.alloc,
-            self.rounds[handle.finished.list].link_to(handle.finished),
-        );
-        self.commands.reserve(1)?;
-        self.rounds.reserve(1)?;
-        let handle = Handle {
-            current: Part {
-                list: self.commands.len(),
-                first: current.len(),
-            },
-            finished: Part {
-                list: self.rounds.len(),
-                first: finished.len(),
-            },
-        };
-        self.commands.push_reserved(current);
-        self.rounds.push_reserved(finished);
-        Ok(handle)
+            &mut self.commands,
+            &mut self.rounds,
+            link,
+            round_link,
+        )?;
+        Ok(given)
     }
 
     /// The name is bound to the fragment. `AllocError` if out of memory.
@@ -420,6 +392,43 @@ impl<'a, A: Allocator> BindingLog<'a, A> {
         let _ = &self.alloc;
         (handle.current.first, handle.finished.first)
     }
+}
+
+// A handle of two new lists, which have nothing but these links. `AllocError` if out of memory.
+#[inline(always)]
+fn begin<'a, A: Allocator + Copy>(
+    alloc: A,
+    commands: &mut Vec<Linked<Command<'a, A>, A>, A>,
+    rounds: &mut Vec<Linked<Part, A>, A>,
+    link: Option<Part>,
+    round_link: Option<Part>,
+) -> Result<Handle, AllocError>
+    ensures commands { OnOk result (commands.new.items ≡ with_link commands.old.items link) }
+    ensures rounds { OnOk result (rounds.new.items ≡ with_link rounds.old.items round_link) }
+    ensures handle { IfOk result (λ h. h ≡ record {
+      current = last_part commands.old.items link;
+      finished = last_part rounds.old.items round_link;
+    }) }
+    ensures err { OnErr result ((commands.new.items ≡ commands.old.items)
+        × (rounds.new.items ≡ rounds.old.items)) }
+{
+    commands.reserve(1)?;
+    rounds.reserve(1)?;
+    let current = Linked::linked(alloc, link);
+    let finished = Linked::linked(alloc, round_link);
+    let handle = Handle {
+        current: Part {
+            list: commands.len(),
+            first: current.len(),
+        },
+        finished: Part {
+            list: rounds.len(),
+            first: finished.len(),
+        },
+    };
+    commands.push_reserved(current);
+    rounds.push_reserved(finished);
+    Ok(handle)
 }
 
 fn release<T: Drop, A: Allocator>(lists: Vec<Linked<T, A>, A>) {
