@@ -116,7 +116,6 @@ fn add<A: Allocator + Copy>(
 }
 
 // The same as a call: the loop has `add` itself for the commonest tokens, and this for the others.
-#[inline(never)]
 fn add_any<A: Allocator + Copy>(
     builder: &mut TopSubtreeBuilder<A>,
     table: &mut SymbolTable<A>,

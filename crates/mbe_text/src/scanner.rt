@@ -981,7 +981,6 @@ impl<'t> Scanner<'t> {
 
     /// Consumes white space, comments and the next token, and returns the token; `None` at the end of the text. `LexFault` if what
     /// is there isn't a token or a comment.
-    #[inline(never)]
     pub fn token(&mut self) -> Result<Option<Token<'t>>, LexFault>
         ensures on { GoesOn self.old self.new }
         ensures past { IfOk result (λ token. IsSome token
