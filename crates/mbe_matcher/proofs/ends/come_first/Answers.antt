@@ -8,7 +8,8 @@ pub loop-step-init : goal.loop-step-init
 loop-step-init g c = turned_not position_after c.args.waiting.now.items c.args.stack.now.items
 
 pub loop-step-preserved : goal.loop-step-preserved
-loop-step-preserved g c = turned_on position_after c.args.waiting.now.items c.loop-step.waiting.items c.pop.new.self.items
+loop-step-preserved g c = turned_on position_after c.args.waiting.now.items c.loop-step.waiting.items
+    c.pop.new.self.items
     c.args.stack.now.items c.loop-step.stack.items c.push.new.self.items c.in-Some.step c.loop-step.invariant
     c.in-Some.ensures.items c.in_ok-push.ensures.items
 

@@ -86,9 +86,11 @@ loop-position-preserved-then-not-takes g c =
         subst (λ b. AreMet c.takes.new.self.places.items s.place (cons_if b c.in-Some.position.number met))
             c.if-not-takes.true counted.1,
         λ st. (
-          first_drop _ _ (trees s.whole) _ _ _ _ _ c.pop.new.self.items _ c.in-Some.position _ _ c.in-Some.ensures.items (inv.walked.2 st).0
+          first_drop _ _ (trees s.whole) _ _ _ _ _ c.pop.new.self.items _ c.in-Some.position _ _
+              c.in-Some.ensures.items (inv.walked.2 st).0
               (sym counted.0 ∙ c.if-not-takes.true),
-          λ n r. noted_drop _ _ (trees s.whole) _ _ _ _ _ c.pop.new.self.items _ c.in-Some.position _ _ c.in-Some.ensures.items (inv.walked.2 st).0
+          λ n r. noted_drop _ _ (trees s.whole) _ _ _ _ _ c.pop.new.self.items _ c.in-Some.position _ _
+              c.in-Some.ensures.items (inv.walked.2 st).0
               (sym counted.0 ∙ c.if-not-takes.true) (trees s.whole) c.loop-position.pass.report n
               ((inv.walked.2 st).1 n r),
         ),
@@ -130,12 +132,14 @@ loop-position-preserved g c =
         subst (λ b. AreMet c.takes.new.self.places.items s.place (cons_if b c.in-Some.position.number met)) taken
             counted.1,
         λ st. (
-          first_take _ _ (trees s.whole) _ _ _ _ _ c.pop.new.self.items _ c.in-Some.position _ _ c.in-Some.ensures.items (inv.walked.2 st).0
+          first_take _ _ (trees s.whole) _ _ _ _ _ c.pop.new.self.items _ c.in-Some.position _ _
+              c.in-Some.ensures.items (inv.walked.2 st).0
               c.steps.new.log c.steps.new.outers.items f c.push_some-in-Some.new.values.items
               c.push_some-in-Some-2.new.values.items c.push_some-in-Some-3.new.values.items
               c.in_ok-found.ensures pushed c.in_ok-push_some-3.ensures c.in_ok-push_some-4.ensures
               (sym counted.0 ∙ taken),
-          λ n r. noted_take _ _ (trees s.whole) _ _ _ _ _ c.pop.new.self.items _ c.in-Some.position _ _ c.in-Some.ensures.items (inv.walked.2 st).0
+          λ n r. noted_take _ _ (trees s.whole) _ _ _ _ _ c.pop.new.self.items _ c.in-Some.position _ _
+              c.in-Some.ensures.items (inv.walked.2 st).0
               c.steps.new.log c.steps.new.outers.items f c.push_some-in-Some.new.values.items
               c.push_some-in-Some-2.new.values.items c.push_some-in-Some-3.new.values.items
               c.in_ok-found.ensures pushed c.in_ok-push_some-3.ensures c.in_ok-push_some-4.ensures

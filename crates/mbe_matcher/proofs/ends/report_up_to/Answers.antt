@@ -238,7 +238,8 @@ loop-source-preserved g c =
     c.last_of_each.new.lasts.waiting.items
     c.come_first.new.stack.items c.come_last.new.stack.items c.after_place.new.self.report inv.comes.follows
     c.in_ok-last_of_each.ensures.kept (are_firsts g here.In_ok-first_of_each).goes_on
-    (are_lasts g here.In_ok-last_of_each).goes_on come_firsts come_lasts t.wide there (noted g here.After-after_place) in
+    (are_lasts g here.In_ok-last_of_each).goes_on come_firsts come_lasts t.wide there
+    (noted g here.After-after_place) in
     let first_met = c.after_place.ensures.first_met ∙ c.in_ok-last_of_each.ensures.other in
     record {
       comes = subst (λ x. PassAt (input_of h (trees x)) (trees x) pat c.in_ok-source.source.place c.last_of_each.new.log

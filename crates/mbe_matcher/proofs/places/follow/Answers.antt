@@ -247,7 +247,8 @@ loop-source-preserved g c =
     record {
       comes = (
         came_next (settled g place) step n (trees c.in_ok-source.source.whole)
-            (ap (λ x. trees x) c.in_ok-source.ensures.whole) c.in_ok-source.source.place at c.come.new.todo.items arrived,
+            (ap (λ x. trees x) c.in_ok-source.ensures.whole) c.in_ok-source.source.place at
+            c.come.new.todo.items arrived,
         noted g place,
         subst (λ x. IsReportOf log (trees x) c.settle.new.state.report [] (noted g place))
             (sym c.in_ok-source.ensures.whole) ((settles g place).notes inv.comes.1 inv.comes.2),

@@ -97,9 +97,11 @@ loop-position-preserved-then-not-takes g c =
         subst (λ b. AreCounted c.takes.new.self.marks.items s.place (cons_if b c.in-Some.position.number met))
             c.if-not-takes.true counted.1,
         λ st. (
-          walked_drop _ _ (trees s.whole) _ _ _ _ _ c.pop.new.self.items _ c.in-Some.position _ _ c.in-Some.ensures.items (inv.walked.2 st).0
+          walked_drop _ _ (trees s.whole) _ _ _ _ _ c.pop.new.self.items _ c.in-Some.position _ _
+              c.in-Some.ensures.items (inv.walked.2 st).0
               (sym counted.0 ∙ c.if-not-takes.true),
-          λ n r. report_drop _ _ (trees s.whole) _ _ _ _ _ c.pop.new.self.items _ c.in-Some.position _ _ c.in-Some.ensures.items (inv.walked.2 st).0
+          λ n r. report_drop _ _ (trees s.whole) _ _ _ _ _ c.pop.new.self.items _ c.in-Some.position _ _
+              c.in-Some.ensures.items (inv.walked.2 st).0
               (sym counted.0 ∙ c.if-not-takes.true) (trees s.whole) c.loop-position.state.report n
               ((inv.walked.2 st).1 n r),
           λ clean. let no : true ≡ false = clean in cc,
@@ -160,12 +162,14 @@ loop-position-preserved g c =
         subst (λ b. AreCounted c.takes.new.self.marks.items s.place (cons_if b c.in-Some.position.number met)) taken
             counted.1,
         λ st. (
-          walked_take _ _ (trees s.whole) _ _ _ _ _ c.pop.new.self.items _ c.in-Some.position _ _ c.in-Some.ensures.items (inv.walked.2 st).0
+          walked_take _ _ (trees s.whole) _ _ _ _ _ c.pop.new.self.items _ c.in-Some.position _ _
+              c.in-Some.ensures.items (inv.walked.2 st).0
               c.steps.new.log c.steps.new.outers.items f c.push_some-in-Some.new.values.items
               c.push_some-in-Some-2.new.values.items c.push_some-in-Some-3.new.values.items
               c.in_ok-found.ensures pushed c.in_ok-push_some-3.ensures c.in_ok-push_some-4.ensures
               (sym counted.0 ∙ taken),
-          λ n r. report_take _ _ (trees s.whole) _ _ _ _ _ c.pop.new.self.items _ c.in-Some.position _ _ c.in-Some.ensures.items (inv.walked.2 st).0
+          λ n r. report_take _ _ (trees s.whole) _ _ _ _ _ c.pop.new.self.items _ c.in-Some.position _ _
+              c.in-Some.ensures.items (inv.walked.2 st).0
               c.steps.new.log c.steps.new.outers.items f c.push_some-in-Some.new.values.items
               c.push_some-in-Some-2.new.values.items c.push_some-in-Some-3.new.values.items
               c.in_ok-found.ensures pushed c.in_ok-push_some-3.ensures c.in_ok-push_some-4.ensures
@@ -175,7 +179,8 @@ loop-position-preserved g c =
           λ clean.
               let was = (inv.walked.2 st).2 clean in (
                 was.0,
-                fills_next _ _ (trees s.whole) _ _ _ _ _ c.pop.new.self.items _ c.in-Some.position _ _ c.in-Some.ensures.items
+                fills_next _ _ (trees s.whole) _ _ _ _ _ c.pop.new.self.items _ c.in-Some.position _ _
+                    c.in-Some.ensures.items
                     (inv.walked.2 st).0
                     c.steps.new.log c.steps.new.outers.items f c.push_some-in-Some.new.values.items
                     c.push_some-in-Some-2.new.values.items c.push_some-in-Some-3.new.values.items

@@ -124,7 +124,8 @@ returns-in-Some-clause-ways g c =
     (c.in_ok-ways.ensures.ways (copies g here.In_ok-settle)) in
     subst (λ x. AreWays (input_of h (trees x)) pat (stop_of (trees x) v) v c.in_ok-ways.ways.items)
     c.loop-source.invariant.whole
-    (subst (λ n. AreWays (input_of h (trees s.whole)) pat n v c.in_ok-ways.ways.items) (sym (settled_place at v e)) ways)
+    (subst (λ n. AreWays (input_of h (trees s.whole)) pat n v c.in_ok-ways.ways.items) (sym (settled_place at v e))
+    ways)
 
 pub bounds-deref-0 : goal.bounds-deref-0
 bounds-deref-0 g c =
