@@ -1,5 +1,5 @@
 -- The second pass, from place to place.
-use Rattle.std.proofs.Common.{ℕ, ◌+◌, ◌≡◌, ◌<◌, ◌≤◌, inl, inr, Option, Some, None, List, [], ◌∷◌, ◌++◌, map, reverse, refl, sym, ap, subst, ◌∙◌, arith}
+use Rattle.std.proofs.Common.{ℕ, ◌+◌, ◌≡◌, ◌<◌, ◌≤◌, inl, inr, Option, Some, None, List, [], ◌∷◌, ◌++◌, map, reverse, length, get_or, refl, sym, ap, subst, ◌∙◌, arith}
 use Rattle.std.specs.List.{filter_map}
 use Rattle.std.proofs.lemmas.List.{reverse-append}
 use Rattle.mbe_tt.specs.Trees.Tree.{Forest, flat_len, rest_at}
@@ -8,7 +8,7 @@ use Rattle.mbe_semantics.specs.Syntax.Op.{Ops}
 use Rattle.mbe_semantics.specs.Syntax.Nullable.{Checked}
 use Rattle.mbe_semantics.specs.Readings.Input.{Input, input_of}
 use Rattle.mbe_semantics.specs.Readings.Reading.{Beginning, At}
-use Rattle.mbe_semantics.specs.Readings.Verdict.{Verdict, IsVerdict, stop_of}
+use Rattle.mbe_semantics.specs.Readings.Verdict.{stop_of}
 use Rattle.mbe_semantics.specs.Bindings.Account.{Commands, Log, Handle, no_account}
 use Rattle.mbe_semantics.specs.Matching.Lists.{In}
 use Rattle.mbe_semantics.specs.Matching.Dots.{dots}
@@ -28,7 +28,7 @@ use Rattle.mbe_matcher.specs.Reports.{IsReportOf}
 use Rattle.mbe_matcher.specs.Matched.{IsAtStart}
 use Rattle.mbe_places.specs.Stops.{position_after}
 use Rattle.mbe_matcher.specs.TwoEnds.{enter, only_first, kept_first, kept_back, first_moves, back_moves, kept_noted, EndsFollow, follow_start, follow_next}
-use Rattle.mbe_matcher.specs.EndsMatched.{IsHere, VisitShows, IsFirstStack, IsLastStack, AreFirsts, AreLasts, FirstFails, visit_after}
+use Rattle.mbe_matcher.specs.EndsMatched.{IsHere, VisitShows, IsFirstStack, IsLastStack, AreFirsts, AreLasts, FirstFails, visit_after, IsStop}
 use Rattle.mbe_matcher.proofs.Keeping.{each_weaker, each_append, leads_keep, holds_keep}
 use Rattle.mbe_matcher.proofs.KeptEnds.{Pass, passes, kept_pass}
 use Rattle.mbe_matcher.proofs.LastWalk.{visits_keep}
@@ -84,50 +84,62 @@ pass_begins i argument pattern q log outers firsts lasts r p u z e same d start 
 
 -- ---- what the two walks are given
 
-module _ {A : Type 0} (g : Grammar) (pattern : Ops) (argument : Forest) (lawful : IsLawful g)
-    (checked : Checked pattern) (v : Verdict) (is : IsVerdict g pattern argument v)
-    (q : ℕ) (within : q ≤ stop_of argument v) (log : Log) (outers : List (Outer A)) (firsts : List (Position A))
-    (lasts : List (declared.Visit A)) (r : Report A)
-    (w : PassAt (input_of g argument) argument pattern q log outers firsts lasts r) where
-  pass : Pass g pattern argument lawful checked q w.os w.ps w.before
-  pass = passes g pattern argument lawful checked v is w.follows within
+-- The pass is at a place, up to the stop.
+pub record AtPlace {A : Type 0} (g : Grammar) (pattern : Ops) (argument : Forest) (q stop : ℕ) (log : Log)
+    (outers : List (Outer A)) (firsts : List (Position A)) (lasts : List (declared.Visit A)) (r : Report A)
+    : Type 0 where
+  pub lawful : IsLawful g
+  pub checked : Checked pattern
+  pub stops : IsStop g pattern argument stop
+  pub within : q ≤ stop
+  pub now : PassAt (input_of g argument) argument pattern q log outers firsts lasts r
 
-  pub firsts_here : (o : Outline) → In o w.os → IsHere (input_of g argument) pattern q o
+module _ {A : Type 0} {g : Grammar} {pattern : Ops} {argument : Forest} {q stop : ℕ} {log : Log}
+    {outers : List (Outer A)} {firsts : List (Position A)} {lasts : List (declared.Visit A)} {r : Report A}
+    (p : AtPlace g pattern argument q stop log outers firsts lasts r) where
+  within : q ≤ stop_of argument p.stops.0
+  within = subst (λ k. q ≤ k) p.stops.2 p.within
+
+  pass : Pass g pattern argument p.lawful p.checked q p.now.os p.now.ps p.now.before
+  pass = passes g pattern argument p.lawful p.checked p.stops.0 p.stops.1 p.now.follows within
+
+  pub firsts_here : (o : Outline) → In o p.now.os → IsHere (input_of g argument) pattern q o
   firsts_here o m = here_of (input_of g argument) pattern q pass.fs pass.fs_at o (subst (In o) (sym pass.firsts_are) m)
 
-  pub lasts_here : (o : Outline) → In o w.ps → IsHere (input_of g argument) pattern q o
+  pub lasts_here : (o : Outline) → In o p.now.ps → IsHere (input_of g argument) pattern q o
   lasts_here o m = here_of (input_of g argument) pattern q pass.bs pass.bs_at o (subst (In o) (sym pass.lasts_are) m)
 
-  abbrev pub first_stack : (size : ℕ) → dots pattern ≡ size
+  abbrev pub first_stack : {size : ℕ} → size ≡ dots pattern
       → IsFirstStack (input_of g argument) q size log outers firsts
-  first_stack size d = record {
+  first_stack d = record {
     pattern = pattern;
-    size_is = d;
-    outlines = w.os;
+    size_is = sym d;
+    outlines = p.now.os;
     here = firsts_here;
-    shown = w.first_shown;
+    shown = p.now.first_shown;
   }
 
   -- after the walk over the first of each
-  abbrev pub last_stack : (size : ℕ) → dots pattern ≡ size → (new : Log) (after : List (Outer A))
+  abbrev pub last_stack : {size : ℕ} → size ≡ dots pattern → (new : Log) (after : List (Outer A))
       → Keeps log new outers after →
       IsLastStack (input_of g argument) (rest_at argument q) q size new after lasts
-  last_stack size d new after k = record {
+  last_stack d new after k = record {
     pattern = pattern;
-    size_is = d;
-    outlines = w.ps;
+    size_is = sym d;
+    outlines = p.now.ps;
     are_here = lasts_here;
     shown = each_weaker (VisitShows (input_of g argument) (rest_at argument q) q log outers)
         (VisitShows (input_of g argument) (rest_at argument q) q new after)
         (visits_keep (input_of g argument) (rest_at argument q) q log new outers after k) lasts
-        (reverse (map enter w.ps)) w.last_shown;
+        (reverse (map enter p.now.ps)) p.now.last_shown;
   }
 
   -- at the stop, what is noted is what all beginnings note
   pub noted_at_stop : AreNotes (input_of g argument) pattern q
-      (kept_noted (input_of g argument) pattern q w.os w.ps w.before)
-  noted_at_stop = (kept_pass g pattern argument lawful checked v is q within
-      (kept_noted (input_of g argument) pattern q w.os w.ps w.before)).1 (w.os, w.ps, w.before, w.follows, refl)
+      (kept_noted (input_of g argument) pattern q p.now.os p.now.ps p.now.before)
+  noted_at_stop = (kept_pass g pattern argument p.lawful p.checked p.stops.0 p.stops.1 q within
+      (kept_noted (input_of g argument) pattern q p.now.os p.now.ps p.now.before)).1
+      (p.now.os, p.now.ps, p.now.before, p.now.follows, refl)
 
 -- ---- how it goes on
 
@@ -151,38 +163,54 @@ module _ {A : Type 0} (log : Log) (outers : List (Outer A)) (here : Forest) wher
 
 -- the first step of those that go on before the stop
 pub record Goes {A : Type 0} (i : Input) (pattern : Ops) (here : Forest) (q len stop : ℕ) (os : List Outline)
-    (ws : List (Waiting A)) : Type 0 where
-  pub first : Waiting A
-  pub rest : List (Waiting A)
-  pub is : ws ≡ first ∷ rest
+    (first : Waiting A) : Type 0 where
   pub wide : first_width (first_moves i (dots pattern) q os) ≡ Some first.width
   pub left : IsLeft here first.width first.beyond
   pub some : 0 < first.width
   pub within : q + first.width ≤ stop
   pub fits : q + first.width ≤ len
 
-pub goes : {A : Type 0} (g : Grammar) (pattern : Ops) (argument : Forest) (lawful : IsLawful g)
-    (checked : Checked pattern) (v : Verdict) (is : IsVerdict g pattern argument v)
-    (q : ℕ) (os ps : List Outline) (before : Notes) (log : Log) (outers : List (Outer A)) (ws : List (Waiting A))
-    (hs : List Handle) → EndsFollow (input_of g argument) pattern q os ps before →
-    q < stop_of argument v → AreFirsts (input_of g argument) q pattern os log outers (rest_at argument q) ws hs →
-    Goes (input_of g argument) pattern (rest_at argument q) q (flat_len argument) (stop_of argument v) os ws
-goes g pattern argument lawful checked v is q os ps before log outers ws hs follows l f =
-    let t = goes_on g pattern argument lawful checked v is q os ps before follows l in
-    let r = first_step log outers (rest_at argument q) ws (first_moves (input_of g argument) (dots pattern) q os)
-    t.width f.goes_on t.is in
-    let stop : stop_of argument v ≤ flat_len argument = stop_within g pattern argument lawful checked v is in
-    let within : q + r.0.width ≤ stop_of argument v = subst (λ n. q + n ≤ stop_of argument v) (sym r.3) t.within in
-    record {
-      first = r.0;
-      rest = r.1;
-      is = r.2;
-      wide = t.is ∙ ap (λ n. Some n) (sym r.3);
-      left = r.4;
-      some = subst (λ n. 0 < n) (sym r.3) t.some;
-      within = within;
-      fits = omega (arith, stop, within);
-    }
+module _ {A : Type 0} {g : Grammar} {pattern : Ops} {argument : Forest} {q stop : ℕ} {log : Log}
+    {outers : List (Outer A)} {firsts : List (Position A)} {lasts : List (declared.Visit A)} {r : Report A}
+    (p : AtPlace g pattern argument q stop log outers firsts lasts r) (before : q < stop) (new : Log)
+    (after : List (Outer A)) (ws : List (Waiting A)) (hs : List Handle)
+    (f : AreFirsts (input_of g argument) q pattern p.now.os new after (rest_at argument q) ws hs) where
+  goes : (x : Waiting A) × (rest : List (Waiting A)) × (ws ≡ x ∷ rest)
+      × Goes (input_of g argument) pattern (rest_at argument q) q (flat_len argument) stop p.now.os x
+  goes =
+      let v = p.stops.0 in
+      let is = p.stops.1 in
+      let same = p.stops.2 in
+      let t = goes_on g pattern argument p.lawful p.checked v is q p.now.os p.now.ps p.now.before p.now.follows
+      (subst (λ k. q < k) same before) in
+      let x = first_step new after (rest_at argument q) ws (first_moves (input_of g argument) (dots pattern) q p.now.os)
+      t.width f.goes_on t.is in
+      let most : stop_of argument v ≤ flat_len argument =
+      stop_within g pattern argument p.lawful p.checked v is in
+      let within : q + x.0.width ≤ stop = subst (λ k. q + x.0.width ≤ k) (sym same)
+      (subst (λ n. q + n ≤ stop_of argument v) (sym x.3) t.within) in (
+        x.0,
+        x.1,
+        x.2,
+        record {
+          wide = t.is ∙ ap (λ n. Some n) (sym x.3);
+          left = x.4;
+          some = subst (λ n. 0 < n) (sym x.3) t.some;
+          within = within;
+          fits = omega (arith, most, within, same);
+        },
+      )
+
+  pub goes_some : 0 < length ws
+  goes_some =
+      let some : length ws ≡ length (goes.0 ∷ goes.1) = ap length goes.2 in
+      omega (arith, some)
+
+  -- it is this one, which was read in the list
+  pub goes_by : (x : Waiting A) → x ≡ get_or ws 0 x
+      → Goes (input_of g argument) pattern (rest_at argument q) q (flat_len argument) stop p.now.os x
+  goes_by x at = subst (Goes (input_of g argument) pattern (rest_at argument q) q (flat_len argument) stop p.now.os)
+      (sym (at ∙ ap (λ l. get_or l 0 x) goes.2)) goes.3
 
 -- the place is noted
 pub pass_notes : {A : Type 0} (i : Input) (argument : Forest) (pattern : Ops) (q : ℕ) (os ps : List Outline)

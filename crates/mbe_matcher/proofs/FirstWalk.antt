@@ -1,10 +1,9 @@
 -- The loop over the first position of each dot.
-use Rattle.std.proofs.Common.{ℕ, Bool, ◌≡◌, ◌<◌, ◌≤◌, true, false, option_to_list, List, [], ◌∷◌, ◌++◌, reverse, append_assoc, sym, ap, subst, ◌∙◌}
+use Rattle.std.proofs.Common.{ℕ, Bool, ◌≡◌, ◌<◌, ◌≤◌, true, false, option_to_list, List, [], ◌∷◌, ◌++◌, reverse, sym, ap, subst, ◌∙◌}
 use Rattle.std.specs.Prelude.{nat_lt}
 use Rattle.std.specs.List.{filter_map}
 use Rattle.std.proofs.lemmas.Bool.{ltb-true, ltb-false}
 use Rattle.std.proofs.lemmas.List.{reverse-append, reverse-reverse}
-use Rattle.std.proofs.lemmas.List.Elements.{filter_map-append}
 use Rattle.mbe_tt.specs.Trees.Tree.{Forest, rest_at}
 use Rattle.mbe_semantics.specs.Readings.Input.{Input}
 use Rattle.mbe_semantics.specs.Syntax.Op.{Ops}
@@ -23,9 +22,8 @@ use Rattle.mbe_matcher.specs.Failures.{Misfit, Notes, misfit, misfit_unless, ops
 use Rattle.mbe_matcher.specs.Reports.{IsReportOf}
 use Rattle.mbe_matcher.specs.TwoEnds.{kept_first}
 use Rattle.mbe_matcher.specs.EndsMatched.{IsFirstStack, AreFirsts}
-use Rattle.mbe_matcher.proofs.Keeping.{each_weaker, each_append, both_each, shows_keep, leads_keep, holds_keep}
-use Rattle.mbe_matcher.proofs.Reporting.{notes_keep, shown_ops, shown_bound, is_step, step_same}
-use Rattle.mbe_matcher.proofs.Settling.{Last, last_of, each_turned, each_none, one_step, shown_number}
+use Rattle.mbe_matcher.proofs.Reporting.{is_step}
+use Rattle.mbe_matcher.proofs.Settling.{Last, last_of, each_none, shown_number, shown_on, leads_on, ends_on, report_on}
 use Rattle.mbe_matcher.proofs.Walking.{Walks, walks_end, walks_good, walks_drop, walks_take, here_number, forward, forward_start}
 
 -- The outlines that are followed so far are `out`, and those of the stack are left.
@@ -110,42 +108,6 @@ module _ {A : Type 0} (i : Input) (pattern : Ops) (argument : Forest) (q : ℕ) 
       (gives : (o : Outline) → Shows log outers p o → AreSteps i argument q log new outers after o s)
       (pushed : todo' ≡ (rest ++ option_to_list s.second) ++ option_to_list s.first)
       (waits : ws' ≡ ws ++ option_to_list s.next) (ends : hs' ≡ hs ++ option_to_list s.done) where
-    st : AreSteps i argument q log new outers after popped.last s
-    st = gives popped.last popped.lasts
-
-    shown : Each (Shows new after) todo' (popped.front ++ reverse (idle_of i q popped.last))
-    shown = subst (λ l. Each (Shows new after) l (popped.front ++ reverse (idle_of i q popped.last)))
-        (sym (pushed ∙ append_assoc rest (option_to_list s.second) (option_to_list s.first)))
-        (each_append (Shows new after) rest (option_to_list s.second ++ option_to_list s.first) popped.front
-        (reverse (idle_of i q popped.last))
-        (each_weaker (Shows log outers) (Shows new after) (λ x y h. shows_keep log new outers after st.kept x y h) rest
-        popped.front popped.fronts)
-        (each_turned (Shows new after) s.first s.second (idle_of i q popped.last) st.now.idle))
-
-    goes_on : Each (LeadsTo new after (rest_at argument q)) ws' (filter_map (next_of i q) (w.out ++ popped.last ∷ []))
-    goes_on = subst (λ l. Each (LeadsTo new after (rest_at argument q)) l
-        (filter_map (next_of i q) (w.out ++ popped.last ∷ []))) (sym waits)
-        (subst (Each (LeadsTo new after (rest_at argument q)) (ws ++ option_to_list s.next))
-        (sym (filter_map-append (next_of i q) w.out (popped.last ∷ [])
-        ∙ ap (λ l. filter_map (next_of i q) w.out ++ l) (one_step (next_of i q) popped.last)))
-        (each_append (LeadsTo new after (rest_at argument q)) ws (option_to_list s.next)
-        (filter_map (next_of i q) w.out) (option_to_list (next_of i q popped.last))
-        (each_weaker (LeadsTo log outers (rest_at argument q)) (LeadsTo new after (rest_at argument q))
-        (λ x y h. leads_keep log new outers after st.kept (rest_at argument q) x y h) ws
-        (filter_map (next_of i q) w.out) w.goes_on)
-        (both_each (LeadsTo new after (rest_at argument q)) s.next (next_of i q popped.last) st.now.next)))
-
-    ended : Each (Holds new) hs' (filter_map finished_of (w.out ++ popped.last ∷ []))
-    ended = subst (λ l. Each (Holds new) l (filter_map finished_of (w.out ++ popped.last ∷ []))) (sym ends)
-        (subst (Each (Holds new) (hs ++ option_to_list s.done))
-        (sym (filter_map-append finished_of w.out (popped.last ∷ [])
-        ∙ ap (λ l. filter_map finished_of w.out ++ l) (one_step finished_of popped.last)))
-        (each_append (Holds new) hs (option_to_list s.done) (filter_map finished_of w.out)
-        (option_to_list (finished_of popped.last))
-        (each_weaker (Holds log) (Holds new) (λ x y h. holds_keep log new outers after st.kept x y h) hs
-        (filter_map finished_of w.out) w.ended)
-        (both_each (Holds new) s.done (finished_of popped.last) st.now.done)))
-
     pub first_take : nat_lt (times p.number met) 1 ≡ true
         → FirstWalked i pattern q all (p.number ∷ met) new after (rest_at argument q) todo' ws' hs'
     first_take few = record {
@@ -158,9 +120,9 @@ module _ {A : Type 0} (i : Input) (pattern : Ops) (argument : Forest) (q : ℕ) 
           ∙ sym (reverse-append popped.front (reverse (idle_of i q popped.last))))
           (walks_take (forward i pattern q) all met w.out popped.last (reverse popped.front) walks
           (subst (λ n. times n met < 1) number (ltb-true (times p.number met) 1 few))));
-      shown = shown;
-      goes_on = goes_on;
-      ended = ended;
+      shown = shown_on i argument q log outers rest p w.stack popped new after s gives todo' pushed;
+      goes_on = leads_on i argument q log outers rest p w.stack popped new after s gives w.out ws ws' waits w.goes_on;
+      ended = ends_on i argument q log outers rest p w.stack popped new after s gives w.out hs hs' ends w.ended;
     }
 
     -- and it is noted where it fails
@@ -173,16 +135,7 @@ module _ {A : Type 0} (i : Input) (pattern : Ops) (argument : Forest) (q : ℕ) 
         → IsReportOf new f r' (filter_map (misfit i q) (first_take few).out) n
     unfolding first_take
     noted_take few f r r' n b h e same looked is =
-        let ms = filter_map (misfit i q) w.out in
-        let one = one_step (misfit i q) popped.last
-        ∙ ap (λ x. option_to_list (misfit_unless x q popped.last))
-        (sym (e ∙ step_same i argument q new after popped.last s st.now)) in
-        subst (λ l. IsReportOf new f r' l n)
-        (sym (filter_map-append (misfit i q) w.out (popped.last ∷ []) ∙ ap (λ l. ms ++ l) one))
-        (looked new popped.last ms n (shown_ops log outers p popped.last popped.lasts)
-        (subst (λ x. Holds new x (bound_by popped.last)) (sym same)
-        (shown_bound log new outers p popped.last st.kept.log popped.lasts))
-        (notes_keep log new f r ms n st.kept.log is))
+        report_on i argument q log outers rest p w.stack popped new after s gives w.out f r r' n b h e same looked is
 
 pub first_done : {A : Type 0} (i : Input) (pattern : Ops) (q : ℕ) (all : List Outline) (log : Log)
     (outers : List (Outer A)) (here : Forest) (todo : List (Position A)) (met : List ℕ)

@@ -44,6 +44,13 @@ each_append P [] us (y ∷ ys) vs e f = absurd e
 each_append P (x ∷ xs) us [] vs e f = absurd e
 each_append P (x ∷ xs) us (y ∷ ys) vs e f = (e.0, each_append P xs us ys vs e.1 f)
 
+pub both_weaker : {X Y : Type 0} (P Q : X → Y → Type 0) → ((x : X) (y : Y) → P x y → Q x y)
+    → (x : Option X) (y : Option Y) → Both P x y → Both Q x y
+both_weaker P Q h None None b = tt
+both_weaker P Q h (Some x) (Some y) b = h x y b
+both_weaker P Q h None (Some y) b = absurd b
+both_weaker P Q h (Some x) None b = absurd b
+
 pub both_each : {X Y : Type 0} (P : X → Y → Type 0) (x : Option X) (y : Option Y) → Both P x y
     → Each P (option_to_list x) (option_to_list y)
 both_each P None None b = tt

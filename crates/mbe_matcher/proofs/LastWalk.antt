@@ -23,12 +23,12 @@ use Rattle.mbe_places.specs.declared.position.Position.{Position}
 use Rattle.mbe_places.specs.declared.position.Steps.{Steps}
 use Rattle.mbe_places.specs.declared.position.Waiting.{Waiting}
 use Rattle.mbe_matcher.specs.declared.report.Report.{Report}
-use Rattle.mbe_matcher.specs.Positions.{Each, Both, Shows, IsPosition, LeadsTo, Holds, AreSteps, Keeps}
+use Rattle.mbe_matcher.specs.Positions.{Each, Shows, IsPosition, LeadsTo, Holds, AreSteps, Keeps}
 use Rattle.mbe_matcher.specs.Failures.{Misfit, Notes, has_step, misfit, misfit_unless, ops_left, bound_by}
 use Rattle.mbe_matcher.specs.Reports.{IsReportOf}
 use Rattle.mbe_matcher.specs.TwoEnds.{Visit, enter, leave, visits_of, key_of, left_of, only_first, kept_back}
 use Rattle.mbe_matcher.specs.EndsMatched.{to_enter, FailsBy, Leaves, VisitShows, IsLastStack, Enters, FirstFails, AreLasts}
-use Rattle.mbe_matcher.proofs.Keeping.{each_weaker, each_append, both_each, shows_keep, leads_keep, holds_keep}
+use Rattle.mbe_matcher.proofs.Keeping.{both_weaker, each_weaker, each_append, both_each, shows_keep, leads_keep, holds_keep}
 use Rattle.mbe_matcher.proofs.KeptEnds.{map_reverse}
 use Rattle.mbe_matcher.proofs.MatchEnds.{each_length}
 use Rattle.mbe_matcher.proofs.Reporting.{is_step, step_same, shown_ops, shown_bound, misfit_fails}
@@ -36,13 +36,6 @@ use Rattle.mbe_matcher.proofs.Settling.{Last, last_of, each_none, one_step, show
 use Rattle.mbe_matcher.proofs.Walking.{Walks, walks_end, walks_good, walks_drop, walks_take, here_few, here_number, backward, backward_start, GoodVisit, Entered, entered_start, entered_drop, entered_take, leaves_now, entered_leave}
 
 -- ---- in a later log
-
-both_weaker : {X Y : Type 0} (P Q : X → Y → Type 0) → ((x : X) (y : Y) → P x y → Q x y) → (x : Option X) (y : Option Y)
-    → Both P x y → Both Q x y
-both_weaker P Q h None None b = tt
-both_weaker P Q h (Some x) (Some y) b = h x y b
-both_weaker P Q h None (Some y) b = absurd b
-both_weaker P Q h (Some x) None b = absurd b
 
 module _ {A : Type 0} (i : Input) (here : Forest) (q : ℕ) (old new : Log) (before after : List (Outer A))
     (k : Keeps old new before after) where

@@ -6,6 +6,7 @@ pub mod StepLemmas
 pub mod Whole
 pub mod Settling
 pub mod MatchEnds
+pub mod Arriving
 pub mod Reporting
 pub mod TwoEnds
 pub mod KeptEnds
@@ -15,6 +16,7 @@ pub mod Walking
 pub mod FirstWalk
 pub mod LastWalk
 pub mod EndsPass
+pub mod Turning
 pub mod WantedLemmas
 pub mod Looking
 pub mod Starts

@@ -1,5 +1,5 @@
 -- The loop over the positions that are looked at where a match stops.
-use Rattle.std.proofs.Common.{ℕ, ◌≡◌, ◌<◌, ◌≤◌, true, false, Option, Some, None, option_map, option_to_list, List, [], ◌∷◌, ◌++◌, map, reverse, append_assoc, Bor, refl, sym, ap, subst, ◌∙◌}
+use Rattle.std.proofs.Common.{ℕ, ◌≡◌, ◌<◌, ◌≤◌, true, false, Option, Some, None, option_map, option_to_list, List, [], ◌∷◌, ◌++◌, map, reverse, Bor, refl, sym, ap, subst, ◌∙◌}
 use Rattle.std.specs.Prelude.{nat_lt, is_some}
 use Rattle.std.specs.Option.{option_copied}
 use Rattle.std.proofs.lemmas.Bool.{ltb-true, ltb-false}
@@ -23,8 +23,8 @@ use Rattle.mbe_matcher.specs.declared.wanting.Way.{Way}
 use Rattle.mbe_matcher.specs.Positions.{Each, Both, Shows, IsPosition, LeadsTo, AreSteps, Keeps}
 use Rattle.mbe_matcher.specs.Matched.{IsStack}
 use Rattle.mbe_matcher.specs.Wanted.{wanted_seen, outline_wants, step_of_advance, outline_way, way_seen}
-use Rattle.mbe_matcher.proofs.Keeping.{each_weaker, each_append, shows_keep}
-use Rattle.mbe_matcher.proofs.Settling.{Last, last_of, each_turned, each_none, shown_number}
+use Rattle.mbe_matcher.proofs.Keeping.{each_weaker, shows_keep}
+use Rattle.mbe_matcher.proofs.Settling.{Last, last_of, each_none, shown_number, shown_on}
 
 -- the step that waits
 abbrev pub waits : {A : Type 0} → Option (Waiting A) → Option Step
@@ -115,21 +115,12 @@ module _ {A : Type 0} (i : Input) (pattern : Ops) (argument : Forest) (q : ℕ) 
         (w.out ++ popped.last ∷ [])) (sym number)
         (turned_take i pattern q all met w.out popped.last popped.front keeps
         (subst (λ n. times n met < 2) number (ltb-true (times p.number met) 2 few))).0;
-    shown = shown;
+    shown = shown_on i argument q log outers rest p w.stack popped new after s gives todo' pushed;
     looked = looked;
   }
     where
       st : AreSteps i argument q log new outers after popped.last s
       st = gives popped.last popped.lasts
-
-      shown : Each (Shows new after) todo' (popped.front ++ reverse (idle_of i q popped.last))
-      shown = subst (λ l. Each (Shows new after) l (popped.front ++ reverse (idle_of i q popped.last)))
-          (sym (pushed ∙ append_assoc rest (option_to_list s.second) (option_to_list s.first)))
-          (each_append (Shows new after) rest (option_to_list s.second ++ option_to_list s.first) popped.front
-          (reverse (idle_of i q popped.last))
-          (each_weaker (Shows log outers) (Shows new after) (λ x y h. shows_keep log new outers after st.kept x y h)
-          rest popped.front popped.fronts)
-          (each_turned (Shows new after) s.first s.second (idle_of i q popped.last) st.now.idle))
 
       way : Way A
       way = record { next = next; step = step }

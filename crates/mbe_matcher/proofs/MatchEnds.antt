@@ -8,24 +8,21 @@ use Rattle.mbe_semantics.specs.Syntax.Op.{Ops}
 use Rattle.mbe_semantics.specs.Syntax.Nullable.{Checked}
 use Rattle.mbe_semantics.specs.Readings.Input.{Input, input_of}
 use Rattle.mbe_semantics.specs.Readings.Verdict.{Verdict, one_reading, ambiguous, stuck, IsVerdict, verdict_at, stop_of}
-use Rattle.mbe_semantics.specs.Bindings.Account.{Commands, no_account, Log, Handle, HasEntriesOf}
+use Rattle.mbe_semantics.specs.Bindings.Account.{Commands, Log, Handle, HasEntriesOf}
 use Rattle.mbe_semantics.specs.Laws.Lawful.{Lawful}
 use Rattle.mbe_semantics.specs.Matching.Dots.{dots}
-use Rattle.mbe_semantics.specs.Matching.Outline.{Outline, outline, Advance, advance}
+use Rattle.mbe_semantics.specs.Matching.Outline.{Outline, Advance, advance}
 use Rattle.mbe_semantics.specs.Matching.Settled.{clash_with, clash, after_of, first_width}
 use Rattle.mbe_bounds.specs.Loop.Kept.{kept_moves, kept_ends}
-use Rattle.mbe_bounds.proofs.Loop.TurnedPlaces.{ComesTo, turned_start, turned_clash, turned_none, turned_end, turned_binds, turned_next}
+use Rattle.mbe_bounds.proofs.Loop.TurnedPlaces.{ComesTo, turned_clash, turned_none, turned_end, turned_binds, turned_next}
 use Rattle.mbe_log.proofs.ClientLemmas.{has_entries}
 use Rattle.mbe_places.specs.declared.stops.Stop.{Stop}
 use Rattle.mbe_places.specs.declared.stops.Stop.TheVariants as variants
 use Rattle.mbe_places.specs.declared.position.Outer.{Outer}
-use Rattle.mbe_places.specs.declared.position.Position.{Position}
 use Rattle.mbe_places.specs.declared.position.Waiting.{Waiting}
 use Rattle.mbe_matcher.specs.Positions.{Each, Shows, LeadsTo, Holds}
 use Rattle.mbe_places.specs.After.{IsLeft}
-use Rattle.mbe_matcher.specs.Failures.{no_notes}
-use Rattle.mbe_matcher.proofs.Whole.{WholeWith, whole_first}
-use Rattle.mbe_matcher.specs.Matched.{IsStack, IsAtStart, AreSettled, Binds}
+use Rattle.mbe_matcher.specs.Matched.{AreSettled, Binds}
 use Rattle.mbe_places.specs.Stops.{clashes_with, is_clash, width_first, position_after, ends_as, stuck_at, stop_at, verdict_in, reading_in}
 
 -- ---- the positions that go on
@@ -234,35 +231,7 @@ stop_has_entries g pattern argument log variants.ManyReadings b = tt
 stop_has_entries g pattern argument log (variants.Ambiguous p) b = tt
 stop_has_entries g pattern argument log (variants.Stuck p) b = tt
 
--- ---- the first place, and the stack of each
-
-pub come_first : {A : Type 0} (i : Input) (pattern : Ops) (len : ℕ) (log : Log) (outers : List (Outer A))
-    (todo : List (Position A)) (q : ℕ) (p : Position A) → q ≡ 0 → todo ≡ p ∷ [] →
-    IsAtStart log pattern p →
-    (spots : List Outline) × Each (Shows log outers) todo spots
-    × ((lawful : Lawful i len) (checked : Checked pattern) → ComesTo i pattern len lawful checked q spots)
-    × WholeWith i pattern q spots no_notes
-come_first i pattern len log outers todo q p z e start = (
-  outline pattern no_account [] ∷ [],
-  subst (λ l. Each (Shows log outers) l (outline pattern no_account [] ∷ [])) (sym e) (start outers, tt),
-  λ lawful checked. subst (λ k. ComesTo i pattern len lawful checked k (outline pattern no_account [] ∷ [])) (sym z)
-      (turned_start i pattern len lawful checked (outline pattern no_account []) refl),
-  whole_first i pattern q (outline pattern no_account []) z refl,
-)
-
-abbrev pub stack_of : {A : Type 0} (i : Input) (pattern : Ops) (len : ℕ) (lawful : Lawful i len)
-    (checked : Checked pattern) (q size : ℕ) (log : Log) (outers : List (Outer A)) (todo : List (Position A))
-    (spots : List Outline) → dots pattern ≡ size → ComesTo i pattern len lawful checked q spots
-    → Each (Shows log outers) todo spots → IsStack i q size log outers todo
-stack_of i pattern len lawful checked q size log outers todo spots d c e =
-    record {
-      pattern = pattern;
-      size_is = d;
-      beginnings = c.xs;
-      spots = spots;
-      stack = record { sound = c.mirrors.sound; same = c.same };
-      shown = e;
-    }
+-- ---- what follows of clauses
 
 -- what no only reading's handle says
 pub no_reading : (s : Stop) → ((h : Handle) → s ≡ variants.OneReading h → ⊥) → verdict_in s ≡ one_reading → ⊥

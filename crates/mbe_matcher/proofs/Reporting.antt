@@ -19,6 +19,7 @@ use Rattle.mbe_places.specs.declared.position.Steps.{Steps}
 use Rattle.mbe_matcher.specs.Positions.{Each, Both, Shows, LeadsTo, Holds, AreStepsNow}
 use Rattle.mbe_matcher.specs.Failures.{Misfit, Source, failed, ended, Notes, is_any, has_step, or_first, last_of, source_of, noted_with, is_noted, misfit_unless, ops_left, bound_by}
 use Rattle.mbe_matcher.specs.Reports.{IsLast, IsReport, IsMisfit, IsSource, IsReportOf}
+use Rattle.mbe_matcher.proofs.Keeping.{both_weaker}
 
 -- ---- what it stands for
 
@@ -171,13 +172,6 @@ end_noted A log f ms (c ∷ cs) before (j ∷ hs) h k e s i n =
     none_failed A log f ms c cs before k n (subst (λ x. Holds log x c) (sym (i ∙ same)) e.0)
 
 -- ---- in a later log
-
-both_weaker : {X Y : Type 0} (P Q : X → Y → Type 0) → ((x : X) (y : Y) → P x y → Q x y) → (x : Option X) (y : Option Y)
-    → Both P x y → Both Q x y
-both_weaker P Q h None None b = tt
-both_weaker P Q h (Some x) (Some y) b = h x y b
-both_weaker P Q h None (Some y) b = absurd b
-both_weaker P Q h (Some x) None b = absurd b
 
 holds_on : (old new : Log) (h : Handle) (cs : Commands) → IsKept old new → Holds old h cs → Holds new h cs
 holds_on old new h cs k (a, i, e) = (a, k.others h a i, e)

@@ -72,6 +72,87 @@ pub each_none : {X Y : Type 0} (R : X → Y → Type 0) (ys : List Y) → Each R
 each_none R [] a = refl
 each_none R (y ∷ ys) a = elim a [ ]
 
+pub one_step : {X Y : Type 0} (f : X → Option Y) (x : X) → filter_map f (x ∷ []) ≡ option_to_list (f x)
+one_step {Y = Y} f x = at (f x)
+  where
+    at : (y : Option Y) → cons_option y [] ≡ option_to_list y
+    at None = refl
+    at (Some y) = refl
+
+pub shown_number : {A : Type 0} (log : Log) (outers : List (Outer A)) (p : Position A) (o : Outline)
+    → Shows log outers p o → p.number ≡ outline_number o
+shown_number log outers p (outline rest a up) s = s.number
+
+-- ---- what a step adds
+
+module _ {A : Type 0} (i : Input) (argument : Forest) (q : ℕ) (log : Log) (outers : List (Outer A))
+    (rest : List (Position A)) (p : Position A) (stack : List Outline) (top : Last (Shows log outers) rest p stack)
+    (new : Log) (after : List (Outer A)) (s : Steps A)
+    (gives : (o : Outline) → Shows log outers p o → AreSteps i argument q log new outers after o s) where
+  st : AreSteps i argument q log new outers after top.last s
+  st = gives top.last top.lasts
+
+  -- its steps are pushed
+  pub shown_on : (todo : List (Position A)) → todo ≡ (rest ++ option_to_list s.second) ++ option_to_list s.first
+      → Each (Shows new after) todo (top.front ++ reverse (idle_of i q top.last))
+  shown_on todo pushed = subst (λ l. Each (Shows new after) l (top.front ++ reverse (idle_of i q top.last)))
+      (sym (pushed ∙ append_assoc rest (option_to_list s.second) (option_to_list s.first)))
+      (each_append (Shows new after) rest (option_to_list s.second ++ option_to_list s.first) top.front
+      (reverse (idle_of i q top.last))
+      (each_weaker (Shows log outers) (Shows new after) (λ x y h. shows_keep log new outers after st.kept x y h) rest
+      top.front top.fronts)
+      (each_turned (Shows new after) s.first s.second (idle_of i q top.last) st.now.idle))
+
+  -- it waits, or has ended
+  module _ (out : List Outline) where
+    pub leads_on : (ws ws' : List (Waiting A)) → ws' ≡ ws ++ option_to_list s.next
+        → Each (LeadsTo log outers (rest_at argument q)) ws (filter_map (next_of i q) out)
+        → Each (LeadsTo new after (rest_at argument q)) ws' (filter_map (next_of i q) (out ++ top.last ∷ []))
+    leads_on ws ws' waits goes_on = subst (λ l. Each (LeadsTo new after (rest_at argument q)) l
+        (filter_map (next_of i q) (out ++ top.last ∷ []))) (sym waits)
+        (subst (Each (LeadsTo new after (rest_at argument q)) (ws ++ option_to_list s.next))
+        (sym (filter_map-append (next_of i q) out (top.last ∷ [])
+        ∙ ap (λ l. filter_map (next_of i q) out ++ l) (one_step (next_of i q) top.last)))
+        (each_append (LeadsTo new after (rest_at argument q)) ws (option_to_list s.next)
+        (filter_map (next_of i q) out) (option_to_list (next_of i q top.last))
+        (each_weaker (LeadsTo log outers (rest_at argument q)) (LeadsTo new after (rest_at argument q))
+        (λ x y h. leads_keep log new outers after st.kept (rest_at argument q) x y h) ws
+        (filter_map (next_of i q) out) goes_on)
+        (both_each (LeadsTo new after (rest_at argument q)) s.next (next_of i q top.last) st.now.next)))
+
+    pub ends_on : (hs hs' : List Handle) → hs' ≡ hs ++ option_to_list s.done
+        → Each (Holds log) hs (filter_map finished_of out)
+        → Each (Holds new) hs' (filter_map finished_of (out ++ top.last ∷ []))
+    ends_on hs hs' ends ended = subst (λ l. Each (Holds new) l (filter_map finished_of (out ++ top.last ∷ [])))
+        (sym ends)
+        (subst (Each (Holds new) (hs ++ option_to_list s.done))
+        (sym (filter_map-append finished_of out (top.last ∷ [])
+        ∙ ap (λ l. filter_map finished_of out ++ l) (one_step finished_of top.last)))
+        (each_append (Holds new) hs (option_to_list s.done) (filter_map finished_of out)
+        (option_to_list (finished_of top.last))
+        (each_weaker (Holds log) (Holds new) (λ x y h. holds_keep log new outers after st.kept x y h) hs
+        (filter_map finished_of out) ended)
+        (both_each (Holds new) s.done (finished_of top.last) st.now.done)))
+
+    -- and it is noted where it fails
+    pub report_on : (f : Forest) (r r' : Report A) (n : Notes) (b : Bool) (h : Handle) → b ≡ is_step s → h ≡ p.handle →
+        ((l : Log) (x : Outline) (ms : List Misfit) (m : Notes) → ops_of p.dot.now ≡ ops_left x → Holds l h (bound_by x)
+        → IsReportOf l f r ms m →
+        IsReportOf l f r' (ms ++ option_to_list (misfit_unless b q x)) m) →
+        IsReportOf log f r (filter_map (misfit i q) out) n
+        → IsReportOf new f r' (filter_map (misfit i q) (out ++ top.last ∷ [])) n
+    report_on f r r' n b h e same looked is =
+        let ms = filter_map (misfit i q) out in
+        let one = one_step (misfit i q) top.last
+        ∙ ap (λ x. option_to_list (misfit_unless x q top.last))
+        (sym (e ∙ step_same i argument q new after top.last s st.now)) in
+        subst (λ l. IsReportOf new f r' l n)
+        (sym (filter_map-append (misfit i q) out (top.last ∷ []) ∙ ap (λ l. ms ++ l) one))
+        (looked new top.last ms n (shown_ops log outers p top.last top.lasts)
+        (subst (λ x. Holds new x (bound_by top.last)) (sym same)
+        (shown_bound log new outers p top.last st.kept.log top.lasts))
+        (notes_keep log new f r ms n st.kept.log is))
+
 -- ---- what the loop keeps
 
 -- The outlines that are followed so far are `out`, and those of the stack are left.
@@ -113,17 +194,6 @@ pub fills_begin : {A : Type 0} (i : Input) (q size : ℕ) (log : Log) (outers : 
     (walked_start i q size log outers here todo ws hs s e g).out
 unfolding walked_start
 fills_begin i q size log outers here todo ws hs s e g len lawful = fills_first i s.pattern q len lawful s.spots
-
-pub one_step : {X Y : Type 0} (f : X → Option Y) (x : X) → filter_map f (x ∷ []) ≡ option_to_list (f x)
-one_step {Y = Y} f x = at (f x)
-  where
-    at : (y : Option Y) → cons_option y [] ≡ option_to_list y
-    at None = refl
-    at (Some y) = refl
-
-pub shown_number : {A : Type 0} (log : Log) (outers : List (Outer A)) (p : Position A) (o : Outline)
-    → Shows log outers p o → p.number ≡ outline_number o
-shown_number log outers p (outline rest a up) s = s.number
 
 module _ {A : Type 0} (i : Input) (pattern : Ops) (argument : Forest) (q : ℕ) (all : List Outline) (met : List ℕ)
     (log : Log) (outers : List (Outer A))
@@ -177,45 +247,6 @@ module _ {A : Type 0} (i : Input) (pattern : Ops) (argument : Forest) (q : ℕ) 
       (gives : (o : Outline) → Shows log outers p o → AreSteps i argument q log new outers after o s)
       (pushed : todo' ≡ (rest ++ option_to_list s.second) ++ option_to_list s.first)
       (waits : ws' ≡ ws ++ option_to_list s.next) (ends : hs' ≡ hs ++ option_to_list s.done) where
-    o : Outline
-    o = popped.last
-
-    st : AreSteps i argument q log new outers after popped.last s
-    st = gives popped.last popped.lasts
-
-    shown : Each (Shows new after) todo' (popped.front ++ reverse (idle_of i q popped.last))
-    shown = subst (λ l. Each (Shows new after) l (popped.front ++ reverse (idle_of i q popped.last)))
-        (sym (pushed ∙ append_assoc rest (option_to_list s.second) (option_to_list s.first)))
-        (each_append (Shows new after) rest (option_to_list s.second ++ option_to_list s.first) popped.front
-        (reverse (idle_of i q popped.last))
-        (each_weaker (Shows log outers) (Shows new after) (λ x y h. shows_keep log new outers after st.kept x y h) rest
-        popped.front popped.fronts)
-        (each_turned (Shows new after) s.first s.second (idle_of i q popped.last) st.now.idle))
-
-    goes_on : Each (LeadsTo new after (rest_at argument q)) ws' (filter_map (next_of i q) (w.out ++ popped.last ∷ []))
-    goes_on = subst (λ l. Each (LeadsTo new after (rest_at argument q)) l
-        (filter_map (next_of i q) (w.out ++ popped.last ∷ []))) (sym waits)
-        (subst (Each (LeadsTo new after (rest_at argument q)) (ws ++ option_to_list s.next))
-        (sym (filter_map-append (next_of i q) w.out (popped.last ∷ [])
-        ∙ ap (λ l. filter_map (next_of i q) w.out ++ l) (one_step (next_of i q) popped.last)))
-        (each_append (LeadsTo new after (rest_at argument q)) ws (option_to_list s.next)
-        (filter_map (next_of i q) w.out) (option_to_list (next_of i q popped.last))
-        (each_weaker (LeadsTo log outers (rest_at argument q)) (LeadsTo new after (rest_at argument q))
-        (λ x y h. leads_keep log new outers after st.kept (rest_at argument q) x y h) ws
-        (filter_map (next_of i q) w.out) w.goes_on)
-        (both_each (LeadsTo new after (rest_at argument q)) s.next (next_of i q popped.last) st.now.next)))
-
-    ended : Each (Holds new) hs' (filter_map finished_of (w.out ++ popped.last ∷ []))
-    ended = subst (λ l. Each (Holds new) l (filter_map finished_of (w.out ++ popped.last ∷ []))) (sym ends)
-        (subst (Each (Holds new) (hs ++ option_to_list s.done))
-        (sym (filter_map-append finished_of w.out (popped.last ∷ [])
-        ∙ ap (λ l. filter_map finished_of w.out ++ l) (one_step finished_of popped.last)))
-        (each_append (Holds new) hs (option_to_list s.done) (filter_map finished_of w.out)
-        (option_to_list (finished_of popped.last))
-        (each_weaker (Holds log) (Holds new) (λ x y h. holds_keep log new outers after st.kept x y h) hs
-        (filter_map finished_of w.out) w.ended)
-        (both_each (Holds new) s.done (finished_of popped.last) st.now.done)))
-
     pub walked_take : nat_lt (times p.number met) 2 ≡ true
         → Walked i pattern q all (p.number ∷ met) new after (rest_at argument q) todo' ws' hs'
     walked_take few = record {
@@ -225,9 +256,9 @@ module _ {A : Type 0} (i : Input) (pattern : Ops) (argument : Forest) (q : ℕ) 
           (w.out ++ popped.last ∷ [])) (sym number)
           (turned_take i pattern q all met w.out popped.last popped.front keeps
           (subst (λ n. times n met < 2) number (ltb-true (times p.number met) 2 few))).0;
-      shown = shown;
-      goes_on = goes_on;
-      ended = ended;
+      shown = shown_on i argument q log outers rest p w.stack popped new after s gives todo' pushed;
+      goes_on = leads_on i argument q log outers rest p w.stack popped new after s gives w.out ws ws' waits w.goes_on;
+      ended = ends_on i argument q log outers rest p w.stack popped new after s gives w.out hs hs' ends w.ended;
     }
 
     -- and it is noted where it fails
@@ -240,16 +271,7 @@ module _ {A : Type 0} (i : Input) (pattern : Ops) (argument : Forest) (q : ℕ) 
         → IsReportOf new f r' (filter_map (misfit i q) (walked_take few).out) n
     unfolding walked_take
     report_take few f r r' n b h e same looked is =
-        let ms = filter_map (misfit i q) w.out in
-        let one = one_step (misfit i q) popped.last
-        ∙ ap (λ x. option_to_list (misfit_unless x q popped.last))
-        (sym (e ∙ step_same i argument q new after popped.last s st.now)) in
-        subst (λ l. IsReportOf new f r' l n)
-        (sym (filter_map-append (misfit i q) w.out (popped.last ∷ []) ∙ ap (λ l. ms ++ l) one))
-        (looked new popped.last ms n (shown_ops log outers p popped.last popped.lasts)
-        (subst (λ x. Holds new x (bound_by popped.last)) (sym same)
-        (shown_bound log new outers p popped.last st.kept.log popped.lasts))
-        (notes_keep log new f r ms n st.kept.log is))
+        report_on i argument q log outers rest p w.stack popped new after s gives w.out f r r' n b h e same looked is
 
     pub fills_next : (few : nat_lt (times p.number met) 2 ≡ true) (spots : List Outline) (len : ℕ) → Lawful i len
         → FillsAll i pattern q spots w.stack w.out →
@@ -342,6 +364,12 @@ few_on ws ws' hs hs' w h v v' n e f one l few =
     let a : length ws' ≡ length ws + length (option_to_list w) = ap length e ∙ length-append ws (option_to_list w) in
     let b : length hs' ≡ length hs + length (option_to_list h) = ap length f ∙ length-append hs (option_to_list h) in
     omega (arith, a, b, one, l, few)
+
+pub stack_drops : {P : Type 0} (rest all : List P) (p : P) (v v' : ℕ) → all ≡ rest ++ p ∷ [] → v' ≡ v
+    → length rest + (v' + v') < length all + (v + v)
+stack_drops rest all p v v' e same =
+    let a : length all ≡ length rest + 1 = ap length e ∙ length-append rest (p ∷ []) in
+    omega (arith, a, same)
 
 pub stack_falls : {P : Type 0} (rest all all' : List P) (p : P) (first second : Option P) (v v' : ℕ)
     → all ≡ rest ++ p ∷ [] → all' ≡ (rest ++ option_to_list second) ++ option_to_list first →

@@ -21,7 +21,6 @@ use Rattle.mbe_semantics.specs.Matching.Dots.{dots}
 use Rattle.mbe_semantics.specs.Matching.Held.{held, moves_of, clashing_with, clashing}
 use Rattle.mbe_semantics.specs.Matching.Lists.{In, Distinct, NoneAt}
 use Rattle.mbe_semantics.specs.Matching.Outline.{Outline, erase, erase_move}
-use Rattle.mbe_semantics.specs.Matching.Settled.{clash}
 use Rattle.mbe_semantics.specs.Matching.Story.{story}
 use Rattle.mbe_laws.proofs.Matching.Clashes.{from_filter, in_filter}
 use Rattle.mbe_laws.proofs.Matching.Outlines.{erase_next}

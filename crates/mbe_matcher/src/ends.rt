@@ -43,7 +43,7 @@ use crate::met::Met;
 use crate::places::at_start;
 use crate::report::{Report, is_noted};
 use crate::skipping::dots_of;
-use crate::steps::steps;
+use crate::steps::{push_some, steps};
 use mbe_log::log::{BindingLog, Handle, again};
 use mbe_ops::ops::{MetaTemplate, Op};
 use mbe_places::position::{Outer, Position, Waiting};
@@ -144,20 +144,6 @@ impl<'a, A: Allocator + Copy> Pass<'a, A> {
         }
         self.report.after_place(ends);
     }
-}
-
-#[inline(always)]
-fn push_some<T: Drop, A: Allocator + Copy>(
-    values: &mut Vec<T, A>,
-    value: Option<T>,
-) -> Result<(), AllocError>
-    ensures { OnOk result (values.new.items ≡ values.old.items ++ option_to_list value) }
-{
-    let Some(value) = value else {
-        return Ok(());
-    };
-    values.push(value)?;
-    Ok(())
 }
 
 impl<'a, A: Allocator + Copy> Firsts<'a, A> {

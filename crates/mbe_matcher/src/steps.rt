@@ -1,5 +1,5 @@
 // The steps of a position at one place.
-ghost use Rattle.std.specs.Prelude.{◌≡◌, ◌≤◌, ◌+◌, IfOk, Some, None, option_map};
+ghost use Rattle.std.specs.Prelude.{◌≡◌, ◌≤◌, ◌+◌, ◌++◌, IfOk, OnOk, Some, None, option_map, option_to_list};
 ghost use Rattle.mbe_semantics.specs.Bindings.Account.{Account, IsAccount, HasEntriesOf};
 ghost use Rattle.mbe_semantics.specs.Syntax.Op.{op as op_then, group, variable, repetition, no_ops};
 ghost use Rattle.mbe_semantics.specs.Matching.Dots.{dots};
@@ -375,4 +375,19 @@ fn round_steps<'a, A: Allocator + Copy>(
         second,
         ..over(width, None, again)
     })
+}
+
+// The value at the end, if there is one.
+#[inline(always)]
+pub(crate) fn push_some<T: Drop, A: Allocator + Copy>(
+    values: &mut Vec<T, A>,
+    value: Option<T>,
+) -> Result<(), AllocError>
+    ensures { OnOk result (values.new.items ≡ values.old.items ++ option_to_list value) }
+{
+    let Some(value) = value else {
+        return Ok(());
+    };
+    values.push(value)?;
+    Ok(())
 }

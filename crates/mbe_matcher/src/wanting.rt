@@ -3,7 +3,7 @@
 // The positions go from place to place as in a match (`places`). At the place where they stop, those that came there are followed
 // once more, two of each dot, and what is next after each is collected: as every dot that a beginning has there is among them,
 // so is everything that is next after one; and as two of each are, so are two that clash.
-ghost use Rattle.std.specs.Prelude.{◌≡◌, ◌++◌, map, option_map, option_to_list, is_some, IfOk, OnOk};
+ghost use Rattle.std.specs.Prelude.{◌≡◌, map, option_map, is_some, IfOk, OnOk};
 ghost use Rattle.mbe_tt.specs.Views.View.{trees};
 ghost use Rattle.mbe_semantics.specs.Bindings.Account.{Log};
 ghost use Rattle.mbe_semantics.specs.Syntax.Nullable.{Checked};
@@ -22,7 +22,7 @@ use crate::matching::{Verdict, verdict_of};
 use crate::places::at_start;
 use crate::settle::{Settled, State, settle};
 use crate::skipping::dots_of;
-use crate::steps::steps;
+use crate::steps::{push_some, steps};
 use mbe_log::log::BindingLog;
 use mbe_ops::ops::{MetaTemplate, Op, Separator};
 use mbe_places::counts::Counts;
@@ -188,20 +188,6 @@ fn look<'a, A: Allocator + Copy, G: FragmentGrammar>(
         push_some(todo, found.first)?;
     }
     Ok(ways)
-}
-
-// The value at the end, if there is one.
-fn push_some<T: Drop, A: Allocator + Copy>(
-    values: &mut Vec<T, A>,
-    value: Option<T>,
-) -> Result<(), AllocError>
-    ensures { OnOk result (values.new.items ≡ values.old.items ++ option_to_list value) }
-{
-    let Some(value) = value else {
-        return Ok(());
-    };
-    values.push(value)?;
-    Ok(())
 }
 
 // The positions on a stack once more.

@@ -1,34 +1,38 @@
-use Rattle.std.proofs.Common.{◌≡◌, ◌+◌, ◌∙◌, ◌++◌, ◌∷◌, ℕ, Some, None, [], length, map, reverse, get_or, sym, ap, subst, arith}
+use Rattle.std.proofs.Common.{◌≡◌, ◌∙◌, ◌++◌, ◌∷◌, ℕ, false, Some, None, List, [], map, get_or, reverse, refl, sym, ap, subst, arith}
 use Rattle.std.specs.Prelude.{IfSome}
 use Rattle.mbe_tt.specs.Views.View.{trees}
 use Rattle.mbe_tt.specs.Trees.Tree.{flat_len, tree_count, rest_at}
 use Rattle.mbe_semantics.specs.Readings.Input.{input_of}
 use Rattle.mbe_semantics.specs.Readings.Verdict.{IsVerdict, unmatched}
+use Rattle.mbe_semantics.specs.Bindings.Account.{no_account}
 use Rattle.mbe_semantics.specs.Laws.Lawful.{Lawful}
 use Rattle.mbe_semantics.specs.Matching.Dots.{dots}
+use Rattle.mbe_semantics.specs.Matching.Held.{held}
+use Rattle.mbe_semantics.specs.Matching.Outline.{outline, erase}
 use Rattle.mbe_semantics.specs.Matching.Settled.{after_of}
-use Rattle.mbe_semantics.specs.Syntax.Nullable.{Checked}
 use Rattle.mbe_semantics.proofs.InputLemmas.{lawful_input}
 use Rattle.mbe_ops.specs.Views.{ops_of, template_of}
 use Rattle.mbe_log.proofs.ClientLemmas.{kept-on}
 use Rattle.mbe_bounds.specs.Loop.Kept.{kept, kept_moves}
-use Rattle.mbe_bounds.proofs.Loop.TurnedPlaces.{ComesTo}
 use Rattle.mbe_matcher.specs.declared.places.Reached.{Reached}
 use Rattle.mbe_places.specs.declared.position.Waiting.{Waiting}
-use Rattle.mbe_matcher.specs.Positions.{Each, Shows}
-use Rattle.mbe_places.specs.After.{IsLeft}
-use Rattle.mbe_matcher.specs.Failures.{no_notes, noted_at, AreNotes}
-use Rattle.mbe_matcher.specs.Reports.{IsReportOf, IsReportIn}
+use Rattle.mbe_matcher.specs.Failures.{Notes, no_notes, noted_at, AreNotes}
+use Rattle.mbe_matcher.specs.Reports.{IsReportOf, IsReportIn, Settles}
 use Rattle.mbe_matcher.specs.Matched.{Binds}
 use Rattle.mbe_places.specs.Stops.{position_after, stop_at, verdict_in, reading_in}
-use Rattle.mbe_matcher.proofs.MatchEnds.{right_stop, stop_place, binds_stop, next, come_first, stack_of, shown_after}
-use Rattle.mbe_matcher.proofs.Whole.{WholeWith, whole_sound, whole_notes, whole_after}
+use Rattle.mbe_matcher.proofs.Arriving.{came_first, came_stack, came_next, SettledAt, Onward, stop_seen, settled_verdict, settled_place, settled_binds, settled_some, settled_onward}
+use Rattle.mbe_matcher.proofs.Whole.{WholeWith, whole_first, whole_sound, whole_notes, whole_after}
 use Rattle.mbe_matcher.proofs.places.follow.Goals as goal
+use Rattle.mbe_matcher.proofs.places.follow.Goals.{In_ok-dots, In_ok-settle, In-Some, In_default}
 
-pub at_start-requires : goal.at_start-requires
-at_start-requires g c =
+-- the dots are counted
+counted : (g : _) (c : In_ok-dots g) → c.in_ok-dots.dots ≡ dots (template_of c.args.pattern.now)
+counted g c =
     subst (λ r. IfSome r (λ n. n ≡ dots (ops_of c.deref.result.now))) c.in_ok-dots.ensures.ok_part c.dots_of.ensures
     ∙ ap (λ l. dots (ops_of l)) c.deref.ensures.value
+
+pub at_start-requires : goal.at_start-requires
+at_start-requires g c = counted g (goal.at.at_start-requires g c).In_ok-dots
 
 pub loop-source-init : goal.loop-source-init
 loop-source-init g c =
@@ -36,352 +40,137 @@ loop-source-init g c =
     let s = c.new-source.result in
     let pat = template_of c.args.pattern.now in
     let p = c.in_ok-position.position in
-    let one = c.in_ok-push.ensures.ok ∙ ap (λ l. l ++ p ∷ []) c.new-todo.ensures.items in
-    let all : c.in_ok-dots.dots ≡ dots pat =
-    subst (λ r. IfSome r (λ n. n ≡ dots (ops_of c.deref.result.now))) c.in_ok-dots.ensures.ok_part c.dots_of.ensures
-    ∙ ap (λ l. dots (ops_of l)) c.deref.ensures.value in
-    let first = come_first (input_of h (trees s.whole)) pat (flat_len (trees s.whole)) c.at_start.new.log
-    c.in_ok-state.state.outers.items c.push.new.self.items s.place p c.new-source.ensures.place one
-    c.in_ok-position.ensures.start in
     record {
       comes = (
-        first.0,
-        first.1,
-        first.2,
+        came_first h pat (trees s.whole) c.at_start.new.log c.in_ok-state.state.outers.items c.push.new.self.items
+            s.place p c.new-source.ensures.place
+            (c.in_ok-push.ensures.ok ∙ ap (λ l. l ++ p ∷ []) c.new-todo.ensures.items) c.in_ok-position.ensures.start,
         no_notes,
         c.in_ok-state.ensures.notes c.at_start.new.log (trees s.whole),
-        λ clean. first.3,
+        λ clean. whole_first (input_of h (trees s.whole)) pat s.place (outline pat no_account [])
+            c.new-source.ensures.place refl,
       );
       whole = c.new-source.ensures.whole;
       blank = λ q l. c.in_ok-state.ensures.blank q (omega arith);
-      size = c.in_ok-state.ensures.size ∙ all;
+      size = c.in_ok-state.ensures.size ∙ counted g (goal.at.loop-source-init g c).In_ok-dots;
       kept = c.in_ok-position.ensures.kept;
     }
 
 pub settle-requires : goal.settle-requires
 settle-requires g c =
-    let h = g.G.FragmentGrammar.grammar c.args.grammar.now in
-    let s = c.loop-source.source in
-    let i = input_of h (trees s.whole) in
-    let len = flat_len (trees s.whole) in
-    let pat = template_of c.args.pattern.now in
-    let w = lawful_input h (trees s.whole) (g.met.G.FragmentGrammar.lawful c.args.grammar.now) in
     let inv = c.loop-source.invariant in
-    let come = inv.comes.2 w c.requires in
-    let stack = stack_of i pat len w c.requires s.place (length c.loop-source.state.counts.marks.items)
-    c.loop-source.log c.loop-source.state.outers.items c.loop-source.todo.items inv.comes.0 (sym inv.size) come
-    inv.comes.1 in
+    let stack = came_stack (g.met.G.FragmentGrammar.lawful c.args.grammar.now) c.requires inv.comes.0 inv.size in
     (omega arith, (omega arith, (stack, inv.blank)))
+
+-- ---- at a place
+
+module _ (g : _) (c : In_ok-settle g) where
+  -- what is known of the positions, and of what they report
+  settles : Settles (g.G.FragmentGrammar.grammar c.args.grammar.now) c.loop-source.source
+      (template_of c.args.pattern.now) c.loop-source.invariant.comes.0.spots c.loop-source.log c.settle.new.log
+      c.loop-source.state c.settle.new.state c.settle.new.settled
+  settles = c.in_ok-settle.ensures.settled
+      (came_stack (g.met.G.FragmentGrammar.lawful c.args.grammar.now) c.requires c.loop-source.invariant.comes.0
+      c.loop-source.invariant.size)
+
+  settled : SettledAt (g.G.FragmentGrammar.grammar c.args.grammar.now) (template_of c.args.pattern.now)
+      (trees c.loop-source.source.whole) c.loop-source.source.place c.loop-source.invariant.comes.0.spots
+      c.settle.new.log c.settle.new.state.outers.items c.settle.new.settled.waiting.items
+      c.settle.new.settled.ends.items
+  settled = record {
+    lawful = g.met.G.FragmentGrammar.lawful c.args.grammar.now;
+    checked = c.requires;
+    comes = c.loop-source.invariant.comes.0.comes;
+    within = c.loop-source.source.within;
+    steps = settles.steps;
+  }
+
+  -- what is noted at the place and before it
+  abbrev noted : Notes
+  noted = noted_at (input_of (g.G.FragmentGrammar.grammar c.args.grammar.now) (trees c.loop-source.source.whole))
+      c.loop-source.source.place
+      (kept (input_of (g.G.FragmentGrammar.grammar c.args.grammar.now) (trees c.loop-source.source.whole))
+      (dots (template_of c.args.pattern.now)) c.loop-source.source.place
+      (reverse c.loop-source.invariant.comes.0.spots)) c.loop-source.invariant.comes.1
+
+  lawful : Lawful (input_of (g.G.FragmentGrammar.grammar c.args.grammar.now) (trees c.loop-source.source.whole))
+      (flat_len (trees c.loop-source.source.whole))
+  lawful = lawful_input (g.G.FragmentGrammar.grammar c.args.grammar.now) (trees c.loop-source.source.whole)
+      (g.met.G.FragmentGrammar.lawful c.args.grammar.now)
+
+  -- as long as none was dropped, all that is held is followed
+  whole : c.settle.new.state.has_dropped ≡ false
+      → (was : WholeWith (input_of (g.G.FragmentGrammar.grammar c.args.grammar.now) (trees c.loop-source.source.whole))
+      (template_of c.args.pattern.now) c.loop-source.source.place c.loop-source.invariant.comes.0.spots
+      c.loop-source.invariant.comes.1)
+      × (kept (input_of (g.G.FragmentGrammar.grammar c.args.grammar.now) (trees c.loop-source.source.whole))
+      (dots (template_of c.args.pattern.now)) c.loop-source.source.place
+      (reverse c.loop-source.invariant.comes.0.spots)
+      ≡ map erase (held (input_of (g.G.FragmentGrammar.grammar c.args.grammar.now)
+      (trees c.loop-source.source.whole)) c.loop-source.source.place was.xs))
+  whole clean =
+      let follows = settles.all clean in
+      let was = c.loop-source.invariant.comes.3 follows.0 in (
+        was,
+        follows.1 c.requires was.xs (whole_sound _ _ _ lawful c.requires _ _ _ was) was.same,
+      )
+
+-- it stops there
+stops : (g : _) (c : In-Some g) → Some (verdict_in c.in-Some.stop)
+    ≡ stop_at c.loop-source.source.place (flat_len (trees c.loop-source.source.whole))
+    c.settle.new.settled.waiting.items c.settle.new.settled.ends.items
+stops g c = stop_seen (Some (verdict_in c.in-Some.stop)) c.loop-source.source.place
+    (flat_len (trees c.loop-source.source.whole)) c.deref-in-loop-source.result.now
+    c.settle.new.settled.waiting.items c.deref-in-loop-source-2.result.now c.settle.new.settled.ends.items
+    c.in-Some.ensures.stop c.deref-in-loop-source.ensures c.deref-in-loop-source-2.ensures
+
+-- or not
+stays : (g : _) (c : In_default g) → None
+    ≡ stop_at c.loop-source.source.place (flat_len (trees c.loop-source.source.whole))
+    c.settle.new.settled.waiting.items c.settle.new.settled.ends.items
+stays g c = stop_seen None c.loop-source.source.place (flat_len (trees c.loop-source.source.whole))
+    c.deref-in-loop-source.result.now c.settle.new.settled.waiting.items c.deref-in-loop-source-2.result.now
+    c.settle.new.settled.ends.items c.in_default.ensures.stop c.deref-in-loop-source.ensures
+    c.deref-in-loop-source-2.ensures
 
 pub returns-in-Some-clause-verdict : goal.returns-in-Some-clause-verdict
 returns-in-Some-clause-verdict g c =
-    let h = g.G.FragmentGrammar.grammar c.args.grammar.now in
-    let s = c.loop-source.source in
-    let i = input_of h (trees s.whole) in
-    let len = flat_len (trees s.whole) in
-    let pat = template_of c.args.pattern.now in
-    let w = lawful_input h (trees s.whole) (g.met.G.FragmentGrammar.lawful c.args.grammar.now) in
-    let inv = c.loop-source.invariant in
-    let come = inv.comes.2 w c.requires in
-    let stack = stack_of i pat len w c.requires s.place (length c.loop-source.state.counts.marks.items)
-    c.loop-source.log c.loop-source.state.outers.items c.loop-source.todo.items inv.comes.0 (sym inv.size) come
-    inv.comes.1 in
-    let st = (c.in_ok-settle.ensures.settled stack).steps in
-    let ws = c.settle.new.settled.waiting.items in
-    let hs = c.settle.new.settled.ends.items in
-    let log = c.settle.new.log in
-    let outers = c.settle.new.state.outers.items in
-    let waits = c.deref-in-loop-source.ensures in
-    let ends = c.deref-in-loop-source-2.ensures in
+    let here = goal.at.returns-in-Some-clause-verdict g c in
     let v = verdict_in c.in-Some.stop in
-    let e : Some v ≡ stop_at s.place len ws hs =
-    c.in-Some.ensures.stop ∙ ap (λ l. stop_at s.place len l c.deref-in-loop-source-2.result.now) waits
-    ∙ ap (stop_at s.place len ws) ends in
-    subst (λ x. IsVerdict h pat (trees x) v) inv.whole
-    (right_stop h pat (trees s.whole) w c.requires s.place inv.comes.0 come s.within log outers ws hs st v e)
+    subst (λ x. IsVerdict (g.G.FragmentGrammar.grammar c.args.grammar.now) (template_of c.args.pattern.now) (trees x) v)
+    c.loop-source.invariant.whole (settled_verdict (settled g here.In_ok-settle) v (stops g here.In-Some))
 
 pub returns-in-Some-clause-unmatched : goal.returns-in-Some-clause-unmatched
 returns-in-Some-clause-unmatched g c =
-    let h = g.G.FragmentGrammar.grammar c.args.grammar.now in
-    let s = c.loop-source.source in
-    let i = input_of h (trees s.whole) in
-    let len = flat_len (trees s.whole) in
-    let pat = template_of c.args.pattern.now in
-    let w = lawful_input h (trees s.whole) (g.met.G.FragmentGrammar.lawful c.args.grammar.now) in
-    let inv = c.loop-source.invariant in
-    let come = inv.comes.2 w c.requires in
-    let stack = stack_of i pat len w c.requires s.place (length c.loop-source.state.counts.marks.items)
-    c.loop-source.log c.loop-source.state.outers.items c.loop-source.todo.items inv.comes.0 (sym inv.size) come
-    inv.comes.1 in
-    let st = (c.in_ok-settle.ensures.settled stack).steps in
-    let ws = c.settle.new.settled.waiting.items in
-    let hs = c.settle.new.settled.ends.items in
-    let log = c.settle.new.log in
-    let outers = c.settle.new.state.outers.items in
-    let waits = c.deref-in-loop-source.ensures in
-    let ends = c.deref-in-loop-source-2.ensures in
+    let here = goal.at.returns-in-Some-clause-unmatched g c in
     let v = verdict_in c.in-Some.stop in
-    let e : Some v ≡ stop_at s.place len ws hs =
-    c.in-Some.ensures.stop ∙ ap (λ l. stop_at s.place len l c.deref-in-loop-source-2.result.now) waits
-    ∙ ap (stop_at s.place len ws) ends in
-    let stop = stop_place h pat (trees s.whole) w c.requires s.place inv.comes.0 come s.within log outers ws hs st v
-    e in
-    subst (λ x. c.trees_left.result ≡ unmatched (trees x) v) inv.whole
-    (c.trees_left.ensures ∙ ap (λ (n : ℕ). tree_count (rest_at (trees s.whole) n)) (sym stop))
+    subst (λ x. c.trees_left.result ≡ unmatched (trees x) v) c.loop-source.invariant.whole
+    (c.trees_left.ensures ∙ ap (λ (n : ℕ). tree_count (rest_at (trees c.loop-source.source.whole) n))
+    (sym (settled_place (settled g here.In_ok-settle) v (stops g here.In-Some))))
 
 pub returns-in-Some-clause-binds : goal.returns-in-Some-clause-binds
 returns-in-Some-clause-binds g c =
-    let h = g.G.FragmentGrammar.grammar c.args.grammar.now in
-    let s = c.loop-source.source in
-    let i = input_of h (trees s.whole) in
-    let len = flat_len (trees s.whole) in
-    let pat = template_of c.args.pattern.now in
-    let w = lawful_input h (trees s.whole) (g.met.G.FragmentGrammar.lawful c.args.grammar.now) in
-    let inv = c.loop-source.invariant in
-    let come = inv.comes.2 w c.requires in
-    let stack = stack_of i pat len w c.requires s.place (length c.loop-source.state.counts.marks.items)
-    c.loop-source.log c.loop-source.state.outers.items c.loop-source.todo.items inv.comes.0 (sym inv.size) come
-    inv.comes.1 in
-    let st = (c.in_ok-settle.ensures.settled stack).steps in
-    let ws = c.settle.new.settled.waiting.items in
-    let hs = c.settle.new.settled.ends.items in
-    let log = c.settle.new.log in
-    let outers = c.settle.new.state.outers.items in
-    let waits = c.deref-in-loop-source.ensures in
-    let ends = c.deref-in-loop-source-2.ensures in
-    let v = verdict_in c.in-Some.stop in
-    let e : Some v ≡ stop_at s.place len ws hs =
-    c.in-Some.ensures.stop ∙ ap (λ l. stop_at s.place len l c.deref-in-loop-source-2.result.now) waits
-    ∙ ap (stop_at s.place len ws) ends in
-    let only = subst (λ l. IfSome (reading_in c.in-Some.stop) (λ h. l ≡ h ∷ [])) ends c.in-Some.ensures.reading in
-    let b = binds_stop h pat (trees s.whole) w c.requires s.place inv.comes.0 come s.within log outers ws hs st
-    c.in-Some.stop e only in
-    subst (λ x. IfSome (reading_in c.in-Some.stop) (Binds h pat (trees x) log)) inv.whole b
+    let here = goal.at.returns-in-Some-clause-binds g c in
+    let only = subst (λ l. IfSome (reading_in c.in-Some.stop) (λ h. l ≡ h ∷ [])) c.deref-in-loop-source-2.ensures
+    c.in-Some.ensures.reading in
+    subst (λ x. IfSome (reading_in c.in-Some.stop)
+    (Binds (g.G.FragmentGrammar.grammar c.args.grammar.now) (template_of c.args.pattern.now) (trees x)
+    c.settle.new.log)) c.loop-source.invariant.whole
+    (settled_binds (settled g here.In_ok-settle) c.in-Some.stop (stops g here.In-Some) only)
 
 pub returns-in-Some-clause-kept : goal.returns-in-Some-clause-kept
 returns-in-Some-clause-kept g c = kept-on c.args.log.now c.loop-source.log c.settle.new.log c.loop-source.invariant.kept
     c.in_ok-settle.ensures.kept.log
 
-pub bounds-deref-0 : goal.bounds-deref-0
-bounds-deref-0 g c =
-    let h = g.G.FragmentGrammar.grammar c.args.grammar.now in
-    let s = c.loop-source.source in
-    let i = input_of h (trees s.whole) in
-    let len = flat_len (trees s.whole) in
-    let pat = template_of c.args.pattern.now in
-    let w = lawful_input h (trees s.whole) (g.met.G.FragmentGrammar.lawful c.args.grammar.now) in
-    let inv = c.loop-source.invariant in
-    let come = inv.comes.2 w c.requires in
-    let stack = stack_of i pat len w c.requires s.place (length c.loop-source.state.counts.marks.items)
-    c.loop-source.log c.loop-source.state.outers.items c.loop-source.todo.items inv.comes.0 (sym inv.size) come
-    inv.comes.1 in
-    let st = (c.in_ok-settle.ensures.settled stack).steps in
-    let ws = c.settle.new.settled.waiting.items in
-    let hs = c.settle.new.settled.ends.items in
-    let log = c.settle.new.log in
-    let outers = c.settle.new.state.outers.items in
-    let waits = c.deref-in-loop-source.ensures in
-    let ends = c.deref-in-loop-source-2.ensures in
-    let e : None ≡ stop_at s.place len ws hs =
-    c.in_default.ensures.stop ∙ ap (λ l. stop_at s.place len l c.deref-in-loop-source-2.result.now) waits
-    ∙ ap (stop_at s.place len ws) ends in
-    let n = next h pat (trees s.whole) w c.requires s.place inv.comes.0 come s.within log outers ws hs st e in
-    let some : length c.deref-in-loop-source-3.result.now ≡ length (n.first ∷ n.rest) =
-    ap length (c.deref-in-loop-source-3.ensures ∙ n.is) in
-    omega (arith, some)
-
-pub after_step-requires-clause-fits : goal.after_step-requires-clause-fits
-after_step-requires-clause-fits g c =
-    let h = g.G.FragmentGrammar.grammar c.args.grammar.now in
-    let s = c.loop-source.source in
-    let i = input_of h (trees s.whole) in
-    let len = flat_len (trees s.whole) in
-    let pat = template_of c.args.pattern.now in
-    let w = lawful_input h (trees s.whole) (g.met.G.FragmentGrammar.lawful c.args.grammar.now) in
-    let inv = c.loop-source.invariant in
-    let come = inv.comes.2 w c.requires in
-    let stack = stack_of i pat len w c.requires s.place (length c.loop-source.state.counts.marks.items)
-    c.loop-source.log c.loop-source.state.outers.items c.loop-source.todo.items inv.comes.0 (sym inv.size) come
-    inv.comes.1 in
-    let st = (c.in_ok-settle.ensures.settled stack).steps in
-    let ws = c.settle.new.settled.waiting.items in
-    let hs = c.settle.new.settled.ends.items in
-    let log = c.settle.new.log in
-    let outers = c.settle.new.state.outers.items in
-    let waits = c.deref-in-loop-source.ensures in
-    let ends = c.deref-in-loop-source-2.ensures in
-    let e : None ≡ stop_at s.place len ws hs =
-    c.in_default.ensures.stop ∙ ap (λ l. stop_at s.place len l c.deref-in-loop-source-2.result.now) waits
-    ∙ ap (stop_at s.place len ws) ends in
-    let n = next h pat (trees s.whole) w c.requires s.place inv.comes.0 come s.within log outers ws hs st e in
-    let first : c.index-deref-0.result ≡ n.first =
-    c.index-deref-0.is ∙ ap (λ l. get_or l 0 c.index-deref-0.result) (c.deref-in-loop-source-3.ensures ∙ n.is) in
-    let wide = ap (λ (x : Waiting g.row.A.Denot). x.width) first in
-    let fits = n.fits in
-    omega (arith, wide, fits)
-
-pub after_step-requires-clause-left : goal.after_step-requires-clause-left
-after_step-requires-clause-left g c =
-    let h = g.G.FragmentGrammar.grammar c.args.grammar.now in
-    let s = c.loop-source.source in
-    let i = input_of h (trees s.whole) in
-    let len = flat_len (trees s.whole) in
-    let pat = template_of c.args.pattern.now in
-    let w = lawful_input h (trees s.whole) (g.met.G.FragmentGrammar.lawful c.args.grammar.now) in
-    let inv = c.loop-source.invariant in
-    let come = inv.comes.2 w c.requires in
-    let stack = stack_of i pat len w c.requires s.place (length c.loop-source.state.counts.marks.items)
-    c.loop-source.log c.loop-source.state.outers.items c.loop-source.todo.items inv.comes.0 (sym inv.size) come
-    inv.comes.1 in
-    let st = (c.in_ok-settle.ensures.settled stack).steps in
-    let ws = c.settle.new.settled.waiting.items in
-    let hs = c.settle.new.settled.ends.items in
-    let log = c.settle.new.log in
-    let outers = c.settle.new.state.outers.items in
-    let waits = c.deref-in-loop-source.ensures in
-    let ends = c.deref-in-loop-source-2.ensures in
-    let e : None ≡ stop_at s.place len ws hs =
-    c.in_default.ensures.stop ∙ ap (λ l. stop_at s.place len l c.deref-in-loop-source-2.result.now) waits
-    ∙ ap (stop_at s.place len ws) ends in
-    let n = next h pat (trees s.whole) w c.requires s.place inv.comes.0 come s.within log outers ws hs st e in
-    let first : c.index-deref-0.result ≡ n.first =
-    c.index-deref-0.is ∙ ap (λ l. get_or l 0 c.index-deref-0.result) (c.deref-in-loop-source-3.ensures ∙ n.is) in
-    subst (λ (x : Waiting g.row.A.Denot). IsLeft (rest_at (trees s.whole) s.place) x.width x.beyond) (sym first) n.left
-
-pub loop-source-smaller : goal.loop-source-smaller
-loop-source-smaller g c =
-    let h = g.G.FragmentGrammar.grammar c.args.grammar.now in
-    let s = c.loop-source.source in
-    let i = input_of h (trees s.whole) in
-    let len = flat_len (trees s.whole) in
-    let pat = template_of c.args.pattern.now in
-    let w = lawful_input h (trees s.whole) (g.met.G.FragmentGrammar.lawful c.args.grammar.now) in
-    let inv = c.loop-source.invariant in
-    let come = inv.comes.2 w c.requires in
-    let stack = stack_of i pat len w c.requires s.place (length c.loop-source.state.counts.marks.items)
-    c.loop-source.log c.loop-source.state.outers.items c.loop-source.todo.items inv.comes.0 (sym inv.size) come
-    inv.comes.1 in
-    let st = (c.in_ok-settle.ensures.settled stack).steps in
-    let ws = c.settle.new.settled.waiting.items in
-    let hs = c.settle.new.settled.ends.items in
-    let log = c.settle.new.log in
-    let outers = c.settle.new.state.outers.items in
-    let waits = c.deref-in-loop-source.ensures in
-    let ends = c.deref-in-loop-source-2.ensures in
-    let e : None ≡ stop_at s.place len ws hs =
-    c.in_default.ensures.stop ∙ ap (λ l. stop_at s.place len l c.deref-in-loop-source-2.result.now) waits
-    ∙ ap (stop_at s.place len ws) ends in
-    let n = next h pat (trees s.whole) w c.requires s.place inv.comes.0 come s.within log outers ws hs st e in
-    let first : c.index-deref-0.result ≡ n.first =
-    c.index-deref-0.is ∙ ap (λ l. get_or l 0 c.index-deref-0.result) (c.deref-in-loop-source-3.ensures ∙ n.is) in
-    let wide = ap (λ (x : Waiting g.row.A.Denot). x.width) first in
-    let fits = n.fits in
-    let some = n.some in
-    let at = c.in_ok-source.ensures.place in
-    let same = ap (λ x. flat_len (trees x)) c.in_ok-source.ensures.whole in
-    omega (arith, wide, fits, some, at, same)
-
-pub loop-source-preserved : goal.loop-source-preserved
-loop-source-preserved g c =
-    let h = g.G.FragmentGrammar.grammar c.args.grammar.now in
-    let s = c.loop-source.source in
-    let i = input_of h (trees s.whole) in
-    let len = flat_len (trees s.whole) in
-    let pat = template_of c.args.pattern.now in
-    let w = lawful_input h (trees s.whole) (g.met.G.FragmentGrammar.lawful c.args.grammar.now) in
-    let inv = c.loop-source.invariant in
-    let come = inv.comes.2 w c.requires in
-    let stack = stack_of i pat len w c.requires s.place (length c.loop-source.state.counts.marks.items)
-    c.loop-source.log c.loop-source.state.outers.items c.loop-source.todo.items inv.comes.0 (sym inv.size) come
-    inv.comes.1 in
-    let st = (c.in_ok-settle.ensures.settled stack).steps in
-    let ws = c.settle.new.settled.waiting.items in
-    let hs = c.settle.new.settled.ends.items in
-    let log = c.settle.new.log in
-    let outers = c.settle.new.state.outers.items in
-    let waits = c.deref-in-loop-source.ensures in
-    let ends = c.deref-in-loop-source-2.ensures in
-    let e : None ≡ stop_at s.place len ws hs =
-    c.in_default.ensures.stop ∙ ap (λ l. stop_at s.place len l c.deref-in-loop-source-2.result.now) waits
-    ∙ ap (stop_at s.place len ws) ends in
-    let n = next h pat (trees s.whole) w c.requires s.place inv.comes.0 come s.within log outers ws hs st e in
-    let first : c.index-deref-0.result ≡ n.first =
-    c.index-deref-0.is ∙ ap (λ l. get_or l 0 c.index-deref-0.result) (c.deref-in-loop-source-3.ensures ∙ n.is) in
-    let wide = ap (λ (x : Waiting g.row.A.Denot). x.width) first in
-    let some = n.some in
-    let at : c.in_ok-source.source.place ≡ s.place + n.first.width =
-    c.in_ok-source.ensures.place ∙ ap (λ k. s.place + k) wide in
-    let new = map after_of (kept_moves i (dots pat) s.place (reverse inv.comes.0)) in
-    let noted = noted_at i s.place (kept i (dots pat) s.place (reverse inv.comes.0)) inv.comes.3 in
-    let arrived : c.come.new.todo.items ≡ map position_after ws =
-    c.in_ok-come.ensures ∙ ap (λ l. c.settle.new.todo.items ++ map position_after l) c.deref-in-loop-source-4.ensures
-    ∙ ap (λ l. l ++ map position_after ws) c.in_ok-settle.ensures.done in
-    record {
-      comes = (
-        new,
-        subst (λ l. Each (Shows log outers) l new) (sym arrived)
-            (shown_after log outers (rest_at (trees s.whole) s.place) ws
-            (kept_moves i (dots pat) s.place (reverse inv.comes.0)) st.goes_on),
-        subst (λ x. (lawful : Lawful (input_of h (trees x)) (flat_len (trees x))) (checked : Checked pat)
-            → ComesTo (input_of h (trees x)) pat (flat_len (trees x)) lawful checked c.in_ok-source.source.place new)
-            (sym c.in_ok-source.ensures.whole)
-            (λ lawful checked.
-            let n = next h pat (trees s.whole) lawful checked s.place inv.comes.0 (inv.comes.2 lawful checked) s.within
-            log outers ws hs st e in
-            let first : c.index-deref-0.result ≡ n.first =
-            c.index-deref-0.is ∙ ap (λ l. get_or l 0 c.index-deref-0.result)
-            (c.deref-in-loop-source-3.ensures ∙ n.is) in
-            let there : c.in_ok-source.source.place ≡ s.place + n.first.width =
-            c.in_ok-source.ensures.place ∙ ap (λ (x : Waiting g.row.A.Denot). s.place + x.width) first in
-            subst (λ k. ComesTo (input_of h (trees s.whole)) pat (flat_len (trees s.whole)) lawful checked k new)
-            (sym there) n.comes_next),
-        noted,
-        subst (λ x. IsReportOf log (trees x) c.settle.new.state.report [] noted) (sym c.in_ok-source.ensures.whole)
-            ((c.in_ok-settle.ensures.settled stack).notes inv.comes.3 inv.comes.4),
-        λ clean.
-            let follows = (c.in_ok-settle.ensures.settled stack).all clean in
-            let was = inv.comes.5 follows.0 in
-            let all = follows.1 c.requires was.xs
-            (whole_sound i pat len w c.requires s.place inv.comes.0 inv.comes.3 was) was.same in
-            subst (λ x. WholeWith (input_of h (trees x)) pat c.in_ok-source.source.place new noted)
-            (sym c.in_ok-source.ensures.whole)
-            (whole_after i pat len w c.requires s.place inv.comes.0 inv.comes.3 was all c.in_ok-source.source.place
-            n.first.width n.goes_over n.agrees at),
-      );
-      whole = c.in_ok-source.ensures.whole ∙ inv.whole;
-      blank = λ q l. c.in_ok-settle.ensures.blank q (omega (arith, l, at, some));
-      size = c.in_ok-settle.ensures.size ∙ inv.size;
-      kept = kept-on c.args.log.now c.loop-source.log log inv.kept c.in_ok-settle.ensures.kept.log;
-    }
-
 pub returns-in-Some-clause-notes : goal.returns-in-Some-clause-notes
 returns-in-Some-clause-notes g c =
+    let here = goal.at.returns-in-Some-clause-notes g c in
     let h = g.G.FragmentGrammar.grammar c.args.grammar.now in
     let s = c.loop-source.source in
-    let i = input_of h (trees s.whole) in
-    let len = flat_len (trees s.whole) in
     let pat = template_of c.args.pattern.now in
-    let w = lawful_input h (trees s.whole) (g.met.G.FragmentGrammar.lawful c.args.grammar.now) in
     let inv = c.loop-source.invariant in
-    let come = inv.comes.2 w c.requires in
-    let stack = stack_of i pat len w c.requires s.place (length c.loop-source.state.counts.marks.items)
-    c.loop-source.log c.loop-source.state.outers.items c.loop-source.todo.items inv.comes.0 (sym inv.size) come
-    inv.comes.1 in
-    let st = (c.in_ok-settle.ensures.settled stack).steps in
-    let ws = c.settle.new.settled.waiting.items in
-    let hs = c.settle.new.settled.ends.items in
-    let log = c.settle.new.log in
-    let outers = c.settle.new.state.outers.items in
-    let waits = c.deref-in-loop-source.ensures in
-    let ends = c.deref-in-loop-source-2.ensures in
-    let v = verdict_in c.in-Some.stop in
-    let e : Some v ≡ stop_at s.place len ws hs =
-    c.in-Some.ensures.stop ∙ ap (λ l. stop_at s.place len l c.deref-in-loop-source-2.result.now) waits
-    ∙ ap (stop_at s.place len ws) ends in
-    let stop = stop_place h pat (trees s.whole) w c.requires s.place inv.comes.0 come s.within log outers ws hs st v
-    e in
-    let noted = noted_at i s.place (kept i (dots pat) s.place (reverse inv.comes.0)) inv.comes.3 in
-    let settled = c.in_ok-settle.ensures.settled stack in
+    let at = here.In_ok-settle in
+    let stop = settled_place (settled g at) (verdict_in c.in-Some.stop) (stops g here.In-Some) in
     let reached : Reached g.row.A.Denot =
     record {
       stop = c.in-Some.stop;
@@ -389,13 +178,90 @@ returns-in-Some-clause-notes g c =
       report = c.settle.new.state.report;
       has_dropped = c.settle.new.state.has_dropped;
     } in
-    subst (λ x. IsReportIn h pat (trees x) log reached) inv.whole (λ clean.
-    let follows = settled.all clean in
-    let was = inv.comes.5 follows.0 in
-    let all = follows.1 c.requires was.xs (whole_sound i pat len w c.requires s.place inv.comes.0 inv.comes.3 was)
-    was.same in (
-      noted,
-      subst (λ k. AreNotes i pat k noted) (sym stop)
-          (whole_notes i pat len w c.requires s.place inv.comes.0 inv.comes.3 was all),
-      settled.notes inv.comes.3 inv.comes.4,
+    subst (λ x. IsReportIn h pat (trees x) c.settle.new.log reached) inv.whole (λ clean.
+    let all = whole g at clean in (
+      noted g at,
+      subst (λ k. AreNotes (input_of h (trees s.whole)) pat k (noted g at)) (sym stop)
+          (whole_notes (input_of h (trees s.whole)) pat (flat_len (trees s.whole)) (lawful g at) c.requires s.place
+          inv.comes.0.spots inv.comes.1 all.0 all.1),
+      (settles g at).notes inv.comes.1 inv.comes.2,
     ))
+
+pub bounds-deref-0 : goal.bounds-deref-0
+bounds-deref-0 g c =
+    let here = goal.at.bounds-deref-0 g c in
+    settled_some (settled g here.In_ok-settle) (stays g here.In_default) c.deref-in-loop-source-3.result.now
+    c.deref-in-loop-source-3.ensures
+
+-- it goes on, with the step at the front of what was read
+onward : (g : _) (c : In_default g) (x : Waiting g.row.A.Denot) (seen : List (Waiting g.row.A.Denot))
+    → seen ≡ c.settle.new.settled.waiting.items → x ≡ get_or seen 0 x
+    → Onward (g.G.FragmentGrammar.grammar c.args.grammar.now) (template_of c.args.pattern.now)
+    (trees c.loop-source.source.whole) c.loop-source.source.place c.loop-source.invariant.comes.0.spots
+    c.settle.new.settled.waiting.items x
+onward g c x seen same is =
+    settled_onward (settled g (goal.at.In_default g c).In_ok-settle) (stays g c) x seen same is
+
+pub after_step-requires-clause-fits : goal.after_step-requires-clause-fits
+after_step-requires-clause-fits g c =
+    let n = onward g (goal.at.after_step-requires-clause-fits g c).In_default c.index-deref-0.result
+    c.deref-in-loop-source-3.result.now c.deref-in-loop-source-3.ensures c.index-deref-0.is in
+    let fits = n.fits in
+    omega (arith, fits)
+
+pub after_step-requires-clause-left : goal.after_step-requires-clause-left
+after_step-requires-clause-left g c =
+    (onward g (goal.at.after_step-requires-clause-left g c).In_default c.index-deref-0.result
+    c.deref-in-loop-source-3.result.now c.deref-in-loop-source-3.ensures c.index-deref-0.is).left
+
+pub loop-source-smaller : goal.loop-source-smaller
+loop-source-smaller g c =
+    let n = onward g (goal.at.loop-source-smaller g c).In_default c.index-deref-0.result
+    c.deref-in-loop-source-3.result.now c.deref-in-loop-source-3.ensures c.index-deref-0.is in
+    let fits = n.fits in
+    let some = n.some in
+    let at = c.in_ok-source.ensures.place in
+    let same = ap (λ x. flat_len (trees x)) c.in_ok-source.ensures.whole in
+    omega (arith, fits, some, at, same)
+
+pub loop-source-preserved : goal.loop-source-preserved
+loop-source-preserved g c =
+    let here = goal.at.loop-source-preserved g c in
+    let h = g.G.FragmentGrammar.grammar c.args.grammar.now in
+    let s = c.loop-source.source in
+    let i = input_of h (trees s.whole) in
+    let pat = template_of c.args.pattern.now in
+    let inv = c.loop-source.invariant in
+    let spots = inv.comes.0.spots in
+    let ws = c.settle.new.settled.waiting.items in
+    let log = c.settle.new.log in
+    let step = c.index-deref-0.result in
+    let n = onward g here.In_default step c.deref-in-loop-source-3.result.now c.deref-in-loop-source-3.ensures
+    c.index-deref-0.is in
+    let some = n.some in
+    let at = c.in_ok-source.ensures.place in
+    let place = here.In_ok-settle in
+    let arrived : c.come.new.todo.items ≡ map position_after ws =
+    c.in_ok-come.ensures ∙ ap (λ l. c.settle.new.todo.items ++ map position_after l) c.deref-in-loop-source-4.ensures
+    ∙ ap (λ l. l ++ map position_after ws) c.in_ok-settle.ensures.done in
+    record {
+      comes = (
+        came_next (settled g place) step n (trees c.in_ok-source.source.whole)
+            (ap (λ x. trees x) c.in_ok-source.ensures.whole) c.in_ok-source.source.place at
+            c.come.new.todo.items arrived,
+        noted g place,
+        subst (λ x. IsReportOf log (trees x) c.settle.new.state.report [] (noted g place))
+            (sym c.in_ok-source.ensures.whole) ((settles g place).notes inv.comes.1 inv.comes.2),
+        λ clean.
+            let all = whole g place clean in
+            subst (λ x. WholeWith (input_of h (trees x)) pat c.in_ok-source.source.place
+            (map after_of (kept_moves i (dots pat) s.place (reverse spots))) (noted g place))
+            (sym c.in_ok-source.ensures.whole)
+            (whole_after i pat (flat_len (trees s.whole)) (lawful g place) c.requires s.place spots inv.comes.1 all.0
+            all.1 c.in_ok-source.source.place step.width n.goes_over n.agrees at),
+      );
+      whole = c.in_ok-source.ensures.whole ∙ inv.whole;
+      blank = λ q l. c.in_ok-settle.ensures.blank q (omega (arith, l, at, some));
+      size = c.in_ok-settle.ensures.size ∙ inv.size;
+      kept = kept-on c.args.log.now c.loop-source.log log inv.kept c.in_ok-settle.ensures.kept.log;
+    }

@@ -1,4 +1,4 @@
-use Rattle.std.proofs.Common.{◌≡◌, ◌+◌, ◌≤◌, ◌++◌, ◌∷◌, ◌∙◌, true, false, [], length, reverse, option_to_list, length-append, refl, sym, ap, subst, arith}
+use Rattle.std.proofs.Common.{◌≡◌, ◌+◌, ◌<◌, ◌≤◌, ◌++◌, ◌∷◌, ◌∙◌, true, false, [], length, reverse, option_to_list, refl, sym, ap, subst, arith}
 use Rattle.mbe_tt.specs.Trees.Tree.{flat_len, rest_at}
 use Rattle.mbe_tt.specs.Views.View.{trees}
 use Rattle.mbe_semantics.specs.Matching.Dots.{dots}
@@ -10,13 +10,14 @@ use Rattle.mbe_places.specs.declared.counts.Counts.{Counts}
 use Rattle.mbe_places.specs.Counts.{AreCounted, vacancies}
 use Rattle.mbe_places.proofs.Counting.{vacancies_most}
 use Rattle.mbe_matcher.proofs.Keeping.{keeps_not, keeps_on}
-use Rattle.mbe_matcher.proofs.Settling.{walked_start, popped_shown, popped_number, walked_drop, walked_take, walked_end, walked_done, report_start, report_drop, report_take, fills_begin, fills_next, fills_done, steps_few, few_on, stack_falls, popped_all}
+use Rattle.mbe_matcher.proofs.Settling.{walked_start, popped_shown, popped_number, walked_drop, walked_take, walked_end, walked_done, report_start, report_drop, report_take, fills_begin, fills_next, fills_done, steps_few, few_on, stack_drops, stack_falls, popped_all}
 use Rattle.std.specs.List.{filter_map}
 use Rattle.mbe_semantics.specs.Matching.Outline.{finished_of}
-use Rattle.mbe_matcher.specs.Positions.{Each, Holds}
+use Rattle.mbe_matcher.specs.Positions.{Each, Holds, IsPosition}
 use Rattle.mbe_matcher.specs.Failures.{misfit}
 use Rattle.mbe_matcher.specs.Reports.{IsReportOf}
 use Rattle.mbe_matcher.proofs.settle.settle.Goals as goal
+use Rattle.mbe_matcher.proofs.settle.settle.Goals.{In-Some}
 
 pub loop-position-init : goal.loop-position-init
 loop-position-init g c =
@@ -55,35 +56,29 @@ loop-position-init g c =
       );
     }
 
+-- the position on top
+module _ (g : _) (c : In-Some g) where
+  shown : IsPosition c.loop-position.log c.loop-position.state.outers.items c.in-Some.position
+  shown = popped_shown _ _ (trees c.args.source.now.whole) _ _ _ _ _ c.pop.new.self.items _ c.in-Some.position _ _
+      c.in-Some.ensures.items (c.loop-position.invariant.walked.2 c.requires.stack).0
+
+  number : (0 < c.in-Some.position.number) × (c.in-Some.position.number ≤ dots c.requires.stack.pattern)
+  number = popped_number _ _ (trees c.args.source.now.whole) _ _ _ _ _ c.pop.new.self.items _ c.in-Some.position _ _
+      c.in-Some.ensures.items (c.loop-position.invariant.walked.2 c.requires.stack).0
+
 pub takes-requires-clause-some : goal.takes-requires-clause-some
-takes-requires-clause-some g c =
-    let s = c.args.source.now in
-    let i = input_of (g.G.FragmentGrammar.grammar c.args.grammar.now) (trees s.whole) in
-    let st = c.requires.stack in
-    let inv = c.loop-position.invariant in
-    (popped_number i st.pattern (trees s.whole) s.place (kept i (dots st.pattern) s.place (reverse st.spots))
-    inv.walked.0 c.loop-position.log c.loop-position.state.outers.items c.pop.new.self.items
-    c.loop-position.todo.items c.in-Some.position c.loop-position.settled.waiting.items
-    c.loop-position.settled.ends.items c.in-Some.ensures.items (inv.walked.2 st).0).0
+takes-requires-clause-some g c = (number g (goal.at.takes-requires-clause-some g c).In-Some).0
 
 pub takes-requires-clause-within : goal.takes-requires-clause-within
 takes-requires-clause-within g c =
-    let s = c.args.source.now in
-    let i = input_of (g.G.FragmentGrammar.grammar c.args.grammar.now) (trees s.whole) in
-    let st = c.requires.stack in
-    let inv = c.loop-position.invariant in
-    let n = (popped_number i st.pattern (trees s.whole) s.place (kept i (dots st.pattern) s.place (reverse st.spots))
-    inv.walked.0 c.loop-position.log c.loop-position.state.outers.items c.pop.new.self.items
-    c.loop-position.todo.items c.in-Some.position c.loop-position.settled.waiting.items
-    c.loop-position.settled.ends.items c.in-Some.ensures.items (inv.walked.2 st).0).1 in
-    let size = inv.size in
-    let all = st.size_is in
+    let n = (number g (goal.at.takes-requires-clause-within g c).In-Some).1 in
+    let size = c.loop-position.invariant.size in
+    let all = c.requires.stack.size_is in
     omega (arith, n, size, all)
 
 pub loop-position-preserved-then-not-takes : goal.loop-position-preserved-then-not-takes
 loop-position-preserved-then-not-takes g c =
     let s = c.args.source.now in
-    let i = input_of (g.G.FragmentGrammar.grammar c.args.grammar.now) (trees s.whole) in
     let inv = c.loop-position.invariant in
     let met = inv.walked.0 in
     let counted = c.takes.ensures.counted met inv.walked.1 in
@@ -102,15 +97,11 @@ loop-position-preserved-then-not-takes g c =
         subst (λ b. AreCounted c.takes.new.self.marks.items s.place (cons_if b c.in-Some.position.number met))
             c.if-not-takes.true counted.1,
         λ st. (
-          walked_drop i st.pattern (trees s.whole) s.place (kept i (dots st.pattern) s.place (reverse st.spots)) met
-              c.loop-position.log c.loop-position.state.outers.items
-              c.pop.new.self.items c.loop-position.todo.items c.in-Some.position c.loop-position.settled.waiting.items
-              c.loop-position.settled.ends.items c.in-Some.ensures.items (inv.walked.2 st).0
+          walked_drop _ _ (trees s.whole) _ _ _ _ _ c.pop.new.self.items _ c.in-Some.position _ _
+              c.in-Some.ensures.items (inv.walked.2 st).0
               (sym counted.0 ∙ c.if-not-takes.true),
-          λ n r. report_drop i st.pattern (trees s.whole) s.place (kept i (dots st.pattern) s.place (reverse st.spots))
-              met c.loop-position.log c.loop-position.state.outers.items
-              c.pop.new.self.items c.loop-position.todo.items c.in-Some.position c.loop-position.settled.waiting.items
-              c.loop-position.settled.ends.items c.in-Some.ensures.items (inv.walked.2 st).0
+          λ n r. report_drop _ _ (trees s.whole) _ _ _ _ _ c.pop.new.self.items _ c.in-Some.position _ _
+              c.in-Some.ensures.items (inv.walked.2 st).0
               (sym counted.0 ∙ c.if-not-takes.true) (trees s.whole) c.loop-position.state.report n
               ((inv.walked.2 st).1 n r),
           λ clean. let no : true ≡ false = clean in cc,
@@ -119,15 +110,7 @@ loop-position-preserved-then-not-takes g c =
     }
 
 pub steps-requires : goal.steps-requires
-steps-requires g c =
-    let s = c.args.source.now in
-    let i = input_of (g.G.FragmentGrammar.grammar c.args.grammar.now) (trees s.whole) in
-    let st = c.requires.stack in
-    let inv = c.loop-position.invariant in
-    popped_shown i st.pattern (trees s.whole) s.place (kept i (dots st.pattern) s.place (reverse st.spots)) inv.walked.0
-    c.loop-position.log c.loop-position.state.outers.items c.pop.new.self.items
-    c.loop-position.todo.items c.in-Some.position c.loop-position.settled.waiting.items
-    c.loop-position.settled.ends.items c.in-Some.ensures.items (inv.walked.2 st).0
+steps-requires g c = shown g (goal.at.steps-requires g c).In-Some
 
 pub loop-position-smaller : goal.loop-position-smaller
 loop-position-smaller g c =
@@ -142,12 +125,10 @@ loop-position-smaller g c =
 pub loop-position-smaller-then-not-takes : goal.loop-position-smaller-then-not-takes
 loop-position-smaller-then-not-takes g c =
     let s = c.args.source.now in
-    let same : c.takes.new.self.marks.items ≡ c.loop-position.state.counts.marks.items =
-    ap (λ (x : Counts g.row.A.Denot). x.marks.items) (c.takes.ensures.stays c.if-not-takes.true) in
-    let still = ap (vacancies s.place) same in
-    let popped : length c.loop-position.todo.items ≡ length c.pop.new.self.items + 1 =
-    ap length c.in-Some.ensures.items ∙ length-append c.pop.new.self.items (c.in-Some.position ∷ []) in
-    omega (arith, still, popped)
+    stack_drops c.pop.new.self.items c.loop-position.todo.items c.in-Some.position
+    (vacancies s.place c.loop-position.state.counts.marks.items) (vacancies s.place c.takes.new.self.marks.items)
+    c.in-Some.ensures.items
+    (ap (λ (x : Counts g.row.A.Denot). vacancies s.place x.marks.items) (c.takes.ensures.stays c.if-not-takes.true))
 
 pub loop-position-preserved : goal.loop-position-preserved
 loop-position-preserved g c =
@@ -161,11 +142,7 @@ loop-position-preserved g c =
     let lawful = lawful_input (g.G.FragmentGrammar.grammar c.args.grammar.now) (trees s.whole)
     (g.met.G.FragmentGrammar.lawful c.args.grammar.now) in
     let pushed = c.in_ok-push_some-2.ensures ∙ ap (λ l. l ++ option_to_list f.first) c.in_ok-push_some.ensures in
-    let st = c.requires.stack in
-    let is = popped_shown i st.pattern (trees s.whole) s.place (kept i (dots st.pattern) s.place (reverse st.spots)) met
-    c.loop-position.log c.loop-position.state.outers.items c.pop.new.self.items
-    c.loop-position.todo.items c.in-Some.position c.loop-position.settled.waiting.items
-    c.loop-position.settled.ends.items c.in-Some.ensures.items (inv.walked.2 st).0 in
+    let is = shown g (goal.at.loop-position-preserved g c).In-Some in
     let keeping = (c.in_ok-found.ensures is.0 is.1).kept in
     record {
       keeps = keeps_on c.args.log.now c.loop-position.log c.steps.new.log c.args.state.now.outers.items
@@ -185,18 +162,14 @@ loop-position-preserved g c =
         subst (λ b. AreCounted c.takes.new.self.marks.items s.place (cons_if b c.in-Some.position.number met)) taken
             counted.1,
         λ st. (
-          walked_take i st.pattern (trees s.whole) s.place (kept i (dots st.pattern) s.place (reverse st.spots)) met
-              c.loop-position.log c.loop-position.state.outers.items
-              c.pop.new.self.items c.loop-position.todo.items c.in-Some.position c.loop-position.settled.waiting.items
-              c.loop-position.settled.ends.items c.in-Some.ensures.items (inv.walked.2 st).0
+          walked_take _ _ (trees s.whole) _ _ _ _ _ c.pop.new.self.items _ c.in-Some.position _ _
+              c.in-Some.ensures.items (inv.walked.2 st).0
               c.steps.new.log c.steps.new.outers.items f c.push_some-in-Some.new.values.items
               c.push_some-in-Some-2.new.values.items c.push_some-in-Some-3.new.values.items
               c.in_ok-found.ensures pushed c.in_ok-push_some-3.ensures c.in_ok-push_some-4.ensures
               (sym counted.0 ∙ taken),
-          λ n r. report_take i st.pattern (trees s.whole) s.place (kept i (dots st.pattern) s.place (reverse st.spots))
-              met c.loop-position.log c.loop-position.state.outers.items
-              c.pop.new.self.items c.loop-position.todo.items c.in-Some.position c.loop-position.settled.waiting.items
-              c.loop-position.settled.ends.items c.in-Some.ensures.items (inv.walked.2 st).0
+          λ n r. report_take _ _ (trees s.whole) _ _ _ _ _ c.pop.new.self.items _ c.in-Some.position _ _
+              c.in-Some.ensures.items (inv.walked.2 st).0
               c.steps.new.log c.steps.new.outers.items f c.push_some-in-Some.new.values.items
               c.push_some-in-Some-2.new.values.items c.push_some-in-Some-3.new.values.items
               c.in_ok-found.ensures pushed c.in_ok-push_some-3.ensures c.in_ok-push_some-4.ensures
@@ -206,10 +179,8 @@ loop-position-preserved g c =
           λ clean.
               let was = (inv.walked.2 st).2 clean in (
                 was.0,
-                fills_next i st.pattern (trees s.whole) s.place (kept i (dots st.pattern) s.place (reverse st.spots))
-                    met c.loop-position.log c.loop-position.state.outers.items
-                    c.pop.new.self.items c.loop-position.todo.items c.in-Some.position
-                    c.loop-position.settled.waiting.items c.loop-position.settled.ends.items c.in-Some.ensures.items
+                fills_next _ _ (trees s.whole) _ _ _ _ _ c.pop.new.self.items _ c.in-Some.position _ _
+                    c.in-Some.ensures.items
                     (inv.walked.2 st).0
                     c.steps.new.log c.steps.new.outers.items f c.push_some-in-Some.new.values.items
                     c.push_some-in-Some-2.new.values.items c.push_some-in-Some-3.new.values.items

@@ -2,12 +2,18 @@ use Rattle.std.proofs.Common.{◌-◌, None, Some}
 use Rattle.mbe_tt.specs.Views.View.{trees}
 use Rattle.mbe_semantics.specs.Syntax.Op.{no_ops}
 use Rattle.mbe_semantics.specs.Readings.Input.{input_of}
+use Rattle.mbe_semantics.specs.Bindings.Account.{Handle}
+use Rattle.mbe_places.specs.declared.position.Outer.{Outer}
 use Rattle.mbe_places.specs.declared.position.Position.{Position}
 use Rattle.mbe_places.specs.declared.position.Steps.{Steps}
 use Rattle.mbe_matcher.specs.Positions.{AreSteps, over_steps}
 use Rattle.mbe_log.proofs.ClientLemmas.{has_entries}
 use Rattle.mbe_matcher.proofs.StepLemmas.{as_outline, in_rounds, round_done, round_more}
 use Rattle.mbe_matcher.proofs.steps.round_steps.Goals as goal
+
+-- over the end of what is open
+abbrev after_rounds : {A : Type 0} → Outer A → Position A → Handle → Position A
+after_rounds u b h = record { dot = u.rest; number = b.number - 1; up = u.up; handle = h }
 
 pub push_nested-requires-clause-parent : goal.push_nested-requires-clause-parent
 push_nested-requires-clause-parent g c = rw c.again-outside.ensures c.requires.outside
@@ -23,12 +29,7 @@ returns-in_default g c = λ h outers at o s.
     let old = c.args.log.now in
     let mid = c.push_nested.new.self in
     let u = c.args.outer.now in
-    let p : Position g.row.A.Denot = record {
-      dot = u.rest;
-      number = b.number - 1;
-      up = u.up;
-      handle = c.push_nested.new.parent;
-    } in
+    let p = after_rounds u b c.push_nested.new.parent in
     let d : Steps g.row.A.Denot = record { first = None; second = Some p; next = None; done = None } in
     rw c.idle.ensures
     (as_outline old outers (λ x. AreSteps (input_of h (trees src.whole)) (trees src.whole) src.place old mid outers
@@ -55,12 +56,7 @@ returns g c = λ h outers at o s.
     let new = c.push_default.new.self in
     let u = c.args.outer.now in
     let r = c.args.rounds.now in
-    let p : Position g.row.A.Denot = record {
-      dot = u.rest;
-      number = b.number - 1;
-      up = u.up;
-      handle = c.push_nested.new.parent;
-    } in
+    let p = after_rounds u b c.push_nested.new.parent in
     let q : Position g.row.A.Denot = record {
       dot = r.body;
       number = r.front;

@@ -1,15 +1,16 @@
-use Rattle.std.proofs.Common.{◌≡◌, ◌+◌, ◌++◌, ◌<◌, ◌∷◌, ◌∙◌, [], length, option_to_list, length-append, sym, ap, subst, arith}
+use Rattle.std.proofs.Common.{◌++◌, ◌<◌, ◌≤◌, ◌∷◌, ◌∙◌, [], length, option_to_list, sym, ap, subst, arith}
 use Rattle.mbe_tt.specs.Views.View.{trees}
 use Rattle.mbe_semantics.specs.Readings.Input.{input_of}
+use Rattle.mbe_semantics.specs.Matching.Dots.{dots}
 use Rattle.mbe_bounds.specs.Bounded.TwoEach.{cons_if}
-use Rattle.mbe_bounds.specs.Loop.Kept.{kept}
 use Rattle.mbe_places.specs.declared.counts.Counts.{Counts}
 use Rattle.mbe_places.specs.Counts.{AreCounted, vacancies}
 use Rattle.mbe_matcher.specs.Positions.{IsPosition, Shows}
 use Rattle.mbe_matcher.proofs.Keeping.{keeps_not, keeps_on}
-use Rattle.mbe_matcher.proofs.Settling.{stack_falls, popped_all}
+use Rattle.mbe_matcher.proofs.Settling.{stack_drops, stack_falls, popped_all}
 use Rattle.mbe_matcher.proofs.Looking.{waits_same, looking_start, looking_shown, looking_number, looking_drop, looking_take, looking_end}
 use Rattle.mbe_matcher.proofs.wanting.look.Goals as goal
+use Rattle.mbe_matcher.proofs.wanting.look.Goals.{In-Some}
 
 pub loop-position-init : goal.loop-position-init
 loop-position-init g c =
@@ -26,48 +27,43 @@ loop-position-init g c =
       );
     }
 
+-- the position on top
+module _ (g : _) (c : In-Some g) where
+  shown : IsPosition c.loop-position.log c.loop-position.outers.items c.in-Some.position
+  shown = looking_shown _ _ (trees c.args.source.now.whole) _ _ _ _ _ c.pop.new.self.items _ c.in-Some.position _
+      c.in-Some.ensures.items (c.loop-position.invariant.walked.2 c.requires)
+
+  number : (0 < c.in-Some.position.number) × (c.in-Some.position.number ≤ dots c.requires.pattern)
+  number = looking_number _ _ (trees c.args.source.now.whole) _ _ _ _ _ c.pop.new.self.items _ c.in-Some.position _
+      c.in-Some.ensures.items (c.loop-position.invariant.walked.2 c.requires)
+
 pub next_after-next-requires : goal.next_after-next-requires
-next_after-next-requires g c =
-    let s = c.args.source.now in
-    let w = c.loop-position.invariant.walked.2 c.requires in (
-      c.loop-position.log,
-      subst (λ os. IsPosition c.loop-position.log os c.in-Some.position) (sym c.deref.ensures.value)
-          (looking_shown _ _ (trees s.whole) _ _ _ _ _ c.pop.new.self.items _ c.in-Some.position _
-          c.in-Some.ensures.items w),
-    )
+next_after-next-requires g c = (
+  c.loop-position.log,
+  subst (λ os. IsPosition c.loop-position.log os c.in-Some.position) (sym c.deref.ensures.value)
+      (shown g (goal.at.next_after-next-requires g c).In-Some),
+)
 
 pub takes-requires-clause-some : goal.takes-requires-clause-some
-takes-requires-clause-some g c =
-    let s = c.args.source.now in
-    let w = c.loop-position.invariant.walked.2 c.requires in
-    (looking_number _ _ (trees s.whole) _ _ _ _ _ c.pop.new.self.items _ c.in-Some.position _ c.in-Some.ensures.items
-    w).0
+takes-requires-clause-some g c = (number g (goal.at.takes-requires-clause-some g c).In-Some).0
 
 pub takes-requires-clause-within : goal.takes-requires-clause-within
 takes-requires-clause-within g c =
-    let s = c.args.source.now in
-    let w = c.loop-position.invariant.walked.2 c.requires in
-    let n = (looking_number _ _ (trees s.whole) _ _ _ _ _ c.pop.new.self.items _ c.in-Some.position _
-    c.in-Some.ensures.items w).1 in
+    let n = (number g (goal.at.takes-requires-clause-within g c).In-Some).1 in
     let size = c.loop-position.invariant.size in
     let all = c.requires.size_is in
     omega (arith, n, size, all)
 
 pub steps-requires : goal.steps-requires
-steps-requires g c =
-    let s = c.args.source.now in
-    let w = c.loop-position.invariant.walked.2 c.requires in
-    looking_shown _ _ (trees s.whole) _ _ _ _ _ c.pop.new.self.items _ c.in-Some.position _ c.in-Some.ensures.items w
+steps-requires g c = shown g (goal.at.steps-requires g c).In-Some
 
 pub loop-position-smaller-then-not-takes : goal.loop-position-smaller-then-not-takes
 loop-position-smaller-then-not-takes g c =
     let s = c.args.source.now in
-    let same : c.takes.new.self.marks.items ≡ c.loop-position.counts.marks.items =
-    ap (λ (x : Counts g.row.A.Denot). x.marks.items) (c.takes.ensures.stays c.if-not-takes.true) in
-    let still = ap (vacancies s.place) same in
-    let popped : length c.loop-position.todo.items ≡ length c.pop.new.self.items + 1 =
-    ap length c.in-Some.ensures.items ∙ length-append c.pop.new.self.items (c.in-Some.position ∷ []) in
-    omega (arith, still, popped)
+    stack_drops c.pop.new.self.items c.loop-position.todo.items c.in-Some.position
+    (vacancies s.place c.loop-position.counts.marks.items) (vacancies s.place c.takes.new.self.marks.items)
+    c.in-Some.ensures.items
+    (ap (λ (x : Counts g.row.A.Denot). vacancies s.place x.marks.items) (c.takes.ensures.stays c.if-not-takes.true))
 
 pub loop-position-preserved-then-not-takes : goal.loop-position-preserved-then-not-takes
 loop-position-preserved-then-not-takes g c =
@@ -104,8 +100,7 @@ loop-position-preserved g c =
     let counted = c.takes.ensures.counted inv.walked.0 inv.walked.1 in
     let taken = c.if-not-takes.false in
     let pushed = c.in_ok-push_some-2.ensures ∙ ap (λ l. l ++ option_to_list f.first) c.in_ok-push_some.ensures in
-    let is = looking_shown _ _ (trees s.whole) _ _ _ _ _ c.pop.new.self.items _ c.in-Some.position _
-    c.in-Some.ensures.items (inv.walked.2 c.requires) in
+    let is = shown g (goal.at.loop-position-preserved g c).In-Some in
     let keeping = (c.in_ok-found.ensures is.0 is.1).kept in
     record {
       keeps = keeps_on c.args.log.now c.loop-position.log c.steps.new.log c.args.outers.now.items
