@@ -11,8 +11,15 @@ numbers-init g c =
     begins_after (map word_of c.args.words.now) c.args.names.now (map naming_of c.args.given.now) c.args.text.now
     c.named-number.result c.requires.taken c.named-number.ensures.count (omega (arith, c.named-number.ensures.few))
 
+-- a name that is taken is let go on two paths, as its text is in it or shared
 pub numbers-preserved : goal.numbers-preserved
 numbers-preserved g c =
+    let taken = is_taken (map word_of c.args.words.now) c.args.names.now (map naming_of c.args.given.now) in
+    tried taken c.args.text.now c.in_ok-name.name _ c.numbers.number c.numbers-test.true c.in_ok-name.ensures
+    (ap taken (sym c.as_str.ensures) ∙ (sym c.is_taken.ensures ∙ c.if-is_taken.true)) c.numbers.invariant
+
+pub numbers-preserved-then-is_taken : goal.numbers-preserved-then-is_taken
+numbers-preserved-then-is_taken g c =
     let taken = is_taken (map word_of c.args.words.now) c.args.names.now (map naming_of c.args.given.now) in
     tried taken c.args.text.now c.in_ok-name.name _ c.numbers.number c.numbers-test.true c.in_ok-name.ensures
     (ap taken (sym c.as_str.ensures) ∙ (sym c.is_taken.ensures ∙ c.if-is_taken.true)) c.numbers.invariant
