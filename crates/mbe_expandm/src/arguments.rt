@@ -3,7 +3,7 @@ ghost use Rattle.std.specs.Prelude.{◌≡◌, unwrap_or};
 ghost use Rattle.std.specs.Option.{option_or};
 ghost use Rattle.mbe_expandm.specs.Conditions.{IsUnder};
 ghost use Rattle.mbe_expandm.specs.ShownOptions.{conditions_of};
-ghost use Rattle.mbe_expandm.specs.Words.{edition_of, target_of};
+ghost use Rattle.mbe_expandm.specs.Words.{target_of};
 
 use crate::places::Position;
 use mbe_cfg::settings as cfg;
@@ -132,18 +132,6 @@ fn valued_option(word: &str) -> Option<Valued> {
         "--features" => Some(Valued::Features),
         "--target" => Some(Valued::Target),
         "--extern" => Some(Valued::Extern),
-        _ => None,
-    }
-}
-
-fn edition(word: &str) -> Option<Edition>
-    ensures { result ≡ edition_of word.now }
-{
-    match word {
-        "2015" => Some(Edition::Edition2015),
-        "2018" => Some(Edition::Edition2018),
-        "2021" => Some(Edition::Edition2021),
-        "2024" => Some(Edition::Edition2024),
         _ => None,
     }
 }
@@ -295,7 +283,7 @@ impl<'w, A: Allocator + Copy> Options<'w, A> {
             Valued::Fuel => self.fuel = word.parse::<u32>().ok()?,
             Valued::Call => self.call = Some(Position::read(word)?),
             Valued::Write => self.write = Some(word),
-            Valued::Edition => self.edition = edition(word)?,
+            Valued::Edition => self.edition = Edition::named(word)?,
             Valued::Target => self.target = target(word)?,
             Valued::Cfg | Valued::Features | Valued::Extern => return None,
         }

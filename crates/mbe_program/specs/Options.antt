@@ -1,17 +1,9 @@
 -- What the words after the program's name ask for.
 use Rattle.std.specs.Prelude.{ℕ, List, [], ◌∷◌, Bool, true, false, Option, Some, None, codes, option_map, if◌then◌else◌, bytes_eq, ◌==◌}
 use Rattle.mbe_tt.specs.declared.span.Edition.{Edition}
-use Rattle.mbe_tt.specs.declared.span.Edition.TheVariants.{Edition2015, Edition2018, Edition2021, Edition2024}
+use Rattle.mbe_tt.specs.declared.span.Edition.TheVariants.{Edition2024}
+use Rattle.mbe_tt.specs.Trees.Editions.{named}
 use Rattle.mbe_program.specs.declared.settings.Options.{Options}
-
--- the edition that a word names
-abbrev pub edition_of : List ℕ → Option Edition
-edition_of word =
-    if bytes_eq word (codes "2015") then Some Edition2015
-    else if bytes_eq word (codes "2018") then Some Edition2018
-    else if bytes_eq word (codes "2021") then Some Edition2021
-    else if bytes_eq word (codes "2024") then Some Edition2024
-    else None
 
 -- what options hold: whether to lint, the names of both files, and the edition
 abbrev pub Seen : Type 0
@@ -29,7 +21,7 @@ abbrev pub files_of : Bool → List (List ℕ) → Option Seen
 files_of lint [] = None
 files_of lint (d ∷ []) = None
 files_of lint (d ∷ a ∷ []) = Some (lint, d, a, Edition2024)
-files_of lint (d ∷ a ∷ e ∷ []) = option_map (λ edition. (lint, d, a, edition)) (edition_of e)
+files_of lint (d ∷ a ∷ e ∷ []) = option_map (λ edition. (lint, d, a, edition)) (named e)
 files_of lint (d ∷ a ∷ e ∷ x ∷ ws) = None
 
 -- what the words after the program's name ask for; a first word `--lint` is never a file

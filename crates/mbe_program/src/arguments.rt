@@ -1,22 +1,10 @@
 // The words after the program's name.
 ghost use Rattle.std.specs.Prelude.{◌≡◌, map, option_map};
 ghost use Rattle.std.specs.String.{string_bytes};
-ghost use Rattle.mbe_program.specs.Options.{edition_of, files_of, options_of, seen};
+ghost use Rattle.mbe_program.specs.Options.{files_of, options_of, seen};
 
 use crate::settings::Options;
 use mbe_tt::span::Edition;
-
-fn edition(word: &str) -> Option<Edition>
-    ensures { result ≡ edition_of word.now }
-{
-    match word {
-        "2015" => Some(Edition::Edition2015),
-        "2018" => Some(Edition::Edition2018),
-        "2021" => Some(Edition::Edition2021),
-        "2024" => Some(Edition::Edition2024),
-        _ => None,
-    }
-}
 
 fn files(lint: bool, words: &[String]) -> Option<Options<'_>>
     ensures { option_map seen result ≡ files_of lint (map string_bytes words.now) }
@@ -32,7 +20,7 @@ fn files(lint: bool, words: &[String]) -> Option<Options<'_>>
             lint,
             def: def.as_str(),
             arg: arg.as_str(),
-            edition: edition(word.as_str())?,
+            edition: Edition::named(word.as_str())?,
         }),
         _ => None,
     }

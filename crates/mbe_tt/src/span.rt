@@ -47,6 +47,19 @@ pub enum Edition {
 impl Edition {
     ghost use Rattle.mbe_tt.specs.Trees.Editions as spec;
 
+    /// The edition of that name, as `2021`.
+    pub fn named(name: &str) -> Option<Edition>
+        ensures { result ≡ spec.named name.now }
+    {
+        match name {
+            "2015" => Some(Edition::Edition2015),
+            "2018" => Some(Edition::Edition2018),
+            "2021" => Some(Edition::Edition2021),
+            "2024" => Some(Edition::Edition2024),
+            _ => None,
+        }
+    }
+
     /// Whether it is the edition of 2021 or a later one.
     pub fn at_least_2021(self) -> bool
         ensures { result ≡ spec.at_least_2021 self }
