@@ -2,3 +2,4 @@ pub mod EqualityLemmas
 pub mod Fragments
 pub mod OpViews
 pub mod WalkLemmas
+pub mod OpSizes

@@ -1,5 +1,5 @@
 -- Each op of the code, as the op that it is.
-use Rattle.std.proofs.Common.{◌≡◌, ℕ, List, map, Option, Vec, ap, sym, ◌∙◌, rules}
+use Rattle.std.proofs.Common.{◌≡◌, ℕ, List, Option, Vec, ap, sym, ◌∙◌, rules}
 use Rattle.std.specs.Prelude.{option_map}
 use Rattle.mbe_tt.specs.declared.span.Span.{Span}
 use Rattle.mbe_tt.specs.declared.tt.Punct.{Punct as APunct}
