@@ -175,8 +175,8 @@ stopped (Err e) P Q h p = Stops-weaker e P Q h p
 
 module _ (HasEdition : SyntaxContext → Edition → Type 0) (m : Mode) where
   -- a leaf after a `$`
-  pub leaf_pushed : {A T E : Type 0} (r : Result T E) (before after : List (code.Op A)) (p : Punct) (f left new : Forest)
-      (l : Leaf) → f ≡ leaf l left
+  pub leaf_pushed : {A T E : Type 0} (r : Result T E) (before after : List (code.Op A)) (p : Punct)
+      (f left new : Forest) (l : Leaf) → f ≡ leaf l left
       → OnOk r (IsPushed before after (λ o. (d : Punct) → AtHead HasEdition m (after_dollar m d (leaf l left)) o new))
       → OnOk r (IsPushed before after (λ o. AtHead HasEdition m (after_dollar m p f) o new))
   leaf_pushed (Err e) before after p f left new l here h = tt
@@ -270,3 +270,26 @@ module _ (HasEdition : SyntaxContext → Edition → Type 0) where
   more_read m whole f left before reserved after o read same pushed reads os h =
       subst (λ xs. Template HasEdition m whole (with_front xs os)) (sym (pushed ∙ ap (λ xs. xs ++ o ∷ []) same))
       (subst (Template HasEdition m whole) (with_front-push before o os) (read (op (op_of o) os) (reads.more os h)))
+
+  -- a token is read, which is the next tree
+  pub token_goes : {A : Type 0} (m : Mode) (whole f left : Forest) (before reserved after : List (code.Op A)) (l : Leaf)
+      (t : Op) → ((os : Ops) → Template HasEdition m f os → Template HasEdition m whole (with_front before os))
+      → ((x : Fault) → TemplateFault HasEdition m x f → TemplateFault HasEdition m x whole)
+      → reserved ≡ before → IsPushed reserved after (λ o. o ≡ t) → f ≡ leaf l left
+      → head m (leaf l left) ≡ Ok (one t left)
+      → ((os : Ops) → Template HasEdition m left os → Template HasEdition m whole (with_front after os))
+      × ((x : Fault) → TemplateFault HasEdition m x left → TemplateFault HasEdition m x whole)
+  token_goes m whole f left before reserved after l t read fault same pushed at e =
+      let reads : ReadsOp HasEdition m f (op_of pushed.0) left =
+      leaf_reads m f left (op_of pushed.0) (ap (head m) at ∙ (e ∙ ap (λ o. Ok (one o left)) (sym pushed.2))) in
+      (more_read m whole f left before reserved after pushed.0 read same pushed.1 reads, λ x h. fault x (reads.fault x h))
+
+  -- the second `$` of two is read
+  pub punct_pushed : {A T E : Type 0} (m : Mode) (r : Result T E) (before after : List (code.Op A)) (p : Punct) (f : Forest)
+      → OnOk r (IsPushed before after (λ o. (d : Punct) (rest : Forest)
+      → after_dollar m d (leaf (punct p) rest) ≡ Ok (one o rest)))
+      → OnOk r (IsPushed before after (λ o. (d : Punct)
+      → AtHead HasEdition m (after_dollar m d (leaf (punct p) f)) o f))
+  punct_pushed m (Err e) before after p f h = tt
+  punct_pushed m (Ok x) before after p f h =
+      (h.0, h.1, λ d. subst (λ at. AtHead HasEdition m at (op_of h.0) f) (sym (h.2 d f)) (refl, refl))

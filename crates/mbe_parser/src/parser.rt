@@ -3,13 +3,13 @@ ghost use Rattle.std.specs.Prelude.{◌≡◌, ◌<◌, ◌≤◌, ◌+◌, [], 
 ghost use Rattle.std.specs.Result.{result_ok};
 ghost use Rattle.mbe_tt.specs.Trees.Tree.{Forest, Leaf_tree, flat_len, first, is_truth, leaf as leaf_before, front_ident, front_punct, rest_of, skip};
 ghost use Rattle.mbe_tt.specs.Trees.Glue.{glue};
-ghost use Rattle.mbe_tt.specs.Trees.Leaf.{ident as ident_leaf, punct as punct_leaf};
+ghost use Rattle.mbe_tt.specs.Trees.Leaf.{ident as ident_leaf, literal as literal_leaf, punct as punct_leaf};
 ghost use Rattle.mbe_tt.specs.Views.Shown.{ident_of, literal_of, leaf_of};
 ghost use Rattle.mbe_tt.specs.declared.span.Span.{Span as SpecSpan};
 ghost use Rattle.mbe_tt.specs.declared.span.Edition.{Edition as SpecEdition};
 ghost use Rattle.mbe_tt.specs.declared.tt.IdentIsRaw.TheVariants.{No};
 ghost use Rattle.mbe_tt.specs.declared.tt.Punct.{Punct as SpecPunct};
-ghost use Rattle.mbe_semantics.specs.Syntax.Op.{Name, token, puncts, variable as variable_op};
+ghost use Rattle.mbe_semantics.specs.Syntax.Op.{Name, token, puncts, ident as ident_token, literal as literal_token, variable as variable_op};
 ghost use Rattle.mbe_semantics.specs.Syntax.Template as grammar;
 ghost use Rattle.mbe_semantics.specs.Syntax.Template.{Template, TemplateFault, Specifies, opens_repetition, suffix_of, leaf_in_suffix, invalid_repeat};
 ghost use Rattle.mbe_parser.specs.Reader.{mode_of, Stops, IsExtended, NeverExtended, IsPushed, AtHead, FaultAtHead, ReadsOp};
@@ -87,19 +87,8 @@ fn template_within<A: Allocator + Copy, E: Copy + Fn(SyntaxContext) -> Edition>(
             unreachable!()
         };
         match first {
-            TtElement::Leaf(Leaf::Ident(ident)) => {
-                let _word = src.next();
-                let sym = ident.sym.clone()?;
-                ops.push_reserved(Op::Ident(Ident {
-                    sym,
-                    is_raw: ident.is_raw,
-                    span: ident.span,
-                }));
-            }
-            TtElement::Leaf(Leaf::Literal(literal)) => {
-                let _literal = src.next();
-                ops.push_reserved(Op::Literal(literal.clone()?));
-            }
+            TtElement::Leaf(Leaf::Ident(ident)) => push_ident(ident, &mut src, &mut ops)?,
+            TtElement::Leaf(Leaf::Literal(literal)) => push_literal(literal, &mut src, &mut ops)?,
             TtElement::Leaf(Leaf::Punct(punct)) => {
                 push_at_punct(alloc, edition, *punct, &mut src, mode, levels, &mut ops)?;
             }
@@ -168,8 +157,49 @@ fn fitted<A: Allocator>(alloc: A, ops: Vec<Op<A>, A>) -> Result<Vec<Op<A>, A>, A
     Ok(fit)
 }
 
-// Adds the op that begins with the next tree, which is this punct. It and what it calls are inlined, and each adds the op where it
-// is made, since an op is large: moved from result to result, it would cost more than to read it.
+// Adds the identifier that is the next tree. It and what comes after it are inlined, and each adds the op where it is made, since an
+// op is large: moved from result to result, it would cost more than to read it.
+#[inline(always)]
+#[tactic(auto, using(mbe_ops::proofs::OpViews::views))]
+fn push_ident<A: Allocator>(
+    ident: &Ident<A>,
+    src: &mut TtIter<'_, A>,
+    ops: &mut Vec<Op<A>, A>,
+) -> Result<(), AllocError>
+    requires { vec_len ops.old < vec_capacity ops.old }
+    ensures op { OnOk result (IsPushed ops.old.items ops.new.items (λ o.
+        o ≡ token (ident_token (ident_of ident.now)))) }
+    ensures rest { src.new ≡ rest_of src.old }
+{
+    let _word = src.next();
+    let sym = ident.sym.clone()?;
+    ops.push_reserved(Op::Ident(Ident {
+        sym,
+        is_raw: ident.is_raw,
+        span: ident.span,
+    }));
+    Ok(())
+}
+
+// Adds the literal that is the next tree.
+#[inline(always)]
+#[tactic(auto, using(mbe_ops::proofs::OpViews::views))]
+fn push_literal<A: Allocator>(
+    literal: &Literal<A>,
+    src: &mut TtIter<'_, A>,
+    ops: &mut Vec<Op<A>, A>,
+) -> Result<(), AllocError>
+    requires { vec_len ops.old < vec_capacity ops.old }
+    ensures op { OnOk result (IsPushed ops.old.items ops.new.items (λ o.
+        o ≡ token (literal_token (literal_of literal.now)))) }
+    ensures rest { src.new ≡ rest_of src.old }
+{
+    let _literal = src.next();
+    ops.push_reserved(Op::Literal(literal.clone()?));
+    Ok(())
+}
+
+// Adds the op that begins with the next tree, which is this punct.
 #[inline(always)]
 #[cycle(template)]
 #[tactic(auto, using(mbe_ops::proofs::OpViews::views))]
@@ -364,30 +394,63 @@ fn push_leaf_after_dollar<A: Allocator + Copy, E: Copy + Fn(SyntaxContext) -> Ed
             }
             push_variable(edition, &ident.sym, ident.span, src, mode, ops)
         }
-        Leaf::Literal(literal) => {
-            if !is_boolean_literal(literal) {
-                return Err(ReadError::Fault(SyntaxFault::ExpectedIdent));
-            }
-            push_variable(
-                edition,
-                &literal.text_and_suffix,
-                literal.span,
-                src,
-                mode,
-                ops,
-            )
-        }
-        Leaf::Punct(punct) => {
-            if punct.char != '$' {
-                return Err(ReadError::Fault(SyntaxFault::ExpectedIdent));
-            }
-            match mode {
-                Mode::Pattern => Err(ReadError::Fault(SyntaxFault::DollarInPattern)),
-                Mode::Template => {
-                    ops.push_reserved(Op::Punct(Puncts::one(*punct)));
-                    Ok(())
-                }
-            }
+        Leaf::Literal(literal) => push_literal_after_dollar(edition, literal, src, mode, ops),
+        Leaf::Punct(punct) => push_punct_after_dollar(*punct, mode, ops),
+    }
+}
+
+// Adds the variable `true` or `false`: no other literal is a name.
+#[inline(always)]
+#[tactic(auto, using(mbe_ops::proofs::OpViews::views))]
+fn push_literal_after_dollar<A: Allocator, E: Copy + Fn(SyntaxContext) -> Edition>(
+    edition: E,
+    literal: &Literal<A>,
+    src: &mut TtIter<'_, A>,
+    mode: Mode,
+    ops: &mut Vec<Op<A>, A>,
+) -> Result<(), ReadError>
+    requires answers { MayAsk (E.pre edition) }
+    requires room { vec_len ops.old < vec_capacity ops.old }
+    ensures op { OnOk result (IsPushed ops.old.items ops.new.items (λ o. (dollar : SpecPunct)
+        → AtHead (E.post edition) (mode_of mode) (grammar.after_dollar (mode_of mode) dollar
+        (leaf_before (literal_leaf (literal_of literal.now)) src.old)) o src.new)) }
+    ensures fault { IfErr result (λ e. Stops e (λ f. (dollar : SpecPunct)
+        → grammar.after_dollar (mode_of mode) dollar
+        (leaf_before (literal_leaf (literal_of literal.now)) src.old) ≡ Err f)) }
+    ensures no_longer { flat_len src.new ≤ flat_len src.old }
+{
+    if !is_boolean_literal(literal) {
+        return Err(ReadError::Fault(SyntaxFault::ExpectedIdent));
+    }
+    let name = &literal.text_and_suffix;
+    push_variable(edition, name, literal.span, src, mode, ops)
+}
+
+// Adds the second `$` of `$$`, which is in templates alone.
+#[inline(always)]
+#[tactic(auto, using(mbe_ops::proofs::OpViews::views))]
+fn push_punct_after_dollar<A: Allocator>(
+    punct: Punct,
+    mode: Mode,
+    ops: &mut Vec<Op<A>, A>,
+) -> Result<(), ReadError>
+    requires { vec_len ops.old < vec_capacity ops.old }
+    ensures op { OnOk result (IsPushed ops.old.items ops.new.items (λ o.
+        (dollar : SpecPunct) (rest : Forest)
+        → grammar.after_dollar (mode_of mode) dollar (leaf_before (punct_leaf punct) rest)
+        ≡ Ok (grammar.one o rest))) }
+    ensures fault { IfErr result (λ e. Stops e (λ f. (dollar : SpecPunct) (rest : Forest)
+        → grammar.after_dollar (mode_of mode) dollar (leaf_before (punct_leaf punct) rest)
+        ≡ Err f)) }
+{
+    if punct.char != '$' {
+        return Err(ReadError::Fault(SyntaxFault::ExpectedIdent));
+    }
+    match mode {
+        Mode::Pattern => Err(ReadError::Fault(SyntaxFault::DollarInPattern)),
+        Mode::Template => {
+            ops.push_reserved(Op::Punct(Puncts::one(punct)));
+            Ok(())
         }
     }
 }

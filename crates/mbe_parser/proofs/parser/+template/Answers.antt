@@ -9,56 +9,44 @@ use Rattle.mbe_parser.specs.Reader.{mode_of, ReadsOp}
 use Rattle.mbe_ops.specs.declared.ops.Op.TheVariants as ops
 use Rattle.mbe_ops.specs.Views.{op_of, template_of}
 use Rattle.mbe_ops.proofs.Fragments.{first_tree}
-use Rattle.mbe_ops.proofs.OpViews.{view-template, view-subtree, view-literal, view-ident, view-repeat}
+use Rattle.mbe_ops.proofs.OpViews.{view-template, view-subtree, view-repeat}
 use Rattle.mbe_ops.proofs.Fragments.{puncts_longer}
 use Rattle.mbe_parser.proofs.ReaderLemmas as lemmas
 use Rattle.mbe_parser.proofs.parser.+template.Goals as goal
 
-pub template_within-trees-preserved-in-Leaf-Ident : goal.template_within-trees-preserved-in-Leaf-Ident
-template_within-trees-preserved-in-Leaf-Ident g t c =
+pub template_within-trees-preserved-in_ok-push_ident-in-Leaf-Ident : goal.template_within-trees-preserved-in_ok-push_ident-in-Leaf-Ident
+template_within-trees-preserved-in_ok-push_ident-in-Leaf-Ident g t c =
     let l = c.trees in
-    let mode = mode_of c.args.mode in
-    let i = record c.in-Leaf-Ident.ident { sym = c.in_ok-sym-in-Leaf-Ident.sym } in
-    let left = c.next-word.new.self in
-    let front : Some (Leaf_tree (leaves.ident (ident_of i))) ≡ first l.src = search rules in
-    let at = first_tree l.src left _ front c.next-word.ensures.rest in
-    let reads : ReadsOp (λ ctx e. g.E.Fn.post c.args.edition (ctx, tt) e) mode l.src (op_of (ops.Ident i)) left =
-    rw view-ident (lemmas.leaf_reads _ mode l.src left _ (ap (head mode) at)) in
-    record {
-      more = lemmas.more_read _ mode _ l.src left l.ops.items _ _ (ops.Ident i) l.invariant.more
-          c.in_ok-reserve.ensures.items c.push_reserved.ensures.items reads;
-      fault = λ x h. l.invariant.fault x (reads.fault x h);
-      smaller = omega (arith, ap flat_len at, l.invariant.smaller);
-    }
+    let left = c.push_ident.new.src in
+    let front : Some (Leaf_tree (leaves.ident (ident_of c.in-Leaf-Ident.ident))) ≡ first l.src = search rules in
+    let at = first_tree l.src left _ front c.push_ident.ensures.rest in
+    let goes = lemmas.token_goes _ (mode_of c.args.mode) _ l.src left l.ops.items _ _ _ _ l.invariant.more l.invariant.fault
+    c.in_ok-reserve.ensures.items c.in_ok-push_ident-in-Leaf-Ident.ensures.op at refl in
+    record { more = goes.0; fault = goes.1; smaller = omega (arith, ap flat_len at, l.invariant.smaller) }
 
-pub template_within-trees-smaller-in-Leaf-Ident : goal.template_within-trees-smaller-in-Leaf-Ident
-template_within-trees-smaller-in-Leaf-Ident g t c =
+pub template_within-trees-smaller-in_ok-push_ident-in-Leaf-Ident : goal.template_within-trees-smaller-in_ok-push_ident-in-Leaf-Ident
+template_within-trees-smaller-in_ok-push_ident-in-Leaf-Ident g t c =
     let front : Some (Leaf_tree (leaves.ident (ident_of c.in-Leaf-Ident.ident))) ≡ first c.trees.src =
     search rules in
-    omega (arith, ap flat_len (first_tree c.trees.src c.next-word.new.self _ front c.next-word.ensures.rest))
+    let at = first_tree c.trees.src c.push_ident.new.src _ front c.push_ident.ensures.rest in
+    omega (arith, ap flat_len at)
 
-pub template_within-trees-preserved-in-Leaf-Literal : goal.template_within-trees-preserved-in-Leaf-Literal
-template_within-trees-preserved-in-Leaf-Literal g t c =
+pub template_within-trees-preserved-in_ok-push_literal-in-Leaf-Literal : goal.template_within-trees-preserved-in_ok-push_literal-in-Leaf-Literal
+template_within-trees-preserved-in_ok-push_literal-in-Leaf-Literal g t c =
     let l = c.trees in
-    let mode = mode_of c.args.mode in
-    let i = c.in_ok-clone-in-Leaf-Literal.field-0 in
-    let left = c.next-literal.new.self in
-    let front : Some (Leaf_tree (leaves.literal (literal_of i))) ≡ first l.src = search rules in
-    let at = first_tree l.src left _ front c.next-literal.ensures.rest in
-    let reads : ReadsOp (λ ctx e. g.E.Fn.post c.args.edition (ctx, tt) e) mode l.src (op_of (ops.Literal i)) left =
-    rw view-literal (lemmas.leaf_reads _ mode l.src left _ (ap (head mode) at)) in
-    record {
-      more = lemmas.more_read _ mode _ l.src left l.ops.items _ _ (ops.Literal i) l.invariant.more
-          c.in_ok-reserve.ensures.items c.push_reserved-in-Leaf-Literal.ensures.items reads;
-      fault = λ x h. l.invariant.fault x (reads.fault x h);
-      smaller = omega (arith, ap flat_len at, l.invariant.smaller);
-    }
+    let left = c.push_literal.new.src in
+    let front : Some (Leaf_tree (leaves.literal (literal_of c.in-Leaf-Literal.literal))) ≡ first l.src = search rules in
+    let at = first_tree l.src left _ front c.push_literal.ensures.rest in
+    let goes = lemmas.token_goes _ (mode_of c.args.mode) _ l.src left l.ops.items _ _ _ _ l.invariant.more l.invariant.fault
+    c.in_ok-reserve.ensures.items c.in_ok-push_literal-in-Leaf-Literal.ensures.op at refl in
+    record { more = goes.0; fault = goes.1; smaller = omega (arith, ap flat_len at, l.invariant.smaller) }
 
-pub template_within-trees-smaller-in-Leaf-Literal : goal.template_within-trees-smaller-in-Leaf-Literal
-template_within-trees-smaller-in-Leaf-Literal g t c =
-    let front : Some (Leaf_tree (leaves.literal (literal_of c.in_ok-clone-in-Leaf-Literal.field-0)))
-    ≡ first c.trees.src = search rules in
-    omega (arith, ap flat_len (first_tree c.trees.src c.next-literal.new.self _ front c.next-literal.ensures.rest))
+pub template_within-trees-smaller-in_ok-push_literal-in-Leaf-Literal : goal.template_within-trees-smaller-in_ok-push_literal-in-Leaf-Literal
+template_within-trees-smaller-in_ok-push_literal-in-Leaf-Literal g t c =
+    let front : Some (Leaf_tree (leaves.literal (literal_of c.in-Leaf-Literal.literal))) ≡ first c.trees.src =
+    search rules in
+    let at = first_tree c.trees.src c.push_literal.new.src _ front c.push_literal.ensures.rest in
+    omega (arith, ap flat_len at)
 
 pub template_within-returns-clause-ops : goal.template_within-returns-clause-ops
 template_within-returns-clause-ops g t c =
@@ -125,7 +113,7 @@ template_within-trees-preserved g t c =
     (ap (head mode) at) c.in_ok-tokens-in-Subtree.ensures.ops) in
     record {
       more = lemmas.more_read _ mode _ l.src left l.ops.items _ _ o l.invariant.more
-          c.in_ok-reserve.ensures.items c.push_reserved-in-Subtree.ensures.items reads;
+          c.in_ok-reserve.ensures.items c.push_reserved.ensures.items reads;
       fault = λ x h. l.invariant.fault x (reads.fault x h);
       smaller = omega (arith, ap flat_len at, l.invariant.smaller);
     }
