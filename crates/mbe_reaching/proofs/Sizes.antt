@@ -2,7 +2,7 @@
 use Rattle.std.proofs.Common.{◌≡◌, ◌<◌, ◌&&◌, Bool, true, Option, List, ◌∷◌, ap, sym, ◌∙◌, arith}
 use Rattle.mbe_tt.specs.declared.tt.Delimiter.{Delimiter}
 use Rattle.mbe_semantics.specs.declared.kinds.RepeatKind.{RepeatKind}
-use Rattle.mbe_semantics.specs.Syntax.Op.{Separator, Op, Ops, op, group, repetition}
+use Rattle.mbe_semantics.specs.Syntax.Op.{Separator, Op, Ops, group, repetition}
 use Rattle.mbe_ops.specs.declared.ops.Op as code
 use Rattle.mbe_ops.specs.Views.{op_of, ops_of}
 use Rattle.mbe_ops.proofs.OpSizes.{op_size, ops_size}

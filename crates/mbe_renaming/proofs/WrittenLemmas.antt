@@ -5,7 +5,7 @@ use Rattle.mbe_tt.proofs.Buffers.Built.{length-put}
 use Rattle.mbe_tt.proofs.Buffers.Grown.{put-none, put_one}
 use Rattle.mbe_tt.specs.Buffers.Building.{Levels, put}
 use Rattle.mbe_tt.specs.Trees.Top.{Top}
-use Rattle.mbe_tt.specs.Trees.Tree.{Forest, Tree, Leaf_tree, Group_tree, none, leaf, group, tree, append, one_leaf}
+use Rattle.mbe_tt.specs.Trees.Tree.{Forest, Leaf_tree, Group_tree, none, leaf, group, one_leaf}
 use Rattle.mbe_tt.specs.declared.tt.Delimiter.{Delimiter}
 use Rattle.mbe_renaming.specs.declared.sites.Site.{Site}
 use Rattle.mbe_renaming.specs.declared.naming.Doubt.{Doubt}
