@@ -4,4 +4,3 @@ pub mod PlaceLaws
 pub mod RuleLemmas
 pub mod EmptyLemmas
 pub mod EmptyRules
-pub mod OpSizes

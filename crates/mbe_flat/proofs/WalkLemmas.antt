@@ -1,8 +1,9 @@
 -- One token more of a walk over trees: what is still to be written, and how much that is.
 use Rattle.std.proofs.Common.{◌≡◌, ℕ, ◌+◌, List, [], ◌∷◌, reverse, Some, None, refl, ap, sym, ◌∙◌}
 use Rattle.mbe_tt.specs.Trees.Leaf.{Leaf}
-use Rattle.mbe_tt.specs.Trees.Tree.{Forest, none, leaf, group, Leaf_tree, Group_tree, first, rest_of, flat_len}
+use Rattle.mbe_tt.specs.Trees.Tree.{Forest, Leaf_tree, Group_tree, first, rest_of, flat_len}
 use Rattle.mbe_tt.specs.declared.tt.Delimiter.{Delimiter}
+use Rattle.mbe_tt.proofs.Trees.Firsts.{nothing, whole}
 use Rattle.mbe_tt.proofs.Trees.Walks.{IsWalk}
 use Rattle.mbe_flat.specs.Writing.{State, a_leaf, opened, closed, written, written_around}
 
@@ -16,25 +17,16 @@ tokens_around (g ∷ around) = 1 + flat_len g.1 + tokens_around around
 leaf_step : (f : Forest) (l : Leaf) (s : State) → Some (Leaf_tree l) ≡ first f
     → written f s ≡ written (rest_of f) (a_leaf s l)
 unfolding written
-leaf_step none l s h = absurd (cc)
-leaf_step (leaf m rest) l s h = let e : m ≡ l = cc in ap (λ x. written rest (a_leaf s x)) e
-leaf_step (group d inside rest) l s h = absurd (cc)
+leaf_step f l s h = ap (λ x. written x s) (whole f (Leaf_tree l) (sym h))
 
 group_step : (f inside : Forest) (d : Delimiter) (s : State) → Some (Group_tree d inside) ≡ first f
     → written f s ≡ written (rest_of f) (closed (written inside (opened s d (flat_len inside))) d)
 unfolding written
-group_step none inside d s h = absurd (cc)
-group_step (leaf m rest) inside d s h = absurd (cc)
-group_step (group e content rest) inside d s h =
-    let same_delimiter : e ≡ d = cc in
-    let same_content : content ≡ inside = cc in
-    rw (same_delimiter, same_content) refl
+group_step f inside d s h = ap (λ x. written x s) (whole f (Group_tree d inside) (sym h))
 
 end_step : (f : Forest) (s : State) → None ≡ first f → written f s ≡ s
 unfolding written
-end_step none s h = refl
-end_step (leaf m rest) s h = absurd (cc)
-end_step (group e content rest) s h = absurd (cc)
+end_step f s h = ap (λ x. written x s) (nothing f (sym h))
 
 around_cons : (around : List (Delimiter × Forest)) (d : Delimiter) (f : Forest) (s : State)
     → written_around ((d, f) ∷ around) s ≡ written_around around (written f (closed s d))

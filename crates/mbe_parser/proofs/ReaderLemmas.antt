@@ -282,10 +282,12 @@ module _ (HasEdition : SyntaxContext → Edition → Type 0) where
   token_goes m whole f left before reserved after l t read fault same pushed at e =
       let reads : ReadsOp HasEdition m f (op_of pushed.0) left =
       leaf_reads m f left (op_of pushed.0) (ap (head m) at ∙ (e ∙ ap (λ o. Ok (one o left)) (sym pushed.2))) in
-      (more_read m whole f left before reserved after pushed.0 read same pushed.1 reads, λ x h. fault x (reads.fault x h))
+      let more = more_read m whole f left before reserved after pushed.0 read same pushed.1 reads in
+      (more, λ x h. fault x (reads.fault x h))
 
   -- the second `$` of two is read
-  pub punct_pushed : {A T E : Type 0} (m : Mode) (r : Result T E) (before after : List (code.Op A)) (p : Punct) (f : Forest)
+  pub punct_pushed : {A T E : Type 0} (m : Mode) (r : Result T E) (before after : List (code.Op A)) (p : Punct)
+      (f : Forest)
       → OnOk r (IsPushed before after (λ o. (d : Punct) (rest : Forest)
       → after_dollar m d (leaf (punct p) rest) ≡ Ok (one o rest)))
       → OnOk r (IsPushed before after (λ o. (d : Punct)

@@ -1,5 +1,5 @@
 use Rattle.mbe_ops.specs.Views.{op_of, ops_of}
-use Rattle.mbe_faults.proofs.OpSizes.{op_size, ops_size}
+use Rattle.mbe_ops.proofs.OpSizes.{op_size, ops_size}
 use Rattle.mbe_faults.proofs.empty.+nothing.Given as goal
 
 abbrev pub decreases-op_reads_nothing : goal.decreases-op_reads_nothing

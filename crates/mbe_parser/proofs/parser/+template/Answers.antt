@@ -20,8 +20,8 @@ template_within-trees-preserved-in_ok-push_ident-in-Leaf-Ident g t c =
     let left = c.push_ident.new.src in
     let front : Some (Leaf_tree (leaves.ident (ident_of c.in-Leaf-Ident.ident))) ≡ first l.src = search rules in
     let at = first_tree l.src left _ front c.push_ident.ensures.rest in
-    let goes = lemmas.token_goes _ (mode_of c.args.mode) _ l.src left l.ops.items _ _ _ _ l.invariant.more l.invariant.fault
-    c.in_ok-reserve.ensures.items c.in_ok-push_ident-in-Leaf-Ident.ensures.op at refl in
+    let goes = lemmas.token_goes _ (mode_of c.args.mode) _ l.src left l.ops.items _ _ _ _ l.invariant.more
+    l.invariant.fault c.in_ok-reserve.ensures.items c.in_ok-push_ident-in-Leaf-Ident.ensures.op at refl in
     record { more = goes.0; fault = goes.1; smaller = omega (arith, ap flat_len at, l.invariant.smaller) }
 
 pub template_within-trees-smaller-in_ok-push_ident-in-Leaf-Ident : goal.template_within-trees-smaller-in_ok-push_ident-in-Leaf-Ident
@@ -37,8 +37,8 @@ template_within-trees-preserved-in_ok-push_literal-in-Leaf-Literal g t c =
     let left = c.push_literal.new.src in
     let front : Some (Leaf_tree (leaves.literal (literal_of c.in-Leaf-Literal.literal))) ≡ first l.src = search rules in
     let at = first_tree l.src left _ front c.push_literal.ensures.rest in
-    let goes = lemmas.token_goes _ (mode_of c.args.mode) _ l.src left l.ops.items _ _ _ _ l.invariant.more l.invariant.fault
-    c.in_ok-reserve.ensures.items c.in_ok-push_literal-in-Leaf-Literal.ensures.op at refl in
+    let goes = lemmas.token_goes _ (mode_of c.args.mode) _ l.src left l.ops.items _ _ _ _ l.invariant.more
+    l.invariant.fault c.in_ok-reserve.ensures.items c.in_ok-push_literal-in-Leaf-Literal.ensures.op at refl in
     record { more = goes.0; fault = goes.1; smaller = omega (arith, ap flat_len at, l.invariant.smaller) }
 
 pub template_within-trees-smaller-in_ok-push_literal-in-Leaf-Literal : goal.template_within-trees-smaller-in_ok-push_literal-in-Leaf-Literal

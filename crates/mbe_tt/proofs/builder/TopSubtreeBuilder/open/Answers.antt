@@ -17,16 +17,11 @@ opened : (g : _) (c : After-push_reserved g) → Opened (levels_of (entries_of c
     (entries_of c.push_reserved.new.self.items) (vec_capacity c.push_reserved.new.self)
     (length (entries_of c.self.inside.entries.items)) (c.self.inside.depth + 1)
 opened g c =
+    let added = c.push_reserved.ensures in
     let room :
     length (entries_of c.push_reserved.new.self.items) + (c.self.inside.depth + 1)
     ≤ vec_capacity c.push_reserved.new.self =
-    omega (
-      arith,
-      length-shown c.push_reserved.new.self.items,
-      c.push_reserved.ensures.len,
-      c.push_reserved.ensures.capacity,
-      c.in_ok-reserve.ensures.ok,
-    ) in
+    omega (arith, length-shown c.push_reserved.new.self.items, added.len, added.capacity, c.in_ok-reserve.ensures.ok) in
     after_open_group _ _ _ _ _ _ (record { opening = c.args.span; close = c.args.span; kind = c.args.kind })
     c.self.invariant
     (shown_append _ _ _ c.push_reserved.ensures.items

@@ -15,15 +15,10 @@ written : (g : _) (c : After-push_reserved g) → Put (levels_of (entries_of c.s
     (one_leaf (leaf_of c.args.leaf)) (entries_of c.push_reserved.new.self.items) (vec_capacity c.push_reserved.new.self)
     c.self.inside.at c.self.inside.depth
 written g c =
+    let added = c.push_reserved.ensures in
     let room : length (entries_of c.push_reserved.new.self.items) + c.self.inside.depth
     ≤ vec_capacity c.push_reserved.new.self =
-    omega (
-      arith,
-      length-shown c.push_reserved.new.self.items,
-      c.push_reserved.ensures.len,
-      c.push_reserved.ensures.capacity,
-      c.in_ok-reserve.ensures.ok,
-    ) in
+    omega (arith, length-shown c.push_reserved.new.self.items, added.len, added.capacity, c.in_ok-reserve.ensures.ok) in
     after_put _ _ _ _ _ _ (one_leaf (leaf_of c.args.leaf)) c.self.invariant
     (shown_append _ _ _ c.push_reserved.ensures.items
     ∙ ap (λ (es : List Entry). es ++ Leaf (leaf_of c.args.leaf) ∷ []) (ap entries_of c.in_ok-reserve.ensures.items))
