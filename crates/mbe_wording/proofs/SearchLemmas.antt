@@ -3,7 +3,7 @@ use Rattle.std.proofs.Common.{◌≡◌, Bool, true, false, Some, None, ap, sym,
 use Rattle.std.specs.Prelude.{◌||◌}
 use Rattle.mbe_tt.specs.Trees.Tree.{Forest, Tree, Leaf_tree, Group_tree, first, rest_of}
 use Rattle.mbe_wording.specs.Searching.{any_tree}
-use Rattle.mbe_wording.proofs.WrittenLemmas.{nothing, whole_of}
+use Rattle.mbe_tt.proofs.Trees.Firsts.{nothing, whole}
 
 -- one is among the trees that are left where one is among all
 pub Looks : (Tree → Forest → Bool) → Bool → Forest → Type 0
@@ -16,8 +16,8 @@ looks_at test all f next e same = ap (any_tree test) same ∙ e
 
 one_by : (test : Tree → Forest → Bool) (rest : Forest) (t : Tree) → first rest ≡ Some t
     → any_tree test rest ≡ (test t (rest_of rest) || any_tree test (rest_of rest))
-one_by test rest (Leaf_tree l) e = ap (any_tree test) (whole_of rest (Leaf_tree l) e)
-one_by test rest (Group_tree d inside) e = ap (any_tree test) (whole_of rest (Group_tree d inside) e)
+one_by test rest (Leaf_tree l) e = ap (any_tree test) (whole rest (Leaf_tree l) e)
+one_by test rest (Group_tree d inside) e = ap (any_tree test) (whole rest (Group_tree d inside) e)
 
 -- the first tree passes it
 pub tree_found : (test : Tree → Forest → Bool) (all : Bool) (rest ahead : Forest) (t : Tree) (found : Bool)

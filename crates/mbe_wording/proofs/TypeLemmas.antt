@@ -7,7 +7,8 @@ use Rattle.mbe_tt.specs.Trees.Tree.{Forest, Tree, Leaf_tree, Group_tree, none, l
 use Rattle.mbe_tt.specs.declared.tt.Delimiter.{Delimiter}
 use Rattle.mbe_wording.specs.Typing.{has, declares, kept, type_at, typed_by, typed_in, rule_group, pattern_after, rules_by}
 use Rattle.mbe_wording.specs.Searching.{any_tree}
-use Rattle.mbe_wording.proofs.WrittenLemmas.{Left, nothing, on, passes, whole_of}
+use Rattle.mbe_tt.proofs.Trees.Firsts.{nothing, whole}
+use Rattle.mbe_wording.proofs.WrittenLemmas.{Left, on, passes}
 
 one_more : (n : ℕ) → 0 < n → n ≡ suc (n - 1)
 one_more n h = omega (arith, h)
@@ -45,14 +46,14 @@ pub leaf_left : (pattern : Forest) (levels : ℕ) (w : Bool) (f : Forest) (l : L
     → w ≡ false → left_of pattern levels w f ≡ append (kept l (type_at pattern l (rest_of f)))
     (left_of pattern levels (is_some (type_at pattern l (rest_of f))) (rest_of f))
 leaf_left pattern levels w f l e h =
-    ap (λ b. left_of pattern levels b f) h ∙ ap (left_of pattern levels false) (whole_of f (Leaf_tree l) e)
+    ap (λ b. left_of pattern levels b f) h ∙ ap (left_of pattern levels false) (whole f (Leaf_tree l) e)
 
 pub group_left : (pattern : Forest) (levels : ℕ) (w : Bool) (f inside : Forest) (d : Delimiter)
     → first f ≡ Some (Group_tree d inside) → w ≡ false
     → left_of pattern levels w f ≡ append (group d (typed_in pattern (levels - 1) inside) none)
     (left_of pattern levels false (rest_of f))
 group_left pattern levels w f inside d e h =
-    ap (λ b. left_of pattern levels b f) h ∙ ap (left_of pattern levels false) (whole_of f (Group_tree d inside) e)
+    ap (λ b. left_of pattern levels b f) h ∙ ap (left_of pattern levels false) (whole f (Group_tree d inside) e)
 
 -- a leaf was written, with the name after it if that is of a type
 pub leaf_on : (pattern whole : Forest) (levels : ℕ) (w v : Bool) (f next ahead : Forest) (l : Leaf)
@@ -88,12 +89,12 @@ no_rule_left pattern f e = ap (rules_by pattern) (nothing f e)
 
 pub rule_leaf_left : (pattern : Option Forest) (f : Forest) (l : Leaf) → first f ≡ Some (Leaf_tree l)
     → rules_by pattern f ≡ append (one_leaf l) (rules_by pattern (rest_of f))
-rule_leaf_left pattern f l e = ap (rules_by pattern) (whole_of f (Leaf_tree l) e)
+rule_leaf_left pattern f l e = ap (rules_by pattern) (whole f (Leaf_tree l) e)
 
 pub rule_group_left : (pattern : Option Forest) (f inside : Forest) (d : Delimiter)
     → first f ≡ Some (Group_tree d inside)
     → rules_by pattern f ≡ append (rule_group pattern d inside) (rules_by (pattern_after pattern inside) (rest_of f))
-rule_group_left pattern f inside d e = ap (rules_by pattern) (whole_of f (Group_tree d inside) e)
+rule_group_left pattern f inside d e = ap (rules_by pattern) (whole f (Group_tree d inside) e)
 
 pub rule_leaf_on : (whole : Forest) (pattern : Option Forest) (f next : Forest) (l : Leaf) (old now after : Levels)
     → Left whole old (rules_by pattern f) now → first f ≡ Some (Leaf_tree l) → next ≡ rest_of f

@@ -9,7 +9,8 @@ use Rattle.mbe_wording.specs.declared.wording.Before.TheVariants as before
 use Rattle.mbe_wording.specs.declared.wording.Builtins.{Builtins}
 use Rattle.mbe_wording.specs.declared.wording.Inside.{Inside}
 use Rattle.mbe_wording.specs.Wording.{after_leaf, begun, ended, grouped, in_group, is_opened, kept, number_at, taken, worded_by, worded_in}
-use Rattle.mbe_wording.proofs.WrittenLemmas.{Left, nothing, on, passes, whole_of}
+use Rattle.mbe_tt.proofs.Trees.Firsts.{nothing, whole}
+use Rattle.mbe_wording.proofs.WrittenLemmas.{Left, on, passes}
 
 one_more : (n : ℕ) → 0 < n → n ≡ suc (n - 1)
 one_more n h = omega (arith, h)
@@ -48,7 +49,7 @@ pub leaf_left : (b : Builtins) (levels : ℕ) (m : Inside) (n : ℕ) (c : Before
     → left_of b levels m n c f ≡ append (one_leaf (kept l (number_at b m c l (rest_of f))))
     (left_of b levels m (taken (number_at b m c l (rest_of f))) (after_leaf b c l) (rest_of f))
 leaf_left b levels m n c f l e h =
-    ap (λ k. left_of b levels m k c f) h ∙ ap (left_of b levels m 0 c) (whole_of f (Leaf_tree l) e)
+    ap (λ k. left_of b levels m k c f) h ∙ ap (left_of b levels m 0 c) (whole f (Leaf_tree l) e)
 
 pub group_left : (b : Builtins) (levels : ℕ) (m : Inside) (n : ℕ) (c : Before) (f held : Forest) (d : Delimiter)
     → first f ≡ Some (Group_tree d held) → n ≡ 0
@@ -56,7 +57,7 @@ pub group_left : (b : Builtins) (levels : ℕ) (m : Inside) (n : ℕ) (c : Befor
     ≡ append (grouped (is_opened m d) d (worded_in b (levels - 1) (in_group m c (is_opened m d)) held))
     (left_of b levels m 0 before.Other (rest_of f))
 group_left b levels m n c f held d e h =
-    ap (λ k. left_of b levels m k c f) h ∙ ap (left_of b levels m 0 c) (whole_of f (Group_tree d held) e)
+    ap (λ k. left_of b levels m k c f) h ∙ ap (left_of b levels m 0 c) (whole f (Group_tree d held) e)
 
 -- a leaf was written
 pub leaf_on : (b : Builtins) (whole : Forest) (levels : ℕ) (m : Inside) (n k : ℕ) (c x : Before)
