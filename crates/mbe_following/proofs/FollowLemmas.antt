@@ -1,12 +1,12 @@
 -- What is left to be written, as trees are followed one front after another.
-use Rattle.std.proofs.Common.{ℕ, suc, ◌-◌, ◌≡◌, ◌<◌, List, [], ◌∷◌, ◌++◌, length, None, refl, ap, sym, ◌∙◌, append_assoc, append-nil, arith}
+use Rattle.std.proofs.Common.{ℕ, suc, ◌-◌, ◌≡◌, ◌<◌, List, ◌∷◌, ◌++◌, length, None, refl, ap, sym, ◌∙◌, append_assoc, append-nil, arith}
 use Rattle.std.specs.Prelude.{Option, Result, Ok, Err, OnOk}
 use Rattle.mbe_tt.specs.Buffers.Building.{Levels, put, closed}
 use Rattle.mbe_tt.specs.Trees.Leaf.{ident}
 use Rattle.mbe_tt.specs.Trees.Tree.{Forest, Tree, none, leaf, group, append, flat_len, one_leaf}
 use Rattle.mbe_tt.specs.declared.tt.Delimiter.{Delimiter}
 use Rattle.mbe_tt.proofs.Buffers.Built.{length-put}
-use Rattle.mbe_tt.proofs.Buffers.Grown.{put-none}
+use Rattle.mbe_tt.proofs.Buffers.Grown.{put-none, put-put}
 use Rattle.mbe_following.specs.Following as spec
 use Rattle.mbe_following.specs.Following.{At, Followed, Step, Unfound, unchanged, step, before, steps, followed, alone}
 use Rattle.mbe_following.specs.Fronts.{Module, Left, fresh}
@@ -16,20 +16,10 @@ use Rattle.mbe_following.specs.Taking.{File}
 pub one_more : (n : ℕ) → 0 < n → n ≡ suc (n - 1)
 one_more n h = omega (arith, h)
 
-append_append : (f g h : Forest) → append (append f g) h ≡ append f (append g h)
-append_append none g h = refl
-append_append (leaf l rest) g h = ap (leaf l) (append_append rest g h)
-append_append (group d inside rest) g h = ap (group d inside) (append_append rest g h)
-
-pub put_put : (f h : Forest) (b : Levels) → put h (put f b) ≡ put (append f h) b
-put_put f h [] = refl
-put_put f h (g ∷ outer) =
-    ap (λ (k : Forest). let x : Delimiter × Forest = (g.0, k) in x ∷ outer) (append_append g.1 f h)
-
 -- a file's trees after a tree
 pub file_written : (one more : Forest) (old b new : Levels) → b ≡ put one old → new ≡ put more b
     → new ≡ put (append one more) old
-file_written one more old b new hb hn = hn ∙ ap (put more) hb ∙ put_put one more old
+file_written one more old b new hb hn = hn ∙ ap (put more) hb ∙ put-put one more old
 
 -- where there is no tree, nothing is written
 pub nothing_alone : (t : Option Tree) (old : Levels) → t ≡ None → old ≡ put (alone t) old
@@ -78,7 +68,7 @@ front_on within files at all f old noted most left after now next found more som
     let whole = steps_more within files at most left some in
     record {
       same = ap (λ x. put (others x).kept next) r ∙ ap (put (others one.left).kept) e
-          ∙ put_put one.kept (others one.left).kept now ∙ ap (λ x. put x.kept now) whole ∙ h.same;
+          ∙ put-put one.kept (others one.left).kept now ∙ ap (λ x. put x.kept now) whole ∙ h.same;
       said = ap (λ x. more ++ (others x).unfound) r ∙ ap (λ x. x ++ (others one.left).unfound) m
           ∙ append_assoc found one.unfound (others one.left).unfound ∙ ap (λ x. found ++ x.unfound) whole ∙ h.said;
       groups = ap length e ∙ length-put now one.kept ∙ h.groups;
@@ -124,8 +114,8 @@ pub module_put : (m : Module) (d : Delimiter) (content : Forest) (old : Levels)
     → put (group d content none) (put (one_leaf (ident m.name)) (put (one_leaf (ident m.word)) old))
     ≡ put (spec.module_with m d content) old
 module_put m d content old =
-    put_put (one_leaf (ident m.name)) (group d content none) (put (one_leaf (ident m.word)) old)
-    ∙ put_put (one_leaf (ident m.word)) (leaf (ident m.name) (group d content none)) old
+    put-put (one_leaf (ident m.name)) (group d content none) (put (one_leaf (ident m.word)) old)
+    ∙ put-put (one_leaf (ident m.word)) (leaf (ident m.name) (group d content none)) old
 
 -- a group is open in the whole
 pub one_open : (a b c e n : Levels) (f g h : Forest) (d : Delimiter) → 0 < length a → b ≡ put f a → c ≡ put g b

@@ -5,7 +5,7 @@ use Rattle.std.specs.List.{list_any}
 use Rattle.std.specs.Option.{option_or}
 use Rattle.mbe_tt.specs.Trees.Leaf.{Leaf, Ident, Literal, literal, punct, ident, is_text}
 use Rattle.mbe_tt.specs.Trees.Tree.{Forest, rest_of, Tree, Leaf_tree, Group_tree, front_punct, front_ident, front_group, front_literal, first, flat_len}
-use Rattle.mbe_cfg.specs.Fronts.{after_next_comma, is_empty}
+use Rattle.mbe_cfg.specs.Fronts.{after_char, after_next_comma, is_empty}
 use Rattle.mbe_tt.specs.declared.span.Span.{Span}
 use Rattle.mbe_tt.specs.declared.tt.Delimiter.{Delimiter}
 use Rattle.mbe_tt.specs.declared.tt.DelimiterKind.{DelimiterKind}
@@ -83,10 +83,6 @@ abbrev pub leaf_text : Leaf → Option (List ℕ)
 leaf_text (literal l) = plain_text l
 leaf_text (punct p) = None
 leaf_text (ident i) = None
-
--- the trees after a punct of that char
-abbrev pub after_char : ℕ → Forest → Option Forest
-after_char char f = option_and_then (λ p. if p.char == char then Some (rest_of f) else None) (front_punct f)
 
 abbrev pub of_brackets : DelimiterKind → Forest → Option Forest
 of_brackets Bracket content = Some content

@@ -7,7 +7,7 @@ ghost use Rattle.mbe_tt.specs.Views.View.{trees};
 ghost use Rattle.mbe_following.specs.Fronts as spec;
 ghost use Rattle.mbe_following.specs.Shown.{included_shown, left_shown, module_shown};
 
-use mbe_cfg::fronts::{after_next_comma, is_empty};
+use mbe_cfg::fronts::{after_char, after_next_comma, is_empty};
 use mbe_tt::span::Span;
 use mbe_tt::tt::{
     Delimiter, DelimiterKind, Ident, IdentIsRaw, Leaf, LitKind, Literal, TokenTreesView, TtElement,
@@ -191,22 +191,6 @@ fn leaf_text<'t, A: Allocator>(leaf: &'t Leaf<A>) -> Option<&'t str>
     match leaf {
         Leaf::Literal(literal) => plain_text(literal),
         Leaf::Punct(_) | Leaf::Ident(_) => None,
-    }
-}
-
-// What follows a punct of that char.
-fn after_char<'t, A: Allocator>(
-    tokens: TokenTreesView<'t, A>,
-    char: char,
-) -> Option<TokenTreesView<'t, A>>
-    ensures { option_map trees result ≡ spec.after_char char (trees tokens.entry) }
-{
-    let mut iter = tokens.iter();
-    let punct = iter.expect_single_punct().ok()?;
-    if punct.char == char {
-        Some(iter.remaining())
-    } else {
-        None
     }
 }
 
