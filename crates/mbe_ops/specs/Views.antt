@@ -25,7 +25,7 @@ separator_seen (between.TheVariants.Lifetime p i) = ops.lifetime_separator p (id
 
 -- one level, with the ops inside already seen
 abbrev pub op_step : {A : Type 0} → Op-F A Op Ops → Op
-op_step (Op-F.Var name kind id) = variable name kind id
+op_step (Op-F.Var name id kind) = variable name kind id
 op_step (Op-F.Expression e) = expression (expression_seen e)
 op_step (Op-F.Repeat tokens kind separator) = repetition tokens (option_map separator_seen separator) kind
 op_step (Op-F.Subtree tokens delimiter) = group delimiter tokens
