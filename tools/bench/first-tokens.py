@@ -5,6 +5,7 @@
 
 A call that fits the last rule less one that fits the first, by valgrind's callgrind, divided by the number of rules between. MBEX
 is the program, proved or made by `unproved.sh`."""
+import os
 import re
 import subprocess
 import sys
@@ -33,9 +34,10 @@ def instructions(program, definition, argument):
 
 
 def main():
+    program = os.path.abspath(sys.argv[1])
     for what, count, pattern, template, argument in RULES:
         definition = "\n".join(f"(w{i} {pattern}) => {{ {template} }};" for i in range(count))
-        last, first = (instructions(sys.argv[1], definition, f"w{i} {argument}") for i in (count - 1, 0))
+        last, first = (instructions(program, definition, f"w{i} {argument}") for i in (count - 1, 0))
         print(f"{count:6} of {what}: {(last - first) / (count - 1):.0f}", flush=True)
 
 
