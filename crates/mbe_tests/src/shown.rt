@@ -56,9 +56,10 @@ pub fn are_spans_shown(alloc: Global) -> bool {
         && shows(alloc, &PrefixEntryPoint::PatTop, &["PatTop"])
 }
 
-static LEAVES: [&str; 4] = [
+static LEAVES: [&str; 5] = [
     "TopSubtree {",
-    "Ident(Ident { sym: \"a\", is_raw: No",
+    "Ident(Ident { sym: \"a\", span: Span {",
+    "is_raw: No",
     "Literal(Literal { text_and_suffix: \"1\", suffix_len: 0, kind: Integer",
     "Punct(Punct { char: '+', spacing: Alone",
 ];
