@@ -9,7 +9,20 @@ set -eu
 top=$(cd "$(dirname "$0")/../.." && pwd)
 folder=${1:-$(mktemp -d)}
 mkdir -p "$folder/crates"
-libraries=$(sed -n 's/^\(mbe[a-z_]*\):.*/\1/p' "$top/crates.txt" | grep -v -e '_tests$' -e '^mbex' -e '^mbe_program$' -e '^mbe_grammar$')
+# What the benchmark names, and all below it.
+libraries=$(awk -F: -v asked='mbe mbe_text mbe_tt' '
+    { below[$1] = $2 }
+    END {
+        left = split(asked, todo, " ")
+        while (left) {
+            it = todo[left--]
+            if (it in seen || !(it in below)) continue
+            seen[it] = 1
+            count = split(below[it], more, " ")
+            for (i = 1; i <= count; i++) todo[++left] = more[i]
+        }
+        for (it in seen) print it
+    }' "$top/crates.txt")
 : >"$folder/crates.txt"
 for crate in $libraries; do
     grep "^$crate:" "$top/crates.txt" >>"$folder/crates.txt"
