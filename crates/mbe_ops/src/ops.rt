@@ -119,8 +119,8 @@ pub struct MetaTemplate<A: Allocator = Global>(pub Vec<Op<A>, A>);
 pub enum Op<A: Allocator = Global> {
     Var {
         name: Symbol<A>,
-        kind: Option<MetaVarKind>,
         id: Span,
+        kind: Option<MetaVarKind>,
     },
     /// In a template alone.
     Expression(Expression<A>),

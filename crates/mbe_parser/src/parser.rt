@@ -172,12 +172,26 @@ fn push_ident<A: Allocator>(
     ensures rest { src.new ≡ rest_of src.old }
 {
     let _word = src.next();
-    let sym = ident.sym.clone()?;
+    let Some(sym) = ident.sym.copied() else {
+        return push_shared(ident, ops);
+    };
     ops.push_reserved(Op::Ident(Ident {
         sym,
         is_raw: ident.is_raw,
         span: ident.span,
     }));
+    Ok(())
+}
+
+// Adds the identifier, whose text is shared.
+#[inline(never)]
+#[tactic(auto, using(mbe_ops::proofs::OpViews::views))]
+fn push_shared<A: Allocator>(ident: &Ident<A>, ops: &mut Vec<Op<A>, A>) -> Result<(), AllocError>
+    requires { vec_len ops.old < vec_capacity ops.old }
+    ensures { OnOk result (IsPushed ops.old.items ops.new.items (λ o.
+        o ≡ token (ident_token (ident_of ident.now)))) }
+{
+    ops.push_reserved(Op::Ident(ident.clone()?));
     Ok(())
 }
 
@@ -503,6 +517,26 @@ fn push_variable<A: Allocator, E: Copy + Fn(SyntaxContext) -> Edition>(
     ensures no_longer { flat_len src.new ≤ flat_len src.old }
 {
     let kind = eat_fragment_kind(edition, src, mode)?;
+    let Some(name) = name.copied() else {
+        return Ok(push_long_variable(name, kind, id, ops)?);
+    };
+    ops.push_reserved(Op::Var { name, kind, id });
+    Ok(())
+}
+
+// Adds the variable of that name, whose text is shared.
+#[inline(never)]
+#[tactic(auto, using(mbe_ops::proofs::OpViews::views))]
+fn push_long_variable<A: Allocator>(
+    name: &Symbol<A>,
+    kind: Option<MetaVarKind>,
+    id: Span,
+    ops: &mut Vec<Op<A>, A>,
+) -> Result<(), AllocError>
+    requires { vec_len ops.old < vec_capacity ops.old }
+    ensures { OnOk result (IsPushed ops.old.items ops.new.items (λ o.
+        o ≡ variable_op name.now kind id)) }
+{
     let name = name.clone()?;
     ops.push_reserved(Op::Var { name, kind, id });
     Ok(())

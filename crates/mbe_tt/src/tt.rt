@@ -41,8 +41,8 @@ pub enum IdentIsRaw {
 #[derive_where(Debug)]
 pub struct Ident<A: Allocator = Global> {
     pub sym: Symbol<A>,
-    pub is_raw: IdentIsRaw,
     pub span: Span,
+    pub is_raw: IdentIsRaw,
 }
 
 /// What sort of literal it is. The numbers are those of the `#` of a raw string.
