@@ -21,7 +21,7 @@ use Rattle.mbe_semantics.specs.Syntax.Op.{token, group, variable, repetition, ex
 use Rattle.mbe_ops.specs.Views.{op_of, ops_of, template_of, separator_seen, expression_seen}
 
 pub view-var : (A : Type 0) (name : List ℕ) (kind : Option MetaVarKind) (id : Span)
-    → op_of {A = A} (Var name kind id) ≡ variable name kind id
+    → op_of {A = A} (Var name id kind) ≡ variable name kind id
 view-var A name kind id = search (rules, the_lemmas)
 
 pub view-expression : {A : Type 0} (e : Expression A) → op_of (code.Expression e) ≡ expression (expression_seen e)

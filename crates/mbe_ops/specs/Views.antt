@@ -41,7 +41,7 @@ expression_seen (between_braces.TheVariants.Concat elements span) = ops.concat (
 
 -- one level, with the ops inside already seen
 abbrev pub op_step : {A : Type 0} → Op-F A Op Ops → Op
-op_step (Op-F.Var name kind id) = variable name kind id
+op_step (Op-F.Var name id kind) = variable name kind id
 op_step (Op-F.Expression e) = expression (expression_seen e)
 op_step (Op-F.Repeat tokens kind separator) = repetition tokens (option_map separator_seen separator) kind
 op_step (Op-F.Subtree tokens delimiter) = group delimiter tokens
