@@ -83,6 +83,9 @@ def bodies_of(words):
 
 
 def main():
+    if {"-h", "--help"} & {*sys.argv}:
+        print(__doc__.strip())
+        sys.exit()
     words = [it for it in sys.argv[1:] if not it.startswith("--")]
     ends = {}
     with tempfile.TemporaryDirectory(prefix="planted-") as top:

@@ -155,6 +155,9 @@ def edits_of(top, words, with_gate):
 
 
 def main():
+    if {"-h", "--help"} & {*sys.argv}:
+        print(__doc__.strip())
+        sys.exit()
     words = [it for it in sys.argv[1:] if not it.startswith("--")]
     ends = {}
     with tempfile.TemporaryDirectory(prefix="edits-", dir=os.environ.get("TMPDIR")) as top:
