@@ -406,7 +406,7 @@ fn push_leaf_after_dollar<A: Allocator + Copy, E: Copy + Fn(SyntaxContext) -> Ed
                 push_dollar_crate(alloc, ident, ops)?;
                 return Ok(());
             }
-            push_variable(edition, &ident.sym, &ident.span, src, mode, ops)
+            push_variable(edition, &ident.sym, ident.span, src, mode, ops)
         }
         Leaf::Literal(literal) => push_literal_after_dollar(edition, literal, src, mode, ops),
         Leaf::Punct(punct) => push_punct_after_dollar(*punct, mode, ops),
@@ -437,7 +437,7 @@ fn push_literal_after_dollar<A: Allocator, E: Copy + Fn(SyntaxContext) -> Editio
         return Err(ReadError::Fault(SyntaxFault::ExpectedIdent));
     }
     let name = &literal.text_and_suffix;
-    push_variable(edition, name, &literal.span, src, mode, ops)
+    push_variable(edition, name, literal.span, src, mode, ops)
 }
 
 // Adds the second `$` of `$$`, which is in templates alone.
@@ -503,7 +503,7 @@ fn push_dollar_crate<A: Allocator + Copy>(
 fn push_variable<A: Allocator, E: Copy + Fn(SyntaxContext) -> Edition>(
     edition: E,
     name: &Symbol<A>,
-    id: &Span,
+    id: Span,
     src: &mut TtIter<'_, A>,
     mode: Mode,
     ops: &mut Vec<Op<A>, A>,
@@ -511,16 +511,15 @@ fn push_variable<A: Allocator, E: Copy + Fn(SyntaxContext) -> Edition>(
     requires answers { MayAsk (E.pre edition) }
     requires room { vec_len ops.old < vec_capacity ops.old }
     ensures op { OnOk result (IsPushed ops.old.items ops.new.items (λ o. AtHead (E.post edition)
-        (mode_of mode) (grammar.variable_at (mode_of mode) name.now id.now src.old) o src.new)) }
+        (mode_of mode) (grammar.variable_at (mode_of mode) name.now id src.old) o src.new)) }
     ensures fault { IfErr result (λ e. Stops e (λ f.
-        grammar.variable_at (mode_of mode) name.now id.now src.old ≡ Err f)) }
+        grammar.variable_at (mode_of mode) name.now id src.old ≡ Err f)) }
     ensures no_longer { flat_len src.new ≤ flat_len src.old }
 {
     let kind = eat_fragment_kind(edition, src, mode)?;
     let Some(name) = name.copied() else {
-        return Ok(push_long_variable(name, kind, *id, ops)?);
+        return Ok(push_long_variable(name, kind, id, ops)?);
     };
-    let id = *id;
     ops.push_reserved(Op::Var { name, kind, id });
     Ok(())
 }
