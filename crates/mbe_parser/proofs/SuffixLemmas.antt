@@ -3,11 +3,12 @@ use Rattle.std.specs.Prelude.{◌≡◌, ◌<◌, ◌==◌, Bool, true, false, i
 use Rattle.std.proofs.Common.{ap, sym, ◌∙◌, arith}
 use Rattle.std.proofs.lemmas.Option.{none-some, same_Some}
 use Rattle.std.proofs.lemmas.Bool.{ne_eqb, lt-leb}
+use Rattle.std.proofs.lemmas.List.{append_assoc}
 use Rattle.mbe_tt.specs.Trees.Leaf.{Leaf, Ident, Literal, literal, punct, ident}
-use Rattle.mbe_tt.specs.Trees.Tree.{Forest}
+use Rattle.mbe_tt.specs.Trees.Tree.{Forest, none, leaf, group, Tree, Leaf_tree, Group_tree, first, rest_of}
 use Rattle.mbe_tt.specs.declared.tt.Punct.{Punct}
 use Rattle.mbe_semantics.specs.Syntax.Op.{Separator, ident_separator, literal_separator, punct_separator, lifetime_separator}
-use Rattle.mbe_semantics.specs.Syntax.Template.{Suffix, suffix_of, separator_of, all_puncts, up_to_three}
+use Rattle.mbe_semantics.specs.Syntax.Template.{Suffix, suffix_of, leaf_in_suffix, separator_of, all_puncts, up_to_three}
 use Rattle.mbe_parser.specs.Reader.{IsExtended, NeverExtended}
 
 -- ---- the leaves of a separator
@@ -157,3 +158,31 @@ pub record SoFar (f : Forest) (s : Option Separator) (left : Forest) : Type 0 wh
   pub before : List Leaf
   pub separator : separator_of before ≡ Some s
   pub suffix : suffix_of f ≡ option_map (in_front before) (suffix_of left)
+
+in_front_again : (ls : List Leaf) (l : Leaf) (o : Option Suffix)
+    → option_map (in_front ls) (option_map (leaf_in_suffix l) o) ≡ option_map (in_front (ls ++ l ∷ [])) o
+in_front_again ls l None = refl
+in_front_again ls l (Some s) = ap (λ leaves. Some (record s { leaves = leaves })) (sym (append_assoc ls (l ∷ []) s.leaves))
+
+abbrev leaf_at : Tree → Option Leaf
+leaf_at (Leaf_tree l) = Some l
+leaf_at (Group_tree d inside) = None
+
+-- one leaf more, which doesn't end the suffix
+pub so_far_with : (f : Forest) (s : Option Separator) (left back : Forest) (l : Leaf) (new : Separator) → SoFar f s left
+    → first left ≡ Some (Leaf_tree l) → back ≡ rest_of left
+    → ((rest : Forest) → suffix_of (leaf l rest) ≡ option_map (leaf_in_suffix l) (suffix_of rest))
+    → IsExtended s l new → SoFar f (Some new) back
+so_far_with f s none back l new h e b goes_on extended = absurd (none-some _ e)
+so_far_with f s (group d inside rest) back l new h e b goes_on extended =
+    absurd (none-some l (ap (λ o. option_and_then leaf_at o) e))
+so_far_with f s (leaf k rest) back l new h e b goes_on extended = record {
+  before = h.before ++ l ∷ [];
+  separator = extended h.before h.separator;
+  suffix = h.suffix
+      ∙ ap (λ k. option_map (in_front h.before) (suffix_of (leaf k rest)))
+      (same_Some k l (ap (λ o. option_and_then leaf_at o) e))
+      ∙ ap (option_map (in_front h.before)) (goes_on rest)
+      ∙ in_front_again h.before l (suffix_of rest)
+      ∙ ap (λ left. option_map (in_front (h.before ++ l ∷ [])) (suffix_of left)) (sym b);
+}
