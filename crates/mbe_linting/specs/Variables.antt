@@ -1,9 +1,9 @@
 -- The variables of a pattern and their uses in a template, in the order in which they are written.
-use Rattle.std.specs.Prelude.{ℕ, ◌+◌, List, [], ◌∷◌, ◌++◌, Option, Some, None}
+use Rattle.std.specs.Prelude.{ℕ, ◌+◌, List, [], ◌∷◌, ◌++◌, map, Option, Some}
 use Rattle.mbe_tt.specs.declared.span.Span.{Span}
 use Rattle.mbe_semantics.specs.declared.kinds.MetaVarKind.{MetaVarKind}
 use Rattle.mbe_semantics.specs.Syntax.Op as ops
-use Rattle.mbe_semantics.specs.Syntax.Op.{Name, Element, Expression, Op, Ops, no_ops, op}
+use Rattle.mbe_semantics.specs.Syntax.Op.{Name, Expression, Op, Ops, no_ops, op, used_name, Mention, mentions_of_expression}
 use Rattle.mbe_linting.specs.declared.variables.Bound as bound
 use Rattle.mbe_linting.specs.declared.variables.Used as used
 
@@ -35,21 +35,13 @@ abbrev mutual
   bound_in depth no_ops = []
   bound_in depth (op o os) = bound_in_op depth o ++ bound_in depth os
 
--- the variables among the elements of `${concat(..)}`
-abbrev pub used_in_elements : ℕ → List Element → List Used
-used_in_elements depth [] = []
-used_in_elements depth (ops.ident_element i ∷ es) = used_in_elements depth es
-used_in_elements depth (ops.literal_element l ∷ es) = used_in_elements depth es
-used_in_elements depth (ops.variable_element i ∷ es) =
-    record { name = i.sym; depth = depth; place = Some i.span } ∷ used_in_elements depth es
+-- a variable of a metavariable expression
+abbrev pub used_of : ℕ → Mention → Used
+used_of depth m = record { name = used_name m.used; depth = depth; place = m.place }
 
--- `ignore` and `count` write nothing that the variable took
+-- all of them
 abbrev pub used_in_expression : ℕ → Expression → List Used
-used_in_expression depth (ops.ignore name span) = record { name = name; depth = depth; place = None } ∷ []
-used_in_expression depth (ops.count name levels) = record { name = name; depth = depth; place = None } ∷ []
-used_in_expression depth (ops.index levels) = []
-used_in_expression depth (ops.len levels) = []
-used_in_expression depth (ops.concat elements span) = used_in_elements depth elements
+used_in_expression depth e = map (used_of depth) (mentions_of_expression e)
 
 abbrev mutual
   -- the uses of names in a template with that many repetitions around it

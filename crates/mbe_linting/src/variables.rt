@@ -1,10 +1,12 @@
 // The variables of a pattern, and their uses in a template.
 ghost use Rattle.std.specs.Prelude.{◌≡◌, ◌+◌, ◌++◌, [], ◌∷◌, map, Some, None, OnOk, IfOk};
-ghost use Rattle.mbe_ops.specs.Views.{op_of, ops_of, elements_seen, expression_seen, template_of};
+ghost use Rattle.mbe_ops.specs.Expressions.{expression_seen};
+ghost use Rattle.mbe_ops.specs.Views.{op_of, ops_of, template_of};
 ghost use Rattle.mbe_linting.specs.Variables as spec;
 ghost use Rattle.mbe_linting.specs.Variables.{bound_seen, used_seen};
 
-use mbe_ops::ops::{ConcatMetaVarExprElem, Expression, MetaTemplate, Op};
+use mbe_ops::expression::Expression;
+use mbe_ops::ops::{MetaTemplate, Op};
 use mbe_semantics::kinds::MetaVarKind;
 use mbe_tt::span::Span;
 use std::alloc::{AllocError, Allocator};
@@ -84,46 +86,6 @@ fn push_bound_op<'a, A: Allocator>(
     }
 }
 
-// Adds the variables among the elements of `${concat(..)}`.
-fn push_used_elements<'a, A: Allocator>(
-    used: &mut Vec<Used<'a>, A>,
-    elements: &'a [ConcatMetaVarExprElem<A>],
-    depth: usize,
-) -> Result<(), AllocError>
-    ensures { OnOk result (map used_seen used.new.items ≡ map used_seen used.old.items
-        ++ spec.used_in_elements depth (elements_seen elements.now)) }
-{
-    let mut rest = elements;
-    'elements: while let Some((element, others)) = rest.split_first() {
-        if let ConcatMetaVarExprElem::Var(ident) = element {
-            used.push(Used {
-                name: ident.sym.as_str(),
-                depth,
-                place: Some(ident.span),
-            })?;
-        }
-        rest = others;
-    }
-    Ok(())
-}
-
-// Adds a use that writes nothing.
-fn push_unwritten<'a, A: Allocator>(
-    used: &mut Vec<Used<'a>, A>,
-    name: &'a str,
-    depth: usize,
-) -> Result<(), AllocError>
-    ensures { OnOk result (map used_seen used.new.items ≡ map used_seen used.old.items
-        ++ record { name = name.now; depth = depth; place = None } ∷ []) }
-{
-    used.push(Used {
-        name,
-        depth,
-        place: None,
-    })?;
-    Ok(())
-}
-
 fn push_used_expression<'a, A: Allocator>(
     used: &mut Vec<Used<'a>, A>,
     expression: &'a Expression<A>,
@@ -132,15 +94,14 @@ fn push_used_expression<'a, A: Allocator>(
     ensures { OnOk result (map used_seen used.new.items ≡ map used_seen used.old.items
         ++ spec.used_in_expression depth (expression_seen expression.now)) }
 {
-    match expression {
-        Expression::Ignore { name, .. } | Expression::Count { name, .. } => {
-            push_unwritten(used, name.as_str(), depth)
-        }
-        Expression::Concat { elements, .. } => {
-            push_used_elements(used, elements.as_slice(), depth)
-        }
-        Expression::Index { .. } | Expression::Len { .. } => Ok(()),
+    for mention in expression.mentions() {
+        used.push(Used {
+            name: mention.name.as_str(),
+            depth,
+            place: mention.place,
+        })?;
     }
+    Ok(())
 }
 
 #[cycle(used)]

@@ -20,10 +20,11 @@ use Rattle.mbe_semantics.specs.Syntax.Op.{Name, Separator, Op, Ops, no_ops, op}
 use Rattle.mbe_semantics.specs.Syntax.Definition.{Rule}
 use Rattle.mbe_semantics.specs.Expansion.Macro.{Macro}
 use Rattle.mbe_ops.specs.declared.ops.Op as code
-use Rattle.mbe_ops.specs.declared.ops.ConcatMetaVarExprElem as part
-use Rattle.mbe_ops.specs.Views.{op_of, ops_of, element_seen, elements_seen}
+use Rattle.mbe_ops.specs.declared.expression.ConcatMetaVarExprElem as part
+use Rattle.mbe_ops.specs.Expressions.{element_seen, elements_seen, expression_code, element_code, element_eq}
+use Rattle.mbe_ops.specs.Views.{op_of, ops_of}
 use Rattle.mbe_ops.specs.Equality.{text_of, text_code, IsSameBetween, IsSameOp, AreSameOps, AreSameRules, IsSameMacro}
-use Rattle.mbe_ops.specs.Codes.{token_code, expression_code, element_code, variable_code, fault_code, key_code, op_key, ops_key, rules_key, macro_key, element_eq, macro_eq}
+use Rattle.mbe_ops.specs.Codes.{token_code, variable_code, fault_code, key_code, op_key, ops_key, rules_key, macro_key, macro_eq}
 
 -- ---- codes
 

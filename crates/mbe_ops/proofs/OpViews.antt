@@ -11,14 +11,15 @@ use Rattle.mbe_semantics.specs.declared.kinds.MetaVarKind.{MetaVarKind}
 use Rattle.mbe_ops.specs.declared.ops.MetaTemplate.{MetaTemplate, roll-MetaTemplate}
 use Rattle.mbe_semantics.specs.declared.kinds.RepeatKind.{RepeatKind}
 use Rattle.mbe_ops.specs.declared.ops.Separator.{Separator}
-use Rattle.mbe_ops.specs.declared.ops.Expression.{Expression}
+use Rattle.mbe_ops.specs.declared.expression.Expression.{Expression}
 use Rattle.mbe_ops.specs.declared.ops.Op.{Op, Var, Repeat, Subtree, Literal, Punct, Ident, the_lemmas}
 use Rattle.mbe_ops.specs.declared.ops.Op as code
 use Rattle.mbe_ops.specs.declared.ops.Op.TheOpen.{MetaTemplate-F}
 use Rattle.mbe_ops.specs.declared.ops.Op.TheViews as views_of
 use Rattle.mbe_semantics.specs.Syntax.Op as ops
 use Rattle.mbe_semantics.specs.Syntax.Op.{token, group, variable, repetition, expression, literal, ident, puncts}
-use Rattle.mbe_ops.specs.Views.{op_of, ops_of, template_of, separator_seen, expression_seen}
+use Rattle.mbe_ops.specs.Expressions.{expression_seen}
+use Rattle.mbe_ops.specs.Views.{op_of, ops_of, template_of, separator_seen}
 
 pub view-var : (A : Type 0) (name : List ℕ) (kind : Option MetaVarKind) (id : Span)
     → op_of {A = A} (Var name id kind) ≡ variable name kind id

@@ -17,15 +17,14 @@ use Rattle.mbe_semantics.specs.contracts.kinds.RepeatKind as repeat
 use Rattle.mbe_semantics.specs.contracts.macro_call_style.MacroCallStyle as style
 use Rattle.mbe_semantics.specs.declared.kinds.MetaVarKind.{MetaVarKind}
 use Rattle.mbe_semantics.specs.Syntax.Op as ops
-use Rattle.mbe_semantics.specs.Syntax.Op.{Name, Element, Expression, Token, Op, Ops, no_ops, op}
+use Rattle.mbe_semantics.specs.Syntax.Op.{Name, Token, Op, Ops, no_ops, op}
 use Rattle.mbe_semantics.specs.Syntax.Template.{Fault, unexpected_token, expected, invalid_repeat, empty_repetition}
 use Rattle.mbe_semantics.specs.Syntax.Definition.{Rule}
 use Rattle.mbe_semantics.specs.Expansion.Macro.{Macro}
-use Rattle.mbe_ops.specs.declared.ops.ConcatMetaVarExprElem as part
-use Rattle.mbe_ops.specs.Views.{element_seen}
+use Rattle.mbe_ops.specs.Expressions.{expression_code}
 use Rattle.mbe_ops.specs.Equality.{text_of, text_code}
 
--- ---- tokens and metavariable expressions
+-- ---- tokens
 
 abbrev pub TokenRow : Type 0
 TokenRow = Literal ⊎ (Ident ⊎ List Punct)
@@ -49,67 +48,6 @@ abbrev pub token_code : Coded Token
 token_code =
     code_by TokenRow (coded⊎ literal_code (coded⊎ ident_code (coded_list punct.the_row.coded))) token_row row_token
     row_token-token_row
-
-abbrev pub ElementRow : Type 0
-ElementRow = Ident ⊎ (Literal ⊎ Ident)
-
-abbrev pub element_row : Element → ElementRow
-element_row (ops.ident_element i) = inl i
-element_row (ops.literal_element l) = inr (inl l)
-element_row (ops.variable_element i) = inr (inr i)
-
-abbrev pub row_element : ElementRow → Element
-row_element (inl i) = ops.ident_element i
-row_element (inr (inl l)) = ops.literal_element l
-row_element (inr (inr i)) = ops.variable_element i
-
-pub row_element-element_row : (e : Element) → row_element (element_row e) ≡ e
-row_element-element_row (ops.ident_element i) = refl
-row_element-element_row (ops.literal_element l) = refl
-row_element-element_row (ops.variable_element i) = refl
-
-abbrev pub element_code : Coded Element
-element_code = code_by ElementRow (coded⊎ ident_code (coded⊎ literal_code ident_code)) element_row row_element
-    row_element-element_row
-
-abbrev pub ExpressionRow : Type 0
-ExpressionRow = (Name × Span) ⊎ ((Name × ℕ) ⊎ (ℕ ⊎ (ℕ ⊎ (List Element × Span))))
-
-abbrev pub expression_row : Expression → ExpressionRow
-expression_row (ops.ignore name s) = inl (name, s)
-expression_row (ops.count name depth) = inr (inl (name, depth))
-expression_row (ops.index depth) = inr (inr (inl depth))
-expression_row (ops.len depth) = inr (inr (inr (inl depth)))
-expression_row (ops.concat elements s) = inr (inr (inr (inr (elements, s))))
-
-abbrev pub row_expression : ExpressionRow → Expression
-row_expression (inl p) = ops.ignore p.0 p.1
-row_expression (inr (inl p)) = ops.count p.0 p.1
-row_expression (inr (inr (inl depth))) = ops.index depth
-row_expression (inr (inr (inr (inl depth)))) = ops.len depth
-row_expression (inr (inr (inr (inr p)))) = ops.concat p.0 p.1
-
-pub row_expression-expression_row : (e : Expression) → row_expression (expression_row e) ≡ e
-row_expression-expression_row (ops.ignore name s) = refl
-row_expression-expression_row (ops.count name depth) = refl
-row_expression-expression_row (ops.index depth) = refl
-row_expression-expression_row (ops.len depth) = refl
-row_expression-expression_row (ops.concat elements s) = refl
-
-abbrev pub expression_code : Coded Expression
-expression_code =
-    let names = coded_list coded_ℕ in
-    let listed = coded× (coded_list element_code) span.the_row.coded in
-    code_by ExpressionRow
-    (coded⊎ (coded× names span.the_row.coded) (coded⊎ (coded× names coded_ℕ) (coded⊎ coded_ℕ (coded⊎ coded_ℕ listed))))
-    expression_row row_expression row_expression-expression_row
-
--- equality of elements
-abbrev pub element_eq : {A : Type 0} → part.ConcatMetaVarExprElem A → part.ConcatMetaVarExprElem A → Bool
-element_eq x y = same element_code (element_seen x) (element_seen y)
-
-pub element_eq_laws : {A : Type 0} → IsEquivalence (element_eq {A = A})
-element_eq_laws = on_equiv element_seen (same_equiv element_code)
 
 -- ---- ops: what counts of them, as one code
 

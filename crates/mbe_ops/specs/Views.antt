@@ -9,10 +9,9 @@ use Rattle.mbe_ops.specs.declared.ops.Op.{fold-Op}
 use Rattle.mbe_ops.specs.declared.ops.Op.TheOpen.{Op-F}
 use Rattle.mbe_ops.specs.declared.ops.MetaTemplate.{MetaTemplate, out-MetaTemplate}
 use Rattle.mbe_ops.specs.declared.ops.Separator as between
-use Rattle.mbe_ops.specs.declared.ops.ConcatMetaVarExprElem as part
-use Rattle.mbe_ops.specs.declared.ops.Expression as between_braces
+use Rattle.mbe_ops.specs.Expressions.{expression_seen}
 use Rattle.mbe_semantics.specs.Syntax.Op as ops
-use Rattle.mbe_semantics.specs.Syntax.Op.{Op, Ops, no_ops, op, token, group, variable, repetition, expression, literal, ident, puncts, Separator, Element, Expression}
+use Rattle.mbe_semantics.specs.Syntax.Op.{Op, Ops, no_ops, op, token, group, variable, repetition, expression, literal, ident, puncts, Separator}
 
 abbrev pub all_of : List Op → Ops
 all_of [] = no_ops
@@ -23,21 +22,6 @@ separator_seen (between.TheVariants.Literal l) = ops.literal_separator (literal_
 separator_seen (between.TheVariants.Ident i) = ops.ident_separator (ident_of i)
 separator_seen (between.TheVariants.Puncts ps) = ops.punct_separator ps.items
 separator_seen (between.TheVariants.Lifetime p i) = ops.lifetime_separator p (ident_of i)
-
-abbrev pub element_seen : {A : Type 0} → part.ConcatMetaVarExprElem A → Element
-element_seen (part.TheVariants.Ident i) = ops.ident_element (ident_of i)
-element_seen (part.TheVariants.Var i) = ops.variable_element (ident_of i)
-element_seen (part.TheVariants.Literal l) = ops.literal_element (literal_of l)
-
-abbrev pub elements_seen : {A : Type 0} → List (part.ConcatMetaVarExprElem A) → List Element
-elements_seen es = map element_seen es
-
-abbrev pub expression_seen : {A : Type 0} → between_braces.Expression A → Expression
-expression_seen (between_braces.TheVariants.Ignore name id) = ops.ignore name id
-expression_seen (between_braces.TheVariants.Index depth) = ops.index depth
-expression_seen (between_braces.TheVariants.Len depth) = ops.len depth
-expression_seen (between_braces.TheVariants.Count name depth) = ops.count name depth
-expression_seen (between_braces.TheVariants.Concat elements span) = ops.concat (map element_seen elements.items) span
 
 -- one level, with the ops inside already seen
 abbrev pub op_step : {A : Type 0} → Op-F A Op Ops → Op

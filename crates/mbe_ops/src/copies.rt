@@ -1,9 +1,10 @@
 // Copies of patterns and templates.
 ghost use Rattle.std.specs.Prelude.{◌≡◌, IfOk, option_map};
-ghost use Rattle.mbe_ops.specs.Views.{separator_seen, elements_seen, expression_seen, op_of, ops_of, template_of};
+ghost use Rattle.mbe_ops.specs.Views.{separator_seen, op_of, ops_of, template_of};
 
+use crate::expression::copied_expression;
 use crate::held::Between;
-use crate::ops::{ConcatMetaVarExprElem, Expression, MetaTemplate, Op, Separator};
+use crate::ops::{MetaTemplate, Op, Separator};
 use arrayvec::ArrayVec;
 use mbe_tt::tt::Punct;
 use std::alloc::{AllocError, Allocator};
@@ -60,29 +61,6 @@ fn copied_op<A: Allocator + Copy>(alloc: A, op: &Op<A>) -> Result<Op<A>, AllocEr
     }
 }
 
-fn copied_expression<A: Allocator + Copy>(
-    expression: &Expression<A>,
-) -> Result<Expression<A>, AllocError>
-    ensures { IfOk result (λ copy. expression_seen copy ≡ expression_seen expression.now) }
-{
-    match expression {
-        Expression::Ignore { name, id } => Ok(Expression::Ignore {
-            name: name.clone()?,
-            id: *id,
-        }),
-        Expression::Index { depth } => Ok(Expression::Index { depth: *depth }),
-        Expression::Len { depth } => Ok(Expression::Len { depth: *depth }),
-        Expression::Count { name, depth } => Ok(Expression::Count {
-            name: name.clone()?,
-            depth: *depth,
-        }),
-        Expression::Concat { elements, span } => Ok(Expression::Concat {
-            elements: copied_elements(elements)?,
-            span: *span,
-        }),
-    }
-}
-
 fn copied_between<A: Allocator>(alloc: A, separator: &Between<A>) -> Result<Between<A>, AllocError>
     ensures { IfOk result
         (λ copy. option_map separator_seen copy ≡ option_map separator_seen separator.now) }
@@ -103,26 +81,4 @@ pub(crate) fn copied_puncts(puncts: &ArrayVec<Punct, 3>) -> Result<ArrayVec<Punc
     ensures { IfOk result (λ copy. copy.items ≡ puncts.now.items) }
 {
     puncts.clone()
-}
-
-fn copied_elements<A: Allocator + Copy>(
-    elements: &Vec<ConcatMetaVarExprElem<A>, A>,
-) -> Result<Vec<ConcatMetaVarExprElem<A>, A>, AllocError>
-    ensures { IfOk result (λ copy. elements_seen copy.items ≡ elements_seen elements.now.items) }
-{
-    elements.clone()
-}
-
-impl<A: Allocator> Clone for ConcatMetaVarExprElem<A> {
-    ghost is_clone = { λ x y. y ≡ x };
-
-    fn clone(&self) -> Result<ConcatMetaVarExprElem<A>, AllocError> {
-        Ok(match self {
-            ConcatMetaVarExprElem::Ident(ident) => ConcatMetaVarExprElem::Ident(ident.clone()?),
-            ConcatMetaVarExprElem::Var(ident) => ConcatMetaVarExprElem::Var(ident.clone()?),
-            ConcatMetaVarExprElem::Literal(literal) => {
-                ConcatMetaVarExprElem::Literal(literal.clone()?)
-            }
-        })
-    }
 }

@@ -2,10 +2,11 @@
 ghost use Rattle.std.specs.Prelude.{◌≡◌, ◌↔◌, IsTrue, option_map};
 ghost use Rattle.mbe_tt.specs.Views.Shown.{ident_of, literal_of};
 ghost use Rattle.mbe_ops.specs.Equality.{IsSameBetween, IsSameOp, AreSameOps};
-ghost use Rattle.mbe_ops.specs.Views.{separator_seen, element_seen, elements_seen, expression_seen, op_of, ops_of, template_of};
+ghost use Rattle.mbe_ops.specs.Views.{separator_seen, op_of, ops_of, template_of};
 
+use crate::expression::same_expression;
 use crate::held::Between;
-use crate::ops::{ConcatMetaVarExprElem, Expression, MetaTemplate, Op, same_separator};
+use crate::ops::{MetaTemplate, Op, same_separator};
 use mbe_semantics::kinds::RepeatKind;
 use mbe_tt::tt::{Delimiter, Ident, Literal, Punct};
 use std::alloc::Allocator;
@@ -75,29 +76,6 @@ fn same_op<A: Allocator>(one: &Op<A>, two: &Op<A>) -> bool
     }
 }
 
-fn same_expression<A: Allocator>(one: &Expression<A>, two: &Expression<A>) -> bool
-    ensures { IsTrue result ↔ (expression_seen one.now ≡ expression_seen two.now) }
-{
-    match (one, two) {
-        (Expression::Ignore { name, id }, Expression::Ignore { name: n, id: i }) => {
-            name == n && id == i
-        }
-        (Expression::Index { depth }, Expression::Index { depth: d }) => depth == d,
-        (Expression::Len { depth }, Expression::Len { depth: d }) => depth == d,
-        (Expression::Count { name, depth }, Expression::Count { name: n, depth: d }) => {
-            name == n && depth == d
-        }
-        (
-            Expression::Concat { elements, span },
-            Expression::Concat {
-                elements: es,
-                span: s,
-            },
-        ) => same_elements(elements, es) && span == s,
-        _ => false,
-    }
-}
-
 // Whether two repetitions go round alike.
 fn same_suffix<A: Allocator>(
     separator: &Between<A>,
@@ -130,59 +108,13 @@ fn same_between<A: Allocator>(one: &Between<A>, two: &Between<A>) -> bool
     }
 }
 
-fn same_elements<A: Allocator>(
-    one: &[ConcatMetaVarExprElem<A>],
-    two: &[ConcatMetaVarExprElem<A>],
-) -> bool
-    ensures { IsTrue result ↔ (elements_seen one.now ≡ elements_seen two.now) }
-{
-    one == two
-}
-
-fn same_element<A: Allocator>(
-    one: &ConcatMetaVarExprElem<A>,
-    two: &ConcatMetaVarExprElem<A>,
-) -> bool
-    ensures { IsTrue result ↔ (element_seen one.now ≡ element_seen two.now) }
-{
-    match (one, two) {
-        (ConcatMetaVarExprElem::Ident(one), ConcatMetaVarExprElem::Ident(two)) => {
-            same_ident(one, two)
-        }
-        (ConcatMetaVarExprElem::Var(one), ConcatMetaVarExprElem::Var(two)) => same_ident(one, two),
-        (ConcatMetaVarExprElem::Literal(one), ConcatMetaVarExprElem::Literal(two)) => {
-            same_literal(one, two)
-        }
-        _ => false,
-    }
-}
-
-impl<A: Allocator> PartialEq for ConcatMetaVarExprElem<A> {
-    ghost use Rattle.mbe_ops.specs.Codes.{element_eq, element_eq_laws};
-    ghost use Rattle.std.specs.Cmp.{partial_equiv_from_equiv};
-
-    ghost eq = { element_eq };
-
-    ghost laws = { partial_equiv_from_equiv element_eq_laws };
-
-    fn eq(&self, other: &ConcatMetaVarExprElem<A>) -> bool {
-        same_element(self, other)
-    }
-}
-
-impl<A: Allocator> Eq for ConcatMetaVarExprElem<A> {
-    ghost use Rattle.mbe_ops.specs.Codes.{element_eq_laws};
-
-    ghost laws = { element_eq_laws };
-}
-
-fn same_literal<A: Allocator>(one: &Literal<A>, two: &Literal<A>) -> bool
+pub(crate) fn same_literal<A: Allocator>(one: &Literal<A>, two: &Literal<A>) -> bool
     ensures { IsTrue result ↔ (literal_of one.now ≡ literal_of two.now) }
 {
     one == two
 }
 
-fn same_ident<A: Allocator>(one: &Ident<A>, two: &Ident<A>) -> bool
+pub(crate) fn same_ident<A: Allocator>(one: &Ident<A>, two: &Ident<A>) -> bool
     ensures { IsTrue result ↔ (ident_of one.now ≡ ident_of two.now) }
 {
     one == two

@@ -3,6 +3,7 @@
 
 mod copies;
 mod equal;
+pub mod expression;
 pub mod held;
 pub mod laws;
 pub mod ops;

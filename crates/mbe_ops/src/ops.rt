@@ -5,6 +5,7 @@ ghost use Rattle.std.specs.Str.{bytes_eq};
 ghost use Rattle.mbe_ops.specs.Equality.{IsSameSeparator};
 ghost use Rattle.mbe_ops.specs.Views.{separator_seen};
 
+use crate::expression::Expression;
 use crate::held::{Between, Puncts};
 use arrayvec::ArrayVec;
 use mbe_semantics::kinds::{MetaVarKind, RepeatKind};
@@ -69,41 +70,6 @@ pub fn same_chars(one: &[Punct], two: &[Punct]) -> bool
         (None, None) => true,
         _ => false,
     }
-}
-
-/// An element of `${concat(..)}`.
-#[derive(Drop)]
-#[derive_where(Debug)]
-pub enum ConcatMetaVarExprElem<A: Allocator = Global> {
-    /// Without a `$`, so it stands for itself.
-    Ident(Ident<A>),
-    /// After a `$`, so it is a variable.
-    Var(Ident<A>),
-    Literal(Literal<A>),
-}
-
-/// What is between the braces of `${..}`.
-#[derive(Drop)]
-#[derive_where(Debug)]
-pub enum Expression<A: Allocator = Global> {
-    Ignore {
-        name: Symbol<A>,
-        id: Span,
-    },
-    Index {
-        depth: usize,
-    },
-    Len {
-        depth: usize,
-    },
-    Count {
-        name: Symbol<A>,
-        depth: usize,
-    },
-    Concat {
-        elements: Vec<ConcatMetaVarExprElem<A>, A>,
-        span: Span,
-    },
 }
 
 /// A pattern or a template.

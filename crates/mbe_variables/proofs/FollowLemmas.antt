@@ -13,8 +13,8 @@ use Rattle.mbe_ops.specs.declared.ops.Separator.{Separator}
 use Rattle.mbe_ops.specs.declared.ops.Op as code
 use Rattle.mbe_ops.specs.declared.ops.Op.{Repeat, the_lemmas as op_lemmas}
 use Rattle.mbe_ops.specs.declared.ops.Op.TheOpen.{MetaTemplate-F}
-use Rattle.mbe_variables.specs.declared.following.Want.{Want}
-use Rattle.mbe_variables.specs.declared.following.Want.TheVariants as wants
+use Rattle.mbe_ops.specs.declared.expression.Want.{Want}
+use Rattle.mbe_ops.specs.declared.expression.Want.TheVariants as wants
 use Rattle.mbe_log.specs.declared.fragment.Fragment.{Fragment as Took}
 use Rattle.mbe_log.specs.declared.bindings.Binding.{Binding, Fragment, Nested, Empty, Missing, the_lemmas}
 use Rattle.mbe_semantics.specs.Syntax.Op.{Name, Op, Ops, op, no_ops, repetition, Use, used_name, uses_of, uses_of_op}
@@ -23,8 +23,9 @@ use Rattle.mbe_semantics.specs.declared.rounds.Level.{Level}
 use Rattle.mbe_semantics.specs.Writing.Rounds.{member, value_count, follow, reach, Path, level_at, value_total, totals, Extent, finite, endless, lesser, least_extent, extent_over, extent_of, extent_under}
 use Rattle.mbe_variables.specs.Lost.{lost, lost_in}
 use Rattle.mbe_variables.specs.declared.following.Lost.TheVariants.{NoValue}
-use Rattle.mbe_variables.specs.Counting.{shorter, shortest, use_seen}
+use Rattle.mbe_variables.specs.Counting.{shorter, shortest}
 use Rattle.mbe_log.specs.BindingViews.{value_seen, values_seen, fragment_seen}
+use Rattle.mbe_ops.specs.Expressions.{use_seen}
 use Rattle.mbe_ops.specs.Views.{op_of, ops_of, separator_seen}
 
 pub seen_copied : {X Y : Type 0} (f : X → Y) (r : Option (Bor X))

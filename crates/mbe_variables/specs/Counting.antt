@@ -1,9 +1,7 @@
 -- How the transcriber counts rounds: the least of what names allow, or nothing where no name reaches the level.
 use Rattle.std.specs.Prelude.{List, [], ◌∷◌, Option, Some, None}
 use Rattle.mbe_variables.specs.declared.following.Extent as counted
-use Rattle.mbe_variables.specs.declared.following.Want as wants
 use Rattle.mbe_variables.specs.declared.following.Simple as single
-use Rattle.mbe_semantics.specs.Syntax.Op.{Name, Use, for_fragment, for_number}
 use Rattle.mbe_semantics.specs.Bindings.Environment.{Value, fragment, missing}
 use Rattle.mbe_semantics.specs.Writing.Rounds.{Extent, finite, endless, lesser}
 use Rattle.mbe_log.specs.BindingViews.{fragment_seen}
@@ -11,10 +9,6 @@ use Rattle.mbe_log.specs.BindingViews.{fragment_seen}
 abbrev pub extent_seen : counted.Extent → Extent
 extent_seen (counted.TheVariants.Finite n) = finite n
 extent_seen counted.TheVariants.Endless = endless
-
-abbrev pub use_seen : wants.Want → Name → Use
-use_seen wants.TheVariants.Fragment name = for_fragment name
-use_seen wants.TheVariants.Number name = for_number name
 
 -- what a variable writes, as a value
 abbrev pub simple_value : {A : Type 0} → single.Simple A → Value

@@ -2,23 +2,25 @@
 ghost use Rattle.std.specs.Prelude.{◌≡◌, ◌≤◌, ◌^◌, ℕ, Some, None, true, false, filter_map};
 ghost use Rattle.std.specs.Prelude.{option_map, IfOk, IfErr, MatchOption};
 ghost use Rattle.std.specs.Result.{result_ok, result_err};
-ghost use Rattle.mbe_variables.specs.Counting.{shortest, shorter, extent_seen, use_seen};
+ghost use Rattle.mbe_variables.specs.Counting.{shortest, shorter, extent_seen};
 ghost use Rattle.mbe_variables.specs.Counting.{simple_value};
 ghost use Rattle.mbe_variables.specs.FaultViews.{kind_of_fault, error_of_fault};
 ghost use Rattle.mbe_variables.specs.Lost.{at, lost, simple_fault, extent_fault};
-ghost use Rattle.mbe_semantics.specs.Syntax.Op.{uses_of, uses_of_op, uses_of_elements, uses_of_expression};
+ghost use Rattle.mbe_semantics.specs.Syntax.Op.{uses_of, uses_of_op, uses_of_expression};
 ghost use Rattle.mbe_semantics.specs.Writing.Rounds as spec;
 ghost use Rattle.mbe_semantics.specs.Writing.Rounds.{follow, reach, kept, finite, level_at};
 ghost use Rattle.mbe_semantics.specs.Writing.Rounds.{rounds_of, value_total, totals};
 ghost use Rattle.mbe_semantics.specs.Writing.Substitution.{is_simple, extent_faults, index_of};
 ghost use Rattle.mbe_semantics.specs.Writing.Substitution.{rounds_in};
 ghost use Rattle.mbe_log.specs.BindingViews.{bound_by, value_seen, values_seen};
-ghost use Rattle.mbe_ops.specs.Views.{op_of, ops_of, elements_seen, expression_seen};
+ghost use Rattle.mbe_ops.specs.Expressions.{use_seen, expression_seen};
+ghost use Rattle.mbe_ops.specs.Views.{op_of, ops_of};
 
 use crate::fault::{FaultKind, WritingFault};
 use mbe_log::bindings::{Binding, Bindings};
 use mbe_log::fragment::Fragment;
-use mbe_ops::ops::{ConcatMetaVarExprElem, Expression, Op};
+use mbe_ops::expression::{Expression, Want};
+use mbe_ops::ops::Op;
 use mbe_ops::walk::{OpDelimited, OpDelimitedIter};
 use mbe_semantics::kinds::{MetaVarKind, RepeatKind};
 use mbe_semantics::rounds::Level;
@@ -43,13 +45,6 @@ pub enum Lost {
 pub enum Simple<'b, 'a, A: Allocator> {
     Fragment(&'b Fragment<'a, A>),
     Missing(MetaVarKind),
-}
-
-/// Whether a fragment is wanted of a name, or a number.
-#[derive(Clone, Copy)]
-pub(crate) enum Want {
-    Fragment,
-    Number,
 }
 
 /// How many rounds there are.
@@ -277,29 +272,10 @@ fn shortest_of_expression<A: Allocator>(
         ≡ shortest (filter_map (spec.extent_under (bound_by bindings.now) path.now)
         (uses_of_expression (expression_seen expression.now))) }
 {
-    match expression {
-        Expression::Index { .. } | Expression::Len { .. } => None,
-        Expression::Ignore { name, .. } => extent_under(bindings, path, Want::Fragment, name),
-        Expression::Count { name, .. } => extent_under(bindings, path, Want::Number, name),
-        Expression::Concat { elements, .. } => shortest_of_elements(bindings, path, elements),
-    }
-}
-
-fn shortest_of_elements<A: Allocator>(
-    bindings: &Bindings<'_, A>,
-    path: &[Level],
-    elements: &[ConcatMetaVarExprElem<A>],
-) -> Option<Extent>
-    ensures { option_map extent_seen result
-        ≡ shortest (filter_map (spec.extent_under (bound_by bindings.now) path.now)
-        (uses_of_elements (elements_seen elements.now))) }
-{
     let mut least = None;
-    for element in elements {
-        if let ConcatMetaVarExprElem::Var(variable) = element {
-            let own = extent_under(bindings, path, Want::Fragment, &variable.sym);
-            least = shorter(least, own);
-        }
+    for mention in expression.mentions() {
+        let own = extent_under(bindings, path, mention.want, mention.name);
+        least = shorter(least, own);
     }
     least
 }

@@ -6,10 +6,12 @@ ghost use Rattle.mbe_tt.specs.Trees.Tree.{none, flat_len};
 ghost use Rattle.mbe_semantics.specs.Syntax.Op.{expression};
 ghost use Rattle.mbe_parser.specs.Reader.{NotExpression};
 ghost use Rattle.mbe_semantics.specs.Syntax.Template.{expression_of, arguments_of, ignore_of, count_of, concat_of, dollar_name, depth_of, depth_after_comma, elements_of, elements_after_comma, element_before};
-ghost use Rattle.mbe_ops.specs.Views.{op_of, element_seen, expression_seen};
+ghost use Rattle.mbe_ops.specs.Expressions.{element_seen, expression_seen};
+ghost use Rattle.mbe_ops.specs.Views.{op_of};
 
 use mbe_errors::error::{ReadError, SyntaxFault};
-use mbe_ops::ops::{ConcatMetaVarExprElem, Expression, Op};
+use mbe_ops::expression::{ConcatMetaVarExprElem, Expression};
+use mbe_ops::ops::Op;
 use mbe_tt::span::Span;
 use mbe_tt::tt::{DelimiterKind, Ident, Leaf, Literal, TtElement, TtIter};
 use std::alloc::Allocator;

@@ -1,5 +1,5 @@
 -- What a pattern or a template is made of (as in rust-analyzer).
-use Rattle.std.specs.Prelude.{ℕ, Bool, true, false, ◌&&◌, List, [], ◌∷◌, ◌++◌, Option}
+use Rattle.std.specs.Prelude.{ℕ, Bool, true, false, ◌&&◌, List, [], ◌∷◌, ◌++◌, map, Option, Some, None}
 use Rattle.mbe_tt.specs.declared.span.Span.{Span}
 use Rattle.mbe_semantics.specs.declared.kinds.MetaVarKind.{MetaVarKind}
 use Rattle.mbe_semantics.specs.declared.kinds.RepeatKind.{RepeatKind}
@@ -90,20 +90,30 @@ abbrev pub used_name : Use → Name
 used_name (for_fragment name) = name
 used_name (for_number name) = name
 
--- the variables among the elements of `${concat(..)}`
-abbrev pub uses_of_elements : List Element → List Use
-uses_of_elements [] = []
-uses_of_elements (ident_element i ∷ es) = uses_of_elements es
-uses_of_elements (literal_element l ∷ es) = uses_of_elements es
-uses_of_elements (variable_element i ∷ es) = for_fragment i.sym ∷ uses_of_elements es
+-- a use in a metavariable expression, and where what the variable took is written, if it is
+pub record Mention : Type 0 where
+  pub used : Use
+  pub place : Option Span
 
--- the name of a metavariable expression, if it has one
+-- the variables among the elements of `${concat(..)}`
+abbrev pub mentions_of_elements : List Element → List Mention
+mentions_of_elements [] = []
+mentions_of_elements (ident_element i ∷ es) = mentions_of_elements es
+mentions_of_elements (literal_element l ∷ es) = mentions_of_elements es
+mentions_of_elements (variable_element i ∷ es) =
+    record { used = for_fragment i.sym; place = Some i.span } ∷ mentions_of_elements es
+
+-- the variables of a metavariable expression; `ignore` and `count` write nothing that theirs took
+abbrev pub mentions_of_expression : Expression → List Mention
+mentions_of_expression (ignore name span) = record { used = for_fragment name; place = None } ∷ []
+mentions_of_expression (count name depth) = record { used = for_number name; place = None } ∷ []
+mentions_of_expression (index depth) = []
+mentions_of_expression (len depth) = []
+mentions_of_expression (concat elements span) = mentions_of_elements elements
+
+-- their uses alone
 abbrev pub uses_of_expression : Expression → List Use
-uses_of_expression (ignore name span) = for_fragment name ∷ []
-uses_of_expression (count name depth) = for_number name ∷ []
-uses_of_expression (index depth) = []
-uses_of_expression (len depth) = []
-uses_of_expression (concat elements span) = uses_of_elements elements
+uses_of_expression e = map (λ m. m.used) (mentions_of_expression e)
 
 -- the uses of names in a template, at any depth
 abbrev mutual

@@ -17,7 +17,7 @@ ghost use Rattle.mbe_semantics.specs.Writing.Rounds.{followed};
 ghost use Rattle.mbe_semantics.specs.Writing.Substitution.{integer, total_of, is_simple};
 ghost use Rattle.mbe_semantics.specs.Writing.Substitution.{is_counted};
 ghost use Rattle.mbe_log.specs.BindingViews.{bound_by, fragment_seen};
-ghost use Rattle.mbe_ops.specs.Views.{element_seen, elements_seen};
+ghost use Rattle.mbe_ops.specs.Expressions.{element_seen, elements_seen};
 ghost use Rattle.mbe_transcriber.specs.Writing.{Wrote, IsNumber, IsConcatWritten};
 ghost use Rattle.mbe_variables.specs.Fragments.{Appends};
 ghost use Rattle.mbe_transcriber.specs.Writing.{IsJoined};
@@ -33,7 +33,7 @@ ghost use Rattle.mbe_transcriber.specs.Faults.{element_fault, expression_fault, 
 use crate::transcriber::ExpandCtx;
 use mbe_log::bindings::Bindings;
 use mbe_log::fragment::{Fragment, TokensOrigin};
-use mbe_ops::ops::ConcatMetaVarExprElem;
+use mbe_ops::expression::ConcatMetaVarExprElem;
 use mbe_semantics::kinds::{MetaVarKind, Missing};
 use mbe_semantics::rounds::Level;
 use mbe_tt::grammar::FragmentGrammar;

@@ -3,7 +3,8 @@ use Rattle.std.specs.Prelude.{is_some, option_map}
 use Rattle.mbe_tt.specs.Views.Shown.{literal_of, ident_of}
 use Rattle.mbe_semantics.specs.Writing.Rounds.{level, kept, kept_rounds, finite}
 use Rattle.mbe_semantics.specs.Writing.Substitution.{extent_faults}
-use Rattle.mbe_ops.specs.Views.{op_of, ops_of, separator_seen, elements_seen}
+use Rattle.mbe_ops.specs.Expressions.{elements_seen}
+use Rattle.mbe_ops.specs.Views.{op_of, ops_of, separator_seen}
 use Rattle.mbe_log.specs.BindingViews.{bound_by}
 use Rattle.mbe_ops.proofs.EqualityLemmas.{op_no_heavier}
 use Rattle.mbe_ops.proofs.OpViews.{view-repeat, view-var, view-subtree, view-literal, view-punct, view-ident, view-expression}

@@ -2,7 +2,7 @@ use Rattle.std.proofs.Common.{◌≡◌, map, ◌++◌}
 use Rattle.std.specs.Prelude.{option_map}
 use Rattle.mbe_tt.specs.Trees.Tree.{flat_len}
 use Rattle.mbe_semantics.specs.Syntax.Template.{elements_of}
-use Rattle.mbe_ops.specs.Views.{element_seen}
+use Rattle.mbe_ops.specs.Expressions.{element_seen}
 use Rattle.mbe_parser.proofs.parser.metavar_expr.parse_elements.Given as goal
 
 abbrev pub invariant-elements : goal.invariant-elements

@@ -3,7 +3,7 @@ use Rattle.std.specs.Prelude.{is_some, string_bytes, option_map}
 use Rattle.std.specs.Option.{option_or}
 use Rattle.mbe_variables.specs.FaultViews.{error_of_fault}
 use Rattle.mbe_transcriber.specs.Faults.{joined, first_of, element_fault}
-use Rattle.mbe_ops.specs.Views.{elements_seen}
+use Rattle.mbe_ops.specs.Expressions.{elements_seen}
 use Rattle.mbe_log.specs.BindingViews.{bound_by}
 use Rattle.mbe_transcriber.proofs.JoinLemmas.{Joining}
 use Rattle.mbe_transcriber.proofs.transcriber.expressions.joined_text.Given as goal

@@ -1,6 +1,0 @@
-use Rattle.mbe_tt.specs.Laws.Same.{same_by}
-use Rattle.mbe_ops.specs.Codes.{element_code}
-use Rattle.mbe_ops.proofs.equal.ConcatMetaVarExprElemPartialEq.eq.Goals as goal
-
-pub returns : goal.returns
-returns g c = same_by element_code _ _ _ c.same_element.ensures
