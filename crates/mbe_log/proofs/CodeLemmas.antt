@@ -232,7 +232,8 @@ module _ {A : Type 0} (C : List (Chain (code.Command A))) (R : List (Chain Part)
     -- a copy, which links to what is there
     module _ (l : Chain (code.Command A)) (r : Chain Part) (live : HasEntriesOf log h)
         (at : l ≡ get_or C current.list l) (round_at : r ≡ get_or R finished.list r)
-        (link round_link : Option Part) (is : link ≡ link_to current l) (round_is : round_link ≡ link_to finished r) where
+        (link round_link : Option Part) (is : link ≡ link_to current l)
+        (round_is : round_link ≡ link_to finished r) where
       pub copy-sound : (n : ℕ) (D : List (Chain (code.Command A))) (S : List (Chain Part)) → IsSound C R n
           → D ≡ with_link C link → S ≡ with_link R round_link → IsSound D S n
       copy-sound n D S s d e =
@@ -249,7 +250,8 @@ module _ {A : Type 0} (C : List (Chain (code.Command A))) (R : List (Chain Part)
         subst (λ x. Gives (log_of C R) no_commands (first_link x) a.current) (sym is)
             (linked C R current l a.current (within-at C current l (current_within live) at) m.current),
         subst (λ x. GivesRounds (log_of C R) no_command_rounds (first_round_link x) a.finished) (sym round_is)
-            (linked_rounds C R finished r a.finished (within-at R finished r (finished_within live) round_at) m.finished),
+            (linked_rounds C R finished r a.finished (within-at R finished r (finished_within live) round_at)
+            m.finished),
       )
 
 -- the order of a log, as clients see it

@@ -8,8 +8,8 @@ ghost use Rattle.mbe_log.specs.Rows.{names_of};
 ghost use Rattle.indexmap.specs.IndexMap.{index_map_len};
 ghost use Rattle.mbe_semantics.specs.Bindings.Environment.{add_value, binding_total, set_value};
 ghost use Rattle.mbe_semantics.specs.Bindings.Environment.{value_of};
-ghost use Rattle.mbe_semantics.specs.Bindings.Account.{add_round_in, filled, grown_in};
-ghost use Rattle.mbe_log.specs.Growing.{grown_value};
+ghost use Rattle.mbe_semantics.specs.Bindings.Account.{add_round_in, filled};
+ghost use Rattle.mbe_log.specs.Growing.{grown, grown_value};
 ghost use Rattle.mbe_log.specs.BindingViews.{all_values, bound_by, value_seen};
 
 use crate::counting::binding_count;
@@ -200,8 +200,7 @@ impl<'a, A: Allocator + Copy> Bindings<'a, A> {
         value: Binding<'a, A>,
     ) -> Result<(), AllocError>
         ensures { OnOk result (bound_by self.new
-            ≡ grown_in number (bound_by self.old) name.now (value_seen value.entry)
-            (value_of (bound_by self.old) name.now)) }
+            ≡ grown number (bound_by self.old) name.now (value_seen value.entry)) }
     {
         if self.is_at(index, name)
             && let Some(found) = self.inner.get_index_mut(index)
@@ -221,8 +220,7 @@ impl<'a, A: Allocator + Copy> Bindings<'a, A> {
         value: Binding<'a, A>,
     ) -> Result<(), AllocError>
         ensures { OnOk result (bound_by self.new
-            ≡ grown_in number (bound_by self.old) name.now (value_seen value.entry)
-            (value_of (bound_by self.old) name.now)) }
+            ≡ grown number (bound_by self.old) name.now (value_seen value.entry)) }
     {
         match self.inner.get_mut(name) {
             Some(found) => {

@@ -28,6 +28,7 @@ ghost use Rattle.mbe_semantics.specs.Bindings.Account.{add_round_in, run_command
 ghost use Rattle.mbe_semantics.specs.Bindings.Account.{no_command_rounds, command_round, PartGives};
 ghost use Rattle.mbe_semantics.specs.Bindings.Account.{PartGivesRounds, Command as Written};
 ghost use Rattle.mbe_semantics.specs.Bindings.Account.{HasOneListMore};
+ghost use Rattle.mbe_semantics.specs.Bindings.Environment.{fragment};
 ghost use Rattle.mbe_log.specs.Shared.{IsGiven, IsChanged, IsAtEnd, WritesOne, WritesRound};
 ghost use Rattle.mbe_log.specs.Shared.{current_len, finished_len, IsPlain, IsEmptied};
 ghost use Rattle.mbe_log.specs.BindingViews.{bound_by};
@@ -36,6 +37,7 @@ ghost use Rattle.mbe_log.specs.Entries.{entry_seen, log_of};
 ghost use Rattle.mbe_log.specs.Sound.{GivesCommand, IsPartGrounded, IsCommandGrounded};
 ghost use Rattle.mbe_log.specs.Sound.{AreRoundsGrounded};
 ghost use Rattle.mbe_log.specs.Building.{BindsRound};
+ghost use Rattle.mbe_log.specs.Growing.{grown};
 ghost use Rattle.mbe_log.specs.Rows.{entry_name, entry_row, entry_rows, names_of, BindsThat, BindApart};
 ghost use Rattle.mbe_log.specs.BindingViews.{fragment_seen};
 
@@ -485,6 +487,23 @@ fn bind_those_from<A: Allocator>(
     true
 }
 
+// A copy of the fragment is one value more of the name's list, most likely the one at this index.
+#[inline(always)]
+fn grow_copy<'a, A: Allocator + Copy>(
+    alloc: A,
+    number: usize,
+    index: usize,
+    name: &Symbol<A>,
+    value: &Fragment<'a, A>,
+    bindings: &mut Bindings<'a, A>,
+) -> Result<(), AllocError>
+    ensures { OnOk result (bound_by bindings.new
+        ≡ grown number (bound_by bindings.old) name.now (fragment (fragment_seen value.now))) }
+{
+    let copy = Binding::Fragment(value.try_clone()?);
+    bindings.grow_at(alloc, number, index, name, copy)
+}
+
 // What the command binds is one value more of its name's list, most likely the one at this index. Nested ones pass by.
 fn grow_own<'a, A: Allocator + Copy>(
     alloc: A,
@@ -498,13 +517,7 @@ fn grow_own<'a, A: Allocator + Copy>(
 {
     match command {
         Command::Fragment(name, fragment) => {
-            bindings.grow_at(
-                alloc,
-                number,
-                index,
-                name,
-                Binding::Fragment(fragment.try_clone()?),
-            )
+            grow_copy(alloc, number, index, name, fragment, bindings)
         }
         Command::Optional(name) => bindings.grow_at(
             alloc,
@@ -673,34 +686,15 @@ fn bind_round<'a, A: Allocator + Copy>(
 {
     // Most rounds bind one variable, which needs no map of its own.
     if let Some(Command::Fragment(name, fragment)) = only(commands, part) {
-        bindings.grow_at(
-            alloc,
-            number,
-            start,
-            name,
-            Binding::Fragment(fragment.try_clone()?),
-        )?;
+        grow_copy(alloc, number, start, name, fragment, bindings)?;
         return Ok(());
     }
     // Many bind two, each by its own name.
     if let Some((Command::Fragment(name, one), Command::Fragment(other, two))) = two(commands, part)
         && name != other
     {
-        bindings.grow_at(
-            alloc,
-            number,
-            start,
-            name,
-            Binding::Fragment(one.try_clone()?),
-        )?;
-        let after = start.saturating_add(1);
-        bindings.grow_at(
-            alloc,
-            number,
-            after,
-            other,
-            Binding::Fragment(two.try_clone()?),
-        )?;
+        grow_copy(alloc, number, start, name, one, bindings)?;
+        grow_copy(alloc, number, start.saturating_add(1), other, two, bindings)?;
         return Ok(());
     }
     // Most rounds bind the names of the one before, in their order.

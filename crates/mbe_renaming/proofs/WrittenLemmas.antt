@@ -2,10 +2,10 @@
 use Rattle.std.proofs.Common.{◌≡◌, ℕ, ◌<◌, List, [], ◌∷◌, ◌++◌, length, map, refl, ap, sym, ◌∙◌, append_assoc, append-nil, arith}
 use Rattle.std.proofs.lemmas.Bool.{lt-ltb}
 use Rattle.mbe_tt.proofs.Buffers.Built.{length-put}
-use Rattle.mbe_tt.proofs.Buffers.Grown.{put-none}
+use Rattle.mbe_tt.proofs.Buffers.Grown.{put-none, put_one}
 use Rattle.mbe_tt.specs.Buffers.Building.{Levels, put}
 use Rattle.mbe_tt.specs.Trees.Top.{Top}
-use Rattle.mbe_tt.specs.Trees.Tree.{Forest, Tree, Leaf_tree, Group_tree, none, leaf, group, tree, append, one_leaf}
+use Rattle.mbe_tt.specs.Trees.Tree.{Forest, Leaf_tree, Group_tree, none, leaf, group, one_leaf}
 use Rattle.mbe_tt.specs.declared.tt.Delimiter.{Delimiter}
 use Rattle.mbe_renaming.specs.declared.sites.Site.{Site}
 use Rattle.mbe_renaming.specs.declared.naming.Doubt.{Doubt}
@@ -16,16 +16,6 @@ use Rattle.mbe_renaming.specs.Renaming.{renamed_leaf, renamed, closed_inside, wr
 use Rattle.mbe_renaming.specs.Shown.{step_of, naming_of}
 use Rattle.mbe_renaming.specs.Sites.{start, after_leaf, after_group, inside_group}
 use Rattle.mbe_renaming.specs.Steps.{Step, closing, leaf_role, steps}
-
-after_one : (f : Forest) (t : Tree) (h : Forest) → append (append f (tree t none)) h ≡ append f (tree t h)
-after_one none (Leaf_tree l) h = refl
-after_one none (Group_tree d inside) h = refl
-after_one (leaf k rest) t h = ap (leaf k) (after_one rest t h)
-after_one (group d inside rest) t h = ap (group d inside) (after_one rest t h)
-
-put_one : (t : Tree) (h : Forest) (b : Levels) → put h (put (tree t none) b) ≡ put (tree t h) b
-put_one t h [] = refl
-put_one t h (g ∷ outer) = ap (λ (k : Forest). let x : Delimiter × Forest = (g.0, k) in x ∷ outer) (after_one g.1 t h)
 
 -- a group that is opened among others is closed
 closes : (d : Delimiter) (inside : Forest) (b : Levels) → 0 < length b

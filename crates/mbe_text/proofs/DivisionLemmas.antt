@@ -173,6 +173,16 @@ levels_last : (dialect : Dialect) (file total m : ℕ) (b : Levels) (cs : List �
 levels_last dialect file total zero b cs e = refl
 levels_last dialect file total (suc m) b cs e = rw (e, levels_of) refl
 
+-- what a call took that was asked for the same
+taken_there : {dialect dialect' : Dialect} {file file' total total' : ℕ} (cs rest : List ℕ) (t : Token)
+    → dialect' ≡ dialect → file' ≡ file → total' ≡ total
+    → (next : IsNext file' total' (next_token dialect' total' cs) (Ok (Some t)) rest)
+    → (next_token dialect total cs ≡ Ok (Some next.0)) × (token_item t ≡ item_taken file total next.0)
+taken_there {dialect} {dialect'} {file} {file'} {total} {total'} cs rest t same f n next = (
+  asked cs same n ∙ next.1,
+  next.2 ∙ (ap (λ (k : ℕ). item_taken k total' next.0) f ∙ ap (λ (k : ℕ). item_taken file k next.0) n),
+)
+
 -- a token, which was added
 pub reached_more : (dialect : Dialect) (file : ℕ) (text left left' : List ℕ) (b c : Levels) (dialect' : Dialect)
     (file' total' : ℕ) (t : Token)
@@ -184,11 +194,9 @@ pub reached_more : (dialect : Dialect) (file : ℕ) (text left left' : List ℕ)
 reached_more dialect file text left left' b c dialect' file' total' t p same f n next shorter adds =
     let total = length text in
     let taken : Taken = next.0 in
-    let is : next_token dialect total (chars left) ≡ Ok (Some taken) =
-    asked (chars left) same n ∙ next.1 in
-    let item : token_item t ≡ item_taken file total taken =
-    next.2 ∙ (ap (λ (k : ℕ). item_taken k total' taken) f ∙ ap (λ (k : ℕ). item_taken file k taken) n) in
-    let after : after_item (item_taken file total taken) b ≡ Some c = ap (λ (x : Item). after_item x b) (sym item)
+    let there = taken_there (chars left) (chars left') t same f n next in
+    let after : after_item (item_taken file total taken) b ≡ Some c =
+    ap (λ (x : Item). after_item x b) (sym there.1)
     ∙ added (token_item t) b c adds in
     let fits = p.fits in
     let m : p.n ≡ suc (p.n - 1) = omega (arith, fits, shorter) in
@@ -196,7 +204,7 @@ reached_more dialect file text left left' b c dialect' file' total' t p same f n
       n = p.n - 1;
       fits = omega (arith, fits, shorter);
       same = p.same ∙ (ap (λ (k : ℕ). levels_of dialect file total k b (chars left)) m
-          ∙ (levels_step dialect file total (p.n - 1) b c (chars left) taken is after
+          ∙ (levels_step dialect file total (p.n - 1) b c (chars left) taken there.0 after
           ∙ ap (λ (l : List ℕ). levels_of dialect file total (p.n - 1) c l) (sym next.3)));
     }
 
@@ -214,19 +222,17 @@ pub reached_astray : (dialect : Dialect) (file : ℕ) (text left left' : List �
 reached_astray dialect file text left left' b dialect' file' total' t p same f n next shorter astray =
     let total = length text in
     let taken : Taken = next.0 in
-    let is : next_token dialect total (chars left) ≡ Ok (Some taken) =
-    asked (chars left) same n ∙ next.1 in
-    let item : token_item t ≡ item_taken file total taken =
-    next.2 ∙ (ap (λ (k : ℕ). item_taken k total' taken) f ∙ ap (λ (k : ℕ). item_taken file k taken) n) in
-    let after : after_item (item_taken file total taken) b ≡ None = ap (λ (x : Item). after_item x b) (sym item)
+    let there = taken_there (chars left) (chars left') t same f n next in
+    let after : after_item (item_taken file total taken) b ≡ None =
+    ap (λ (x : Item). after_item x b) (sym there.1)
     ∙ refused (token_item t) b astray in
     let fits = p.fits in
     let m : p.n ≡ suc (p.n - 1) = omega (arith, fits, shorter) in
     let start : (item_span (token_item t)).start ≡ offset total taken.from =
-    ap (λ (x : Item). (item_span x).start) item
+    ap (λ (x : Item). (item_span x).start) there.1
     ∙ ap (λ (s : Span). s.start) (span_of_shape (span_of_taken file total taken) taken.shape) in
     p.same ∙ (ap (λ (k : ℕ). levels_of dialect file total k b (chars left)) m
-    ∙ (levels_astray dialect file total (p.n - 1) b (chars left) taken is after ∙ ap closing_at (sym start)))
+    ∙ (levels_astray dialect file total (p.n - 1) b (chars left) taken there.0 after ∙ ap closing_at (sym start)))
 
 -- no token
 pub reached_fault : (dialect : Dialect) (file : ℕ) (text left : List ℕ) (b : Levels) (dialect' : Dialect) (total' : ℕ)

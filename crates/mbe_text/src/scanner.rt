@@ -1,7 +1,7 @@
 // The tokens of a text, one after another.
 ghost use Rattle.std.specs.Prelude.{◌≡◌, ◌↔◌, ◌<◌, ◌≤◌, ◌+◌, ◌^◌, length, IsSome, IfSome, IfNone};
 ghost use Rattle.std.specs.Prelude.{ℕ, true, List, [], ◌++◌, ◌∷◌, IfOk, IfErr};
-ghost use Rattle.std.specs.Prelude.{encode_utf8, slice_range, chars, drop, Some, None, Ok, Err, MatchOption, MatchResult, false, ◌==◌, ◌&&◌, IsTrue, is_some, unwrap_or};
+ghost use Rattle.std.specs.Prelude.{encode_utf8, slice_range, chars, drop, Some, None, Ok, Err, MatchOption, MatchResult, false, ◌==◌, is_some, unwrap_or};
 ghost use Rattle.std.specs.Str.{IsUtf8};
 ghost use Rattle.mbe_tt.specs.Trees.Literals.{opening, closing};
 ghost use Rattle.mbe_text.specs.Ends.{IsRest, IsEnd, Begins};
@@ -12,8 +12,8 @@ ghost use Rattle.mbe_text.specs.Dialect as dialects;
 ghost use Rattle.mbe_text.specs.Division.{IsNext, next_token};
 ghost use Rattle.mbe_text.specs.Signs as signs;
 ghost use Rattle.mbe_text.specs.Shapes.{Gives, shape_of};
-ghost use Rattle.mbe_text.specs.Blanks.{PassesBlock, begins_comment, blank};
-ghost use Rattle.mbe_text.specs.Trivia.{PassesBlanks, after_head, is_doc, past_mark, past_shebang};
+ghost use Rattle.mbe_text.specs.Blanks.{begins_comment, blank};
+ghost use Rattle.mbe_text.specs.Trivia.{after_head};
 ghost use Rattle.mbe_text.specs.Faults.{fault_at};
 ghost use Rattle.mbe_text.specs.declared.dialect.Dialect.TheVariants.{Sample};
 ghost use Rattle.mbe_text.specs.Words as words;
@@ -21,14 +21,16 @@ ghost use Rattle.mbe_text.specs.Words.{read_identifier};
 ghost use Rattle.mbe_text.specs.Signs.{read_sign};
 ghost use Rattle.mbe_text.specs.declared.wrong.Wrong.TheVariants as wrong;
 ghost use Rattle.mbe_text.specs.Literals as literals;
-ghost use Rattle.mbe_text.specs.declared.characters.Class.TheVariants.{InLine, Decimal};
+ghost use Rattle.mbe_text.specs.declared.characters.Class.TheVariants.{Decimal};
 ghost use Rattle.mbe_text.specs.Tokens.{bytes_of, token_item, item_text, lexeme_text};
+
+mod trivia;
 
 use crate::characters::{
     Class, before, begins, begins_with, is_at, offset, past, past_front, past_one, split_first,
 };
 use crate::dialect::Dialect;
-use crate::rust::{begins_doc, read_rust};
+use crate::rust::read_rust;
 use crate::wrong::Wrong;
 use mbe_tt::span::{Edition, Span, SyntaxContext};
 use mbe_tt::tt::{DelimiterKind, IdentIsRaw, LitKind, Spacing};
@@ -311,49 +313,6 @@ impl<'t> Scanner<'t> {
         self.rest = past(self.rest, class);
     }
 
-    // Whether a comment is here that is a token.
-    #[inline(always)]
-    fn is_at_doc(&self) -> bool
-        ensures { result ≡ is_doc self.now.dialect (chars self.now.rest.now) }
-    {
-        match self.dialect {
-            Dialect::Sample => false,
-            Dialect::Rust(_) => begins_doc(self.rest),
-        }
-    }
-
-    #[inline(always)]
-    fn is_blank(&self, char: char) -> bool
-        ensures { result ≡ characters.has (blank self.now.dialect) char }
-    {
-        self.dialect.blank().has(char)
-    }
-
-    // Passes white space and comments.
-    #[inline(always)]
-    fn trivia(&mut self) -> Result<(), LexFault>
-        ensures on { GoesOn self.old self.new }
-        ensures exact { PassesBlanks self.old.dialect self.old.total (chars self.old.rest.now)
-            result (chars self.new.rest.now) }
-        ensures within { IfErr result (λ fault. fault.offset ≤ self.old.total) }
-    {
-        self.blanks();
-        if is_at(self.rest, '/') {
-            return self.comments();
-        }
-        Ok(())
-    }
-
-    // Passes white space.
-    #[inline(always)]
-    fn blanks(&mut self)
-        ensures on { GoesOn self.old self.new }
-        ensures exact { chars self.new.rest.now
-            ≡ characters.past (blank self.old.dialect) (chars self.old.rest.now) }
-    {
-        self.rest = self.after_blanks();
-    }
-
     // What is left after white space.
     #[inline(always)]
     fn after_blanks(&self) -> &'t str
@@ -365,86 +324,6 @@ impl<'t> Scanner<'t> {
             Dialect::Sample => past(self.rest, Class::Blank),
             Dialect::Rust(_) => past(self.rest, Class::Space),
         }
-    }
-
-    // Passes comments, and white space before, between and after them.
-    #[inline(never)]
-    fn comments(&mut self) -> Result<(), LexFault>
-        ensures on { GoesOn self.old self.new }
-        ensures exact { PassesBlanks self.old.dialect self.old.total (chars self.old.rest.now)
-            result (chars self.new.rest.now) }
-        ensures within { IfErr result (λ fault. fault.offset ≤ self.old.total) }
-    {
-        'parts: loop {
-            let Some((char, after)) = split_first(self.rest) else {
-                return Ok(());
-            };
-            if self.is_blank(char) {
-                self.rest = after;
-            } else if char != '/' {
-                return Ok(());
-            } else if self.is_at_doc() {
-                return Ok(());
-            } else if begins_with(after, "/") {
-                self.line_comment();
-            } else if begins_with(after, "*") {
-                self.block_comment()?;
-            } else {
-                return Ok(());
-            }
-        }
-    }
-
-    // Passes the two characters that begin a comment, and what is left of the line.
-    fn line_comment(&mut self)
-        ensures on { GoesOn self.old self.new }
-        ensures past { Advances self.old self.new }
-        ensures exact { chars self.new.rest.now
-            ≡ characters.past InLine (drop 2 (chars self.old.rest.now)) }
-    {
-        self.bump();
-        self.bump();
-        self.pass(Class::InLine);
-    }
-
-    // Passes a block comment, with those inside it.
-    fn block_comment(&mut self) -> Result<(), LexFault>
-        ensures on { GoesOn self.old self.new }
-        ensures past { Advances self.old self.new }
-        ensures exact { PassesBlock self.old.total (chars self.old.rest.now)
-            result (chars self.new.rest.now) }
-        ensures within { IfErr result (λ fault. fault.offset ≤ self.old.total) }
-    {
-        let start = self.offset();
-        self.bump();
-        self.bump();
-        let mut depth = 1u32;
-        'chars: while let Some(char) = self.bump() {
-            if self.is_second(char, '/', "*") {
-                self.bump();
-                depth = depth.saturating_add(1);
-            } else if self.is_second(char, '*', "/") {
-                self.bump();
-                depth = depth.saturating_sub(1);
-                if depth == 0 {
-                    return Ok(());
-                }
-            }
-        }
-        Err(LexFault {
-            offset: start,
-            wrong: Wrong::OpenComment,
-        })
-    }
-
-    // Whether the character that was passed is this first one, and the second is here.
-    fn is_second(&self, passed: char, first: char, second: &str) -> bool
-        requires { IsTrue (characters.are_ascii second.now) }
-        ensures exact { result
-            ≡ (passed == first && characters.begins_with second.now (chars self.now.rest.now)) }
-        ensures some { IsTrue result → length second.now ≤ length self.now.rest.now }
-    {
-        passed == first && begins_with(self.rest, second)
     }
 
     // Passes an identifier without a `r#`, whose first character is here.
@@ -876,52 +755,6 @@ impl<'t> Scanner<'t> {
                 wrong: fault.wrong,
             }),
             None => self.sign(),
-        }
-    }
-
-    // Passes what may stand before the first token of a file.
-    fn head(&mut self)
-        ensures on { GoesOn self.old self.new }
-        ensures sample { self.old.dialect ≡ Sample → self.new.rest.now ≡ self.old.rest.now }
-        ensures exact { chars self.new.rest.now
-            ≡ after_head self.old.dialect self.old.total (chars self.old.rest.now) }
-    {
-        match self.dialect {
-            Dialect::Sample => {}
-            Dialect::Rust(_) => {
-                self.mark();
-                self.shebang();
-            }
-        }
-    }
-
-    // Passes a byte order mark.
-    fn mark(&mut self)
-        ensures on { GoesOn self.old self.new }
-        ensures exact { chars self.new.rest.now ≡ past_mark (chars self.old.rest.now) }
-    {
-        if let Some(('\u{feff}', rest)) = split_first(self.rest) {
-            self.rest = rest;
-        }
-    }
-
-    // Passes a line that begins with `#!`, unless an attribute's `[` is after white space and comments.
-    fn shebang(&mut self)
-        ensures on { GoesOn self.old self.new }
-        ensures exact { chars self.new.rest.now
-            ≡ past_shebang self.old.dialect self.old.total (chars self.old.rest.now) }
-    {
-        let text = self.rest;
-        if !begins_with(text, "#!") {
-            return;
-        }
-        self.bump();
-        self.bump();
-        let line = self.rest;
-        if self.trivia().is_ok() && begins_with(self.rest, "[") {
-            self.rest = text;
-        } else {
-            self.rest = past(line, Class::InLine);
         }
     }
 

@@ -222,6 +222,15 @@ find_first (item is x) i os p rest up n h l =
     (omega (arith, a), r.1 ∙ find_rest h.0 rest up n l)
 
 -- from the outside in
+-- a dot with that many dots after it, and those after its frames
+find_further : (pat : Ops) (up : List Frame) (n after : ℕ) (found : Beginning)
+    → find pat [] (n + after + dots_after up) ≡ found → n + after + dots_after up ≤ dots pat
+    → (find pat [] (n + (after + dots_after up)) ≡ found) × (n + (after + dots_after up) ≤ dots pat)
+find_further pat up n after found e l = (
+  ap (find pat []) (let same : n + (after + dots_after up) ≡ n + after + dots_after up = omega arith in same) ∙ e,
+  omega (arith, l),
+)
+
 find_frames : (i : Input) (pat : Ops) (up : List Frame) (n : ℕ) → Within i pat up → 0 < n → n ≤ dots (body_of pat up) →
     (find pat [] (n + dots_after up) ≡ find (body_of pat up) (blank up) n) × (n + dots_after up ≤ dots pat)
 find_frames i pat [] n h p l = (ap (find pat []) (let e : n + 0 ≡ n = omega arith in e), omega (arith, l))
@@ -234,11 +243,8 @@ find_frames i pat (inside d b rest js ∷ up) n h p l =
     let r : (find pat [] (n + dots rest + dots_after up) ≡ find (body_of pat up) (blank up) (n + dots rest))
     × (n + dots rest + dots_after up ≤ dots pat) =
     find_frames i pat up (n + dots rest) h.0 (omega (arith, p)) (omega (arith, a, m)) in
-    let c = r.1 in (
-      ap (find pat []) (let e : n + (dots rest + dots_after up) ≡ n + dots rest + dots_after up = omega arith in e)
-          ∙ r.0 ∙ f.1 ∙ find_in (group d b) rest (blank up) n p l,
-      omega (arith, c),
-    )
+    find_further pat up n (dots rest) (find_op (group d b) rest (blank up) n)
+    (r.0 ∙ f.1 ∙ find_in (group d b) rest (blank up) n p l) r.1
 find_frames i pat (within b s k rest js rs ∷ up) n h p l =
     let m : n + dots rest ≤ dots (op (repetition b s k) rest) = omega (arith, l) in
     let f : (dots (op (repetition b s k) rest) ≤ dots (body_of pat up))
@@ -249,11 +255,8 @@ find_frames i pat (within b s k rest js rs ∷ up) n h p l =
     let r : (find pat [] (n + dots rest + dots_after up) ≡ find (body_of pat up) (blank up) (n + dots rest))
     × (n + dots rest + dots_after up ≤ dots pat) =
     find_frames i pat up (n + dots rest) h.0 (omega (arith, p)) (omega (arith, a, m)) in
-    let c = r.1 in (
-      ap (find pat []) (let e : n + (dots rest + dots_after up) ≡ n + dots rest + dots_after up = omega arith in e)
-          ∙ r.0 ∙ f.1 ∙ find_in (repetition b s k) rest (blank up) n p l,
-      omega (arith, c),
-    )
+    find_further pat up n (dots rest) (find_op (repetition b s k) rest (blank up) n)
+    (r.0 ∙ f.1 ∙ find_in (repetition b s k) rest (blank up) n p l) r.1
 
 find_of : (i : Input) (pat : Ops) (x : Beginning) → Begins i pat x
     → (find pat [] (number_of x) ≡ dot_of x) × (number_of x ≤ dots pat)

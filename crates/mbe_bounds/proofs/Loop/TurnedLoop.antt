@@ -1,6 +1,6 @@
 -- The loop over the stack at a place, where the stack has its last on top.
 use Rattle.std.proofs.Common.{ℕ, ◌+◌, ◌≡◌, ◌<◌, ◌≤◌, List, [], ◌∷◌, ◌++◌, map, reverse, length, refl, sym, ◌∙◌, ap, subst, arith}
-use Rattle.std.proofs.lemmas.List.{reverse-append, reverse-reverse}
+use Rattle.std.proofs.lemmas.List.{length-reverse, reverse-append, reverse-reverse}
 use Rattle.mbe_semantics.specs.Syntax.Op.{Ops}
 use Rattle.mbe_semantics.specs.Readings.Input.{Input}
 use Rattle.mbe_semantics.specs.Readings.Reading.{Beginning, At}
@@ -9,21 +9,12 @@ use Rattle.mbe_semantics.specs.Matching.Outline.{Outline, erase, idle_of}
 use Rattle.mbe_semantics.specs.Matching.Dots.{dots, outline_number}
 use Rattle.mbe_bounds.specs.Bounded.TwoEach.{times}
 use Rattle.mbe_bounds.specs.Loop.Kept.{kept}
-use Rattle.mbe_bounds.proofs.Dots.Walk.{len_append}
 use Rattle.mbe_bounds.proofs.Loop.BoundedLoop.{Keeps, left_over, keeps_start, keeps_end, keeps_number, keeps_drop, keeps_take}
-
-len_reverse : {A : Type 0} (xs : List A) → length (reverse xs) ≡ length xs
-len_reverse [] = refl
-len_reverse (x ∷ xs) =
-    let a : length (reverse (x ∷ xs)) ≡ length (reverse xs ++ (x ∷ [])) = ap length (reverse-append (x ∷ []) xs) in
-    let b : length (reverse xs ++ (x ∷ [])) ≡ length (reverse xs) + 1 = len_append (reverse xs) (x ∷ []) in
-    let c : length (reverse xs) ≡ length xs = len_reverse xs in
-    omega (arith, a, b, c)
 
 -- what a stack leaves, seen from either end
 over_reverse : (d : ℕ) (seen : List ℕ) (stack : List Outline)
     → left_over d seen (reverse stack) ≡ left_over d seen stack
-over_reverse d seen stack = let e : length (reverse stack) ≡ length stack = len_reverse stack in omega (arith, e)
+over_reverse d seen stack = let e : length (reverse stack) ≡ length stack = length-reverse stack in omega (arith, e)
 
 module _ (i : Input) (pat : Ops) (q : ℕ) where
   abbrev pub KeepsTo : List Outline → List Outline → List ℕ → List Outline → Type 0

@@ -1,5 +1,6 @@
 -- A number that falls at each idle step.
-use Rattle.std.proofs.Common.{ℕ, zero, suc, ◌+◌, ◌-◌, ◌≡◌, ◌<◌, inl, inr, Option, Some, None, Bool, true, false, ◌&&◌, ◌||◌, List, [], ◌∷◌, ◌++◌, refl, sym, ◌∙◌, ap, subst, arith}
+use Rattle.std.proofs.Common.{ℕ, zero, suc, ◌+◌, ◌-◌, ◌≡◌, ◌<◌, inl, inr, Option, Some, None, Bool, true, false, ◌&&◌, List, [], ◌∷◌, ◌++◌, refl, sym, ◌∙◌, ap, subst, arith}
+use Rattle.std.proofs.lemmas.Bool.{or_parts}
 use Rattle.mbe_semantics.specs.declared.kinds.RepeatKind.{RepeatKind}
 use Rattle.mbe_semantics.specs.declared.kinds.RepeatKind.TheVariants.{ZeroOrMore, OneOrMore, ZeroOrOne}
 use Rattle.mbe_semantics.specs.Syntax.Op.{Separator, Op, token, group, variable, repetition, expression, Ops, no_ops, op}
@@ -17,14 +18,6 @@ use Rattle.std.specs.List.{flat_map}
 use Rattle.mbe_laws.proofs.Matching.Forest.{tree-steady}
 use Rattle.mbe_laws.proofs.Matching.Sound.{idle-sound}
 
-or_left : (a b : Bool) → (a || b) ≡ false → a ≡ false
-or_left true b e = e
-or_left false b e = refl
-
-or_right : (a b : Bool) → (a || b) ≡ false → b ≡ false
-or_right true b e = cc
-or_right false b e = e
-
 and_false : (a b : Bool) → (a && b) ≡ false → a ≡ true → b ≡ false
 and_false true b e f = e
 and_false false b e f = cc
@@ -33,27 +26,28 @@ checked_rest : (is : Items) (i : Input) (os : Ops) (p : ℕ) (rest : Ops) → Re
     → Checked rest
 checked_rest no_items i os p rest h c = subst Checked h c
 checked_rest (item is x) i os p rest h c =
-    or_right (is_refused_op h.0) (is_refused rest) (checked_rest is i os p (op h.0 rest) h.1 c)
+    (or_parts (is_refused_op h.0) (is_refused rest) (checked_rest is i os p (op h.0 rest) h.1 c)).1
 
 checked_op : (is : Items) (i : Input) (os : Ops) (p : ℕ) (o : Op) (rest : Ops) → ReadsFirst is i os p (op o rest)
     → Checked os → is_refused_op o ≡ false
-checked_op is i os p o rest h c = or_left (is_refused_op o) (is_refused rest) (checked_rest is i os p (op o rest) h c)
+checked_op is i os p o rest h c =
+    (or_parts (is_refused_op o) (is_refused rest) (checked_rest is i os p (op o rest) h c)).0
 
 checked_body : (i : Input) (pat : Ops) (up : List Frame) → Within i pat up → Checked pat → Checked (body_of pat up)
 checked_body i pat [] h c = c
 checked_body i pat (inside d b rest js ∷ up) h c =
     checked_op js i (body_of pat up) (start_of up) (group d b) rest h.1 (checked_body i pat up h.0 c)
 checked_body i pat (within b s k rest js rs ∷ up) h c =
-    or_right (is_unseparated s && is_nullable b) (is_refused b)
-    (checked_op js i (body_of pat up) (start_of up) (repetition b s k) rest h.1 (checked_body i pat up h.0 c))
+    (or_parts (is_unseparated s && is_nullable b) (is_refused b)
+    (checked_op js i (body_of pat up) (start_of up) (repetition b s k) rest h.1 (checked_body i pat up h.0 c))).1
 
 checked_frame : (i : Input) (pat : Ops) (b : Ops) (s : Option Separator) (k : RepeatKind) (rest : Ops) (js : Items)
     (rs : Rounds) (up : List Frame) →
     Within i pat (within b s k rest js rs ∷ up) → Checked pat → s ≡ None → is_nullable b ≡ false
 checked_frame i pat b s k rest js rs up h c e =
     and_false (is_unseparated s) (is_nullable b)
-    (or_left (is_unseparated s && is_nullable b) (is_refused b)
-    (checked_op js i (body_of pat up) (start_of up) (repetition b s k) rest h.1 (checked_body i pat up h.0 c)))
+    (or_parts (is_unseparated s && is_nullable b) (is_refused b)
+    (checked_op js i (body_of pat up) (start_of up) (repetition b s k) rest h.1 (checked_body i pat up h.0 c))).0
     (ap is_unseparated e)
 
 null_and : (a b : Bool) → a ≡ true → b ≡ true → (a && b) ≡ true

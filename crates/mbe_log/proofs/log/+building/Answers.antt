@@ -1,6 +1,5 @@
 use Rattle.std.proofs.Common.{◌≡◌, ◌<◌, ◌≤◌, ◌-◌, ◌∙◌, [], ◌∷◌, length, take, refl, ap, sym, subst, arith, rules}
-use Rattle.mbe_semantics.specs.Bindings.Account.{Command, no_commands, no_command_rounds, add_round_in, grown_in, run}
-use Rattle.mbe_semantics.specs.Bindings.Environment.{fragment, value_of}
+use Rattle.mbe_semantics.specs.Bindings.Account.{Command, no_commands, no_command_rounds, add_round_in, run}
 use Rattle.mbe_log.specs.Chain.{Flat}
 use Rattle.mbe_log.specs.declared.log.Command as code
 use Rattle.mbe_log.proofs.BindingLemmas.{seen-fragment, seen-empty, seen-missing}
@@ -149,13 +148,11 @@ bind_round-only-requires g t c = is_within c.args.commands.now c.args.rounds.now
 pub bind_round-returns-in-Some-Fragment : goal.bind_round-returns-in-Some-Fragment
 bind_round-returns-in-Some-Fragment g t c =
     bound_alone c.args.commands.now c.args.rounds.now c.args.part c.args.number (bound_by c.args.bindings.now)
-    (bound_by c.grow_at.new.self)
+    (bound_by c.grow_copy.new.bindings)
     c.in-Some-Fragment.name c.in-Some-Fragment.fragment
     (subst (λ e. Flat c.args.commands.now c.args.part (e ∷ [])) c.in-Some-Fragment.field-0-is
     c.in-Some-Fragment.ensures)
-    (c.in_ok-grow_at.ensures ∙ ap (λ v. grown_in c.args.number (bound_by c.args.bindings.now) c.in-Some-Fragment.name v
-    (value_of (bound_by c.args.bindings.now) c.in-Some-Fragment.name))
-    (seen-fragment _ ∙ ap fragment c.in_ok-try_clone.ensures))
+    c.in_ok-grow_copy.ensures
 
 pub bind_round-unlinked-requires : goal.bind_round-unlinked-requires
 bind_round-unlinked-requires g t c = is_within c.args.commands.now c.args.rounds.now c.requires.grounded.1
@@ -167,15 +164,12 @@ pub bind_round-returns : goal.bind_round-returns
 bind_round-returns g t c =
     let here = c.in-Some-Fragment-Fragment in
     bound_pair c.args.commands.now c.args.rounds.now c.args.part c.args.number (bound_by c.args.bindings.now)
-    (bound_by c.grow_at-2.new.self) (bound_by c.grow_at-3.new.self) here.name here.other here.one here.two
+    (bound_by c.grow_copy-2.new.bindings) (bound_by c.grow_copy-3.new.bindings) here.name here.other here.one here.two
     (subst (λ e. Flat c.args.commands.now c.args.part (e ∷ (code.TheVariants.Fragment here.other here.two ∷ [])))
     here.field-0-0-is
     (subst (λ e. Flat c.args.commands.now c.args.part (here.field-0-0.now ∷ (e ∷ []))) here.field-0-1-is here.ensures))
     (is_false _ (sym c.ne.ensures ∙ c.if-ne.true))
-    (c.in_ok-grow_at-2.ensures ∙ ap (λ v. grown_in c.args.number (bound_by c.args.bindings.now) here.name v
-    (value_of (bound_by c.args.bindings.now) here.name)) (seen-fragment _ ∙ ap fragment c.in_ok-try_clone-2.ensures))
-    (c.in_ok-grow_at-3.ensures ∙ ap (λ v. grown_in c.args.number (bound_by c.grow_at-2.new.self) here.other v
-    (value_of (bound_by c.grow_at-2.new.self) here.other)) (seen-fragment _ ∙ ap fragment c.in_ok-try_clone-3.ensures))
+    c.in_ok-grow_copy-2.ensures c.in_ok-grow_copy-3.ensures
 
 pub bind_round-returns-2 : goal.bind_round-returns-2
 bind_round-returns-2 g t c =

@@ -1,18 +1,24 @@
-use Rattle.std.proofs.Common.{rules, arith, ◌≡◌, ◌∙◌, chars, drop, ℕ, ◌+◌, ◌-◌, ◌<◌, suc, length, sym, ap}
+use Rattle.std.proofs.Common.{rules, arith, ◌≡◌, ◌∙◌, chars, drop, get_or, ℕ, ◌+◌, ◌-◌, ◌<◌, suc, length, sym, ap}
 use Rattle.std.proofs.lemmas.Iterator.{YieldsList-from_chars}
 use Rattle.std.proofs.lemmas.Iterator.Consumers.{YieldsList-turn, YieldsList-end}
 use Rattle.std.proofs.lemmas.List.{length_push}
 use Rattle.mbe_rust_text.specs.Comments.{is_closed}
 use Rattle.mbe_rust_text.proofs.ClosedLemmas.{step, pushed, returned, opened, closed_early, closed_one, passed, ended, ended_open, chars_short}
 use Rattle.mbe_rust_text.proofs.comments.is_closed.Goals as goal
+use Rattle.mbe_rust_text.proofs.comments.is_closed.Goals.{In-Some}
+
+-- the character is the next one of the text
+next_char : (c : In-Some) → (length c.loop-char.yielded < length (chars c.args.text.now))
+    × (c.in-Some.char ≡ get_or (chars c.args.text.now) (length c.loop-char.yielded) c.in-Some.char)
+next_char c =
+    YieldsList-turn (YieldsList-from_chars c.args.text.now c.utf8.text cc) c.loop-char.yielded _
+    c.loop-char.yielded_by _ _ c.in-Some.char c.in-Some.is c.next.ensures.steps
 
 pub returns-then-char-eq13 : goal.returns-then-char-eq13
 returns-then-char-eq13 c =
     let cs = chars c.args.text.now in
     let n = length c.loop-char.yielded in
-    let all = YieldsList-from_chars c.args.text.now c.utf8.text cc in
-    let turn = YieldsList-turn all c.loop-char.yielded _ c.loop-char.yielded_by _ _ c.in-Some.char c.in-Some.is
-    c.next.ensures.steps in
+    let turn = next_char (goal.at.returns-then-char-eq13 c).In-Some in
     sym (returned c.loop-char.last c.loop-char.depth c.in-Some.char (drop (n + 1) cs) c.if-char-eq13.true)
     ∙ (sym (step c.loop-char.last c.loop-char.depth n c.in-Some.char cs turn) ∙ c.loop-char.invariant.exact)
 
@@ -20,9 +26,7 @@ pub loop-char-preserved-then-opens_comment : goal.loop-char-preserved-then-opens
 loop-char-preserved-then-opens_comment c =
     let cs = chars c.args.text.now in
     let n = length c.loop-char.yielded in
-    let all = YieldsList-from_chars c.args.text.now c.utf8.text cc in
-    let turn = YieldsList-turn all c.loop-char.yielded _ c.loop-char.yielded_by _ _ c.in-Some.char c.in-Some.is
-    c.next.ensures.steps in
+    let turn = next_char (goal.at.loop-char-preserved-then-opens_comment c).In-Some in
     let few = c.loop-char.invariant.few in
     let short = chars_short c.args.text.now c.utf8.text in
     let bound : length c.args.text.now < 18446744073709551615 = search rules in
@@ -41,9 +45,7 @@ pub returns-then-depth-eq0 : goal.returns-then-depth-eq0
 returns-then-depth-eq0 c =
     let cs = chars c.args.text.now in
     let n = length c.loop-char.yielded in
-    let all = YieldsList-from_chars c.args.text.now c.utf8.text cc in
-    let turn = YieldsList-turn all c.loop-char.yielded _ c.loop-char.yielded_by _ _ c.in-Some.char c.in-Some.is
-    c.next.ensures.steps in
+    let turn = next_char (goal.at.returns-then-depth-eq0 c).In-Some in
     sym (closed_early c.loop-char.last c.loop-char.depth c.in-Some.char (drop (n + 1) cs) c.if-char-eq13.false
     (sym c.opens_comment.ensures ∙ c.if-opens_comment.false)
     (sym c.closes_comment.ensures ∙ c.if-closes_comment.true) c.if-depth-eq0.true)
@@ -53,9 +55,7 @@ pub loop-char-preserved-then-closes_comment : goal.loop-char-preserved-then-clos
 loop-char-preserved-then-closes_comment c =
     let cs = chars c.args.text.now in
     let n = length c.loop-char.yielded in
-    let all = YieldsList-from_chars c.args.text.now c.utf8.text cc in
-    let turn = YieldsList-turn all c.loop-char.yielded _ c.loop-char.yielded_by _ _ c.in-Some.char c.in-Some.is
-    c.next.ensures.steps in
+    let turn = next_char (goal.at.loop-char-preserved-then-closes_comment c).In-Some in
     let few = c.loop-char.invariant.few in
     record {
       few = omega (arith, few, length_push c.loop-char.yielded c.in-Some.char);
@@ -70,9 +70,7 @@ pub loop-char-preserved : goal.loop-char-preserved
 loop-char-preserved c =
     let cs = chars c.args.text.now in
     let n = length c.loop-char.yielded in
-    let all = YieldsList-from_chars c.args.text.now c.utf8.text cc in
-    let turn = YieldsList-turn all c.loop-char.yielded _ c.loop-char.yielded_by _ _ c.in-Some.char c.in-Some.is
-    c.next.ensures.steps in
+    let turn = next_char (goal.at.loop-char-preserved c).In-Some in
     let few = c.loop-char.invariant.few in
     record {
       few = omega (arith, few, length_push c.loop-char.yielded c.in-Some.char);
