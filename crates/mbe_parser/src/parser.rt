@@ -516,7 +516,9 @@ fn push_variable<A: Allocator, E: Copy + Fn(SyntaxContext) -> Edition>(
         grammar.variable_at (mode_of mode) name.now id src.old ≡ Err f)) }
     ensures no_longer { flat_len src.new ≤ flat_len src.old }
 {
-    let kind = eat_fragment_kind(edition, src, mode)?;
+    let mut rest = src.fork();
+    let kind = eat_fragment_kind(edition, &mut rest, mode)?;
+    *src = rest;
     let Some(name) = name.copied() else {
         return Ok(push_long_variable(name, kind, id, ops)?);
     };
