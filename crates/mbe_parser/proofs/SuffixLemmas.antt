@@ -162,7 +162,8 @@ pub record SoFar (f : Forest) (s : Option Separator) (left : Forest) : Type 0 wh
 in_front_again : (ls : List Leaf) (l : Leaf) (o : Option Suffix)
     → option_map (in_front ls) (option_map (leaf_in_suffix l) o) ≡ option_map (in_front (ls ++ l ∷ [])) o
 in_front_again ls l None = refl
-in_front_again ls l (Some s) = ap (λ leaves. Some (record s { leaves = leaves })) (sym (append_assoc ls (l ∷ []) s.leaves))
+in_front_again ls l (Some s) =
+    ap (λ leaves. Some (record s { leaves = leaves })) (sym (append_assoc ls (l ∷ []) s.leaves))
 
 abbrev leaf_at : Tree → Option Leaf
 leaf_at (Leaf_tree l) = Some l
