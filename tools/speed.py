@@ -6,6 +6,7 @@
     python3 tools/speed.py MBEX ORIGINAL --reading [--size N]..
     python3 tools/speed.py MBEX ORIGINAL --calls [--case WORD]..
     python3 tools/speed.py MBEX ORIGINAL --optional [--size N]..
+    python3 tools/speed.py MBEX ORIGINAL --lexing [--size N]..
 
 MBEX is the program that `rt run` leaves in crates/mbex/out, ORIGINAL a program with the same face over the Rust crate. Each run
 lexes both texts, reads the definition, expands, and prints. It writes a table in Markdown: for each case and size the
@@ -28,6 +29,9 @@ which is what the run takes more than one in which no rule has the style of the 
 
 With --optional the table is of N times `$(a)?` on N times `a`: the most memory of a run in megabytes, and its seconds. A program that
 doesn't end with an answer has "none".
+
+With --lexing the table is of lexing alone: a run whose only rule takes nothing, on a text of about N bytes, less one on no text. A token is
+a flat token of the text, of which a literal is one.
 """
 import argparse
 import os
@@ -37,6 +41,7 @@ import tempfile
 import time
 
 SIZES = (2_000, 20_000, 65_535)
+LEXED_SIZES = (524_288,)
 OPTIONAL_SIZES = (10, 14, 18, 500, 1_000, 2_000, 4_000)
 
 
@@ -299,6 +304,45 @@ def optional(both, sizes):
         print("| " + " | ".join([f"{size:,}", *taken]) + " |", flush=True)
 
 
+def function(number):
+    """A function as in a source file, with names and literals of its own."""
+    head = f"pub fn f{number}(x: u32, y: &str) -> Option<u32> {{ let z = x + {number};"
+    return f'{head} if z > 10 {{ return None; }} g("a{number}", z, y) }}\n'
+
+
+# What a text is made of, again and again, each with its number.
+LEXED = {
+    "functions": function,
+    "names, each another": lambda number: f"name{number} ",
+    "words of three letters": lambda number: ("one ", "two ", "ten ")[number % 3],
+    "numbers": lambda number: f"{number} ",
+    "texts": lambda number: f'"text {number}" ',
+    "puncts": lambda number: "+ - = ; "[number % 4 * 2 :][:2],
+    "sides of groups": lambda number: "() [] {} "[number % 3 * 3 :][:3],
+}
+
+
+def lexing(both, sizes):
+    """The table of lexing alone."""
+    folder = tempfile.mkdtemp()
+
+    def run(program, text):
+        return instructions(command_of(folder, program, "attr() () => {}", text))
+
+    print("| Text | Bytes | Tokens | Instructions a token of lexing | Original's | Ratio |")
+    print("|---|---|---|---|---|---|")
+    for name, part in LEXED.items():
+        for size in sizes:
+            parts = []
+            while size > 0:
+                parts.append(part(len(parts)))
+                size -= len(parts[-1])
+            text = "".join(parts)
+            tokens = len(re.findall(r'"[^"]*"|\w+|[^\w\s]', text))
+            ours, others = ((run(it, text) - run(it, "")) / tokens for it in both)
+            print(f"| {name} | {len(text):,} | {tokens:,} | {ours:,.0f} | {others:,.0f} | {ours / others:.2f} |", flush=True)
+
+
 def is_worth_a_ratio(our, other, least):
     """Less than a hundredth of the run is no more than tokens of the style and the printed error, and less than half a megabyte is pages."""
     return min(our, other) > 0 and max(our, other) > least
@@ -360,6 +404,7 @@ def main():
     parser.add_argument("--reading", action="store_true")
     parser.add_argument("--calls", action="store_true")
     parser.add_argument("--optional", action="store_true")
+    parser.add_argument("--lexing", action="store_true")
     parser.add_argument("--phases", action="store_true")
     asked = parser.parse_args()
     both = [os.path.abspath(asked.mbex), os.path.abspath(asked.original)]
@@ -371,6 +416,9 @@ def main():
         return
     if asked.optional:
         optional(both, asked.size or OPTIONAL_SIZES)
+        return
+    if asked.lexing:
+        lexing(both, asked.size or LEXED_SIZES)
         return
     if asked.phases:
         phases(both, asked.case)
