@@ -115,9 +115,6 @@ module _ (HasEdition : SyntaxContext → Edition → Type 0) (separators : List 
       → RulesEmptyAt HasEdition separators whole (rules + k) (passed whole left + n)
   Goes whole left rules (Some x) = Unit {0}
 
-  pub goes-start : (f : Forest) → Goes f f 0 None
-  goes-start f = λ k n w. same_place f k (0 + k) n (passed f f + n) (omega arith) (omega arith) w
-
   -- one rule more was read
   pub settled-more : (whole left following : Forest) (rs : List Rule) (r : Rule) (x : Option RulesFault)
       (place : Option ℕ) (before rules : ℕ) → rules ≡ length rs → before ≡ passed whole left → Settled whole rs x

@@ -2,7 +2,7 @@
 use Rattle.std.proofs.Common.{ℕ, zero, suc, ◌+◌, ◌≡◌, ◌<◌, ◌≤◌, ◌⊎◌, inl, inr, Some, Bool, true, false, List, [], ◌∷◌, ◌++◌, map, length, reverse, refl, sym, ◌∙◌, ap, subst, arith}
 use Rattle.std.specs.Prelude.{nat_lt}
 use Rattle.std.specs.List.{filter_map}
-use Rattle.std.proofs.lemmas.List.{reverse-append, map-append}
+use Rattle.std.proofs.lemmas.List.{map-append}
 use Rattle.mbe_tt.specs.Trees.Tree.{Forest, flat_len}
 use Rattle.mbe_tt.specs.Fragments.Grammar.{Grammar, IsLawful}
 use Rattle.mbe_semantics.specs.Syntax.Op.{Ops}
@@ -29,6 +29,7 @@ use Rattle.mbe_bounds.specs.Reports.Backward as back
 use Rattle.mbe_bounds.specs.Reports.Backward.{visits, visit_number, left_in, visit_turns, held_first, held_back}
 use Rattle.mbe_bounds.proofs.Dots.Sift.{from_sift}
 use Rattle.mbe_bounds.proofs.Loop.BoundedPlaces.{same_number, erase_moves, after_alike, width_alike}
+use Rattle.mbe_bounds.proofs.Loop.TurnedPlaces.{map_reverse}
 use Rattle.mbe_bounds.proofs.Reports.EndLemmas.{from_reverse}
 use Rattle.mbe_matcher.specs.Failures.{Notes, no_notes, noted_at, ComesWith, at_start, at_next, AreNotes}
 use Rattle.mbe_matcher.specs.TwoEnds.{ends_noted, Visit, enter, leave, visits_of, key_of, left_of, kept_first, kept_back, first_moves, back_moves, kept_noted, EndsFollow, follow_start, follow_next, AreKeptNotes, KeptPassLaw}
@@ -39,13 +40,6 @@ use Rattle.mbe_matcher.proofs.TwoEnds.{head, head_some, Ends, ends_at_start, end
 length_map : {A B : Type 0} (f : A → B) (xs : List A) → length (map f xs) ≡ length xs
 length_map f [] = refl
 length_map f (x ∷ xs) = ap suc (length_map f xs)
-
-pub map_reverse : {A B : Type 0} (f : A → B) (xs : List A) → map f (reverse xs) ≡ reverse (map f xs)
-map_reverse f [] = refl
-map_reverse f (x ∷ xs) =
-    ap (map f) (reverse-append (x ∷ []) xs) ∙ map-append f (reverse xs) (x ∷ [])
-    ∙ ap (λ l. l ++ (f x ∷ [])) (map_reverse f xs)
-    ∙ sym (reverse-append (f x ∷ []) (map f xs))
 
 module _ {A B : Type 0} (h : A → B) (kids : A → List A) (key : A → ℕ) (kids' : B → List B) (key' : B → ℕ)
     (Good : A → Type 0)

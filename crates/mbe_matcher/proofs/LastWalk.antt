@@ -29,7 +29,7 @@ use Rattle.mbe_matcher.specs.Reports.{IsReportOf}
 use Rattle.mbe_matcher.specs.TwoEnds.{Visit, enter, leave, visits_of, key_of, left_of, only_first, kept_back}
 use Rattle.mbe_matcher.specs.EndsMatched.{to_enter, FailsBy, Leaves, VisitShows, IsLastStack, Enters, FirstFails, AreLasts}
 use Rattle.mbe_matcher.proofs.Keeping.{both_weaker, each_weaker, each_append, both_each, shows_keep, leads_keep, holds_keep}
-use Rattle.mbe_matcher.proofs.KeptEnds.{map_reverse}
+use Rattle.mbe_bounds.proofs.Loop.TurnedPlaces.{map_reverse}
 use Rattle.mbe_matcher.proofs.MatchEnds.{each_length}
 use Rattle.mbe_matcher.proofs.Reporting.{is_step, step_same, shown_ops, shown_bound, misfit_fails}
 use Rattle.mbe_matcher.proofs.Settling.{Last, last_of, each_none, one_step, shown_number}

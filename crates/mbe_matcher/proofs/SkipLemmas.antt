@@ -1,10 +1,9 @@
 -- Names that are skipped one after the other, and dots that are counted.
 use Rattle.std.proofs.Common.{◌≡◌, arith, length, List, [], ◌∷◌, ◌++◌, refl, sym, ap, subst, ◌∙◌}
-use Rattle.std.specs.Prelude.{⊤, Result, Ok, Err, OnOk}
 use Rattle.mbe_semantics.specs.Syntax.Op.{Name, Op, Ops, no_ops, op, names_of_op, names_of}
-use Rattle.mbe_semantics.specs.Bindings.Account.{Commands, command, Command, Account, Log, Handle, IsAccount, HasEntriesOf, skip_commands, pushed}
+use Rattle.mbe_semantics.specs.Bindings.Account.{Commands, command, Command, Account, Log, Handle, IsAccount, HasEntriesOf, skip_commands}
 use Rattle.mbe_semantics.specs.Matching.Outline.{skipped}
-use Rattle.mbe_log.specs.Shared.{IsKept, IsChanged}
+use Rattle.mbe_log.specs.Shared.{IsKept}
 use Rattle.mbe_log.proofs.ClientLemmas.{kept-on}
 use Rattle.mbe_matcher.specs.Rewriting.{IsRewritten}
 use Rattle.mbe_matcher.proofs.Keeping.{kept_not}
@@ -27,12 +26,6 @@ pub record SkipsUpTo (old new : Log) (before after : Handle) (all left : Ops) : 
 
 pub skips_none : (log : Log) (h : Handle) (all : Ops) → HasEntriesOf log h → SkipsUpTo log log h h all all
 skips_none log h all l = record { entries = l; account = λ a i. (a, i, refl); kept = kept_not log }
-
--- the ops that are left may be put otherwise
-pub skips_as : (old new : Log) (before after : Handle) (all left rest : Ops) → left ≡ rest
-    → SkipsUpTo old new before after all left →
-    SkipsUpTo old new before after all rest
-skips_as old new before after all left rest e s = subst (SkipsUpTo old new before after all) e s
 
 pub skips_one : (old mid new : Log) (before between after : Handle) (all left rest : Ops) (o : Op) → left ≡ op o rest
     → SkipsUpTo old mid before between all left →
@@ -84,15 +77,3 @@ skips_all old new before after all left e s =
     go : (a : Account) → (b : Account) × IsAccount new after b × (skipped (names_of left) b ≡ skipped (names_of all) a)
         → IsAccount new after (skipped (names_of all) a)
     go a (b, i, h) = subst (IsAccount new after) (ap (λ os. skipped (names_of os) b) (sym e) ∙ h) i
-
--- one name is skipped
-pub rewritten_by : (old new : Log) (before after : Handle) (name : Name)
-    → IsChanged old new before after (pushed (Command.skips name)) →
-    IsRewritten old new before after (skipped (name ∷ []))
-rewritten_by old new before after name c = record { entries = c.entries; account = c.account; kept = c.kept }
-
-pub rewritten_ok : {E : Type 0} (r : Result ⊤ E) (old new : Log) (before after : Handle) (name : Name)
-    → OnOk r (IsChanged old new before after (pushed (Command.skips name))) →
-    OnOk r (IsRewritten old new before after (skipped (name ∷ [])))
-rewritten_ok (Ok x) old new before after name c = rewritten_by old new before after name c
-rewritten_ok (Err x) old new before after name c = tt

@@ -318,6 +318,11 @@ module _ {A : Type 0} (outers all : List (Outer A)) (n : ℕ) (at : n ≡ length
             (edges_keep log log outers all (record { log = kept_not log; outers = (o ∷ [], e) }) s.around));
       }
 
+  -- the rounds of a repetition that is entered from this position
+  abbrev rounds_from : Bor (List (code.Op A)) → Option (Bor (between.Separator A)) → RepeatKind → Position A → Rounds A
+  rounds_from body separator k p =
+      record { body = body; separator = separator; kind = k; front = p.number - 1; outside = p.handle }
+
   pub repetition_entered : (i : Input) (argument : Forest) (q : ℕ) (old new : Log) (p : Position A) (rest : Ops)
       (a : Account) (up : List Edge)
       (body after : Bor (List (code.Op A))) (separator : Option (Bor (between.Separator A))) (k : RepeatKind)
@@ -326,14 +331,7 @@ module _ {A : Type 0} (outers all : List (Outer A)) (n : ℕ) (at : n ≡ length
       rest)
       a up →
       IsSkip k (ops_of body.now) (ops_of after.now) old new p second → IsAccount new h no_account →
-      (let r : Rounds A = record {
-        body = body;
-        separator = separator;
-        kind = k;
-        front = p.number - 1;
-        outside = p.handle;
-      } in
-      let o : Outer A = record { rounds = Some r; rest = after; up = p.up } in all ≡ outers ++ o ∷ []) →
+      all ≡ outers ++ record { rounds = Some (rounds_from body separator k p); rest = after; up = p.up } ∷ [] →
       AreSteps i argument q old new outers all
       (outline (op (repetition (ops_of body.now) (option_map (λ s. separator_seen s.now) separator) k) rest) a up)
       (record {
@@ -343,13 +341,7 @@ module _ {A : Type 0} (outers all : List (Outer A)) (n : ℕ) (at : n ≡ length
         done = None;
       })
   repetition_entered i argument q old new p rest a up body after separator k second h r s skip account e =
-      let round : Rounds A = record {
-        body = body;
-        separator = separator;
-        kind = k;
-        front = p.number - 1;
-        outside = p.handle;
-      } in
+      let round = rounds_from body separator k p in
       let o : Outer A = record { rounds = Some round; rest = after; up = p.up } in
       let keeps : Keeps old new outers all = record { log = skip.kept; outers = (o ∷ [], e) } in
       let number = s.number in

@@ -2,7 +2,7 @@
 use Rattle.std.proofs.Common.{ℕ, zero, suc, ◌+◌, ◌≡◌, ◌<◌, ◌≤◌, ◌⊎◌, inl, inr, Bool, true, false, List, [], ◌∷◌, ◌++◌, map, reverse, length, refl, sym, ◌∙◌, ap, subst, arith, append_assoc, append-nil}
 use Rattle.std.specs.Prelude.{nat_lt}
 use Rattle.std.proofs.lemmas.Bool.{lt-ltb, le-ltb}
-use Rattle.std.proofs.lemmas.List.{reverse-append}
+use Rattle.std.proofs.lemmas.List.{length-reverse, reverse-append}
 use Rattle.mbe_semantics.specs.Syntax.Op.{Ops}
 use Rattle.mbe_semantics.specs.Readings.Input.{Input}
 use Rattle.mbe_semantics.specs.Readings.Reading.{Beginning}
@@ -228,14 +228,6 @@ module _ (i : Input) (pattern : Ops) (q : ℕ) where
       go (inr e) = subst GoodVisit (sym e) a
   visit_good (leave o) w a m = absurd m
 
-  len_reverse : {A : Type 0} (xs : List A) → length (reverse xs) ≡ length xs
-  len_reverse [] = refl
-  len_reverse (x ∷ xs) =
-      let a : length (reverse (x ∷ xs)) ≡ length (reverse xs ++ (x ∷ [])) = ap length (reverse-append (x ∷ []) xs) in
-      let b : length (reverse xs ++ (x ∷ [])) ≡ length (reverse xs) + 1 = len_append (reverse xs) (x ∷ []) in
-      let c : length (reverse xs) ≡ length xs = len_reverse xs in
-      omega (arith, a, b, c)
-
   pub visit_few : (v : Visit) → GoodVisit v → length (visits_of i q v) ≤ 3
   unfolding GoodVisit
   visit_few (enter o) g =
@@ -244,7 +236,7 @@ module _ (i : Input) (pattern : Ops) (q : ℕ) where
       len_append (map enter (reverse (idle_of i q o))) (leave o ∷ []) in
       let b : length (map enter (reverse (idle_of i q o))) ≡ length (reverse (idle_of i q o)) =
       len_map enter (reverse (idle_of i q o)) in
-      let c : length (reverse (idle_of i q o)) ≡ length (idle_of i q o) = len_reverse (idle_of i q o) in
+      let c : length (reverse (idle_of i q o)) ≡ length (idle_of i q o) = length-reverse (idle_of i q o) in
       let d : length (idle_of i q o) ≤ 2 = here_few o g in
       omega (arith, a, b, c, d)
   visit_few (leave o) g = omega arith

@@ -117,9 +117,3 @@ start-alone es n start ms e k h = either (let c : (k ≡ start) ⊎ ((k < start)
 
 pub start-marked : (ms : List Bool) (start : ℕ) → start < length ms → is_marked (set ms start true) start ≡ true
 start-marked ms start l = get_or-set_same ms start true false l
-
--- a marked node is one of them
-pub marked-within : (ms : List Bool) (n : ℕ) → is_marked ms n ≡ true → n < length ms
-marked-within [] n e = cc
-marked-within (m ∷ ms) zero e = omega arith
-marked-within (m ∷ ms) (suc n) e = let l : n < length ms = marked-within ms n e in omega arith

@@ -26,7 +26,6 @@ use Rattle.mbe_parting.proofs.Numbers.{some-dots}
 use Rattle.mbe_parting.proofs.Tails.{spots-length}
 use Rattle.mbe_parting.proofs.Nodes.{Found, found-first, place-below}
 use Rattle.mbe_parting.proofs.GoingLemmas.{PartSome, edges, final, most, kept, found, part-by}
-use Rattle.mbe_parting.proofs.Marking.{marked-within}
 use Rattle.mbe_parting.proofs.Right.{all, ss, last, none-part, none-before}
 
 -- how many dots there are

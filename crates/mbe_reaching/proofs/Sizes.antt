@@ -1,22 +1,13 @@
--- How many ops there are, at any depth: a measure. And what ops with a body come to.
-use Rattle.std.proofs.Common.{ℕ, zero, suc, ◌≡◌, ◌+◌, ◌<◌, ◌&&◌, Bool, true, Option, List, ◌∷◌, ap, sym, ◌∙◌, arith}
+-- How many ops there are in parts of others, and what ops with a body come to.
+use Rattle.std.proofs.Common.{◌≡◌, ◌<◌, ◌&&◌, Bool, true, Option, List, ◌∷◌, ap, sym, ◌∙◌, arith}
 use Rattle.mbe_tt.specs.declared.tt.Delimiter.{Delimiter}
 use Rattle.mbe_semantics.specs.declared.kinds.RepeatKind.{RepeatKind}
-use Rattle.mbe_semantics.specs.Syntax.Op.{Separator, Op, Ops, no_ops, op, group, repetition}
+use Rattle.mbe_semantics.specs.Syntax.Op.{Separator, Op, Ops, group, repetition}
 use Rattle.mbe_ops.specs.declared.ops.Op as code
 use Rattle.mbe_ops.specs.Views.{op_of, ops_of}
+use Rattle.mbe_ops.proofs.OpSizes.{op_size, ops_size}
 use Rattle.mbe_reaching.specs.Alike.{opens_alike, goes_round_alike, is_like, are_alike}
 use Rattle.mbe_reaching.specs.Reaching.{only_op, is_some_tree, is_list, are_trees}
-
-abbrev mutual
-  pub op_size : Op → ℕ
-  op_size (group d body) = suc (ops_size body)
-  op_size (repetition body s k) = suc (ops_size body)
-  op_size _ = 0
-
-  pub ops_size : Ops → ℕ
-  ops_size no_ops = 0
-  ops_size (op o os) = suc (op_size o + ops_size os)
 
 -- the first op, and the ops after it, are fewer than all
 pub first_smaller : {A : Type 0} (all rest : List (code.Op A)) (x : code.Op A) → all ≡ x ∷ rest

@@ -87,8 +87,8 @@ around_none : (s : State) → written_around [] s ≡ s
 unfolding written_around
 around_none s = refl
 
-pub walk : IsWalk written written_around (λ s d inside. opened s d.kind d.opening) (λ s d. closed s d.kind d.close)
-walk = record {
+pub text_walk : IsWalk written written_around (λ s d inside. opened s d.kind d.opening) (λ s d. closed s d.kind d.close)
+text_walk = record {
   group_step = group_step;
   end_step = end_step;
   none_around = around_none;

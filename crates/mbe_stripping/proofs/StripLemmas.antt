@@ -1,13 +1,12 @@
 -- What is left to be written, as trees are stripped one front after another.
-use Rattle.std.proofs.Common.{ℕ, suc, ◌-◌, ◌≡◌, ◌<◌, ◌≤◌, List, [], ◌∷◌, ◌++◌, length, Some, refl, ap, sym, ◌∙◌, append_assoc, append-nil, arith}
+use Rattle.std.proofs.Common.{ℕ, suc, ◌-◌, ◌≡◌, ◌<◌, ◌≤◌, List, ◌++◌, length, Some, refl, ap, sym, ◌∙◌, append_assoc, append-nil, arith}
 use Rattle.std.proofs.lemmas.Bool.{lt-ltb, le-ltb}
 use Rattle.std.specs.Prelude.{true, Option, option_map, Result, Ok, Err, OnOk}
 use Rattle.mbe_tt.specs.Buffers.Building.{Levels, put}
 use Rattle.mbe_tt.specs.Fragments.Grammar.{Grammar}
 use Rattle.mbe_tt.specs.Trees.Tree.{Forest, Tree, none, leaf, group, tree, append, first, rest_of, flat_len}
-use Rattle.mbe_tt.specs.declared.tt.Delimiter.{Delimiter}
 use Rattle.mbe_tt.proofs.Buffers.Built.{length-put}
-use Rattle.mbe_tt.proofs.Buffers.Grown.{put-none}
+use Rattle.mbe_tt.proofs.Buffers.Grown.{put-none, put-put}
 use Rattle.mbe_calls.specs.Fronts.{Front, front, Other}
 use Rattle.mbe_cfg.specs.declared.settings.Settings.{Settings}
 use Rattle.mbe_cfg.specs.declared.fault.Fault.{Fault}
@@ -15,16 +14,6 @@ use Rattle.mbe_stripping.specs.Stripping.{Stripped, unchanged, up_to, is_off, of
 
 pub one_more : (n : ℕ) → 0 < n → n ≡ suc (n - 1)
 one_more n h = omega (arith, h)
-
-append_append : (f g h : Forest) → append (append f g) h ≡ append f (append g h)
-append_append none g h = refl
-append_append (leaf l rest) g h = ap (leaf l) (append_append rest g h)
-append_append (group d inside rest) g h = ap (group d inside) (append_append rest g h)
-
-put_put : (f h : Forest) (b : Levels) → put h (put f b) ≡ put (append f h) b
-put_put f h [] = refl
-put_put f h (g ∷ outer) =
-    ap (λ (k : Forest). let x : Delimiter × Forest = (g.0, k) in x ∷ outer) (append_append g.1 f h)
 
 -- ---- one front
 
@@ -83,7 +72,7 @@ front_on within s g all f old before left rest after now next found more some h 
     let whole = steps_more within s g left rest some in
     record {
       same = ap (λ x. put (others x).kept next) r ∙ ap (put (others one.rest).kept) e
-          ∙ put_put one.kept (others one.rest).kept now ∙ ap (λ x. put x.kept now) whole ∙ h.same;
+          ∙ put-put one.kept (others one.rest).kept now ∙ ap (λ x. put x.kept now) whole ∙ h.same;
       noted = ap (λ x. more ++ (others x).faults) r ∙ ap (λ x. x ++ (others one.rest).faults) m
           ∙ append_assoc found one.faults (others one.rest).faults ∙ ap (λ x. found ++ x.faults) whole ∙ h.noted;
       groups = ap length e ∙ length-put now one.kept ∙ h.groups;
@@ -157,5 +146,5 @@ pub copied_on : (n : ℕ) (f rest after view : Forest) (old now next : Levels) �
     → Copying n f old after next
 copied_on n f rest after view old now next h is more r e = record {
   same = ap (λ x. put (up_to n x) next) r ∙ ap (put (up_to n (rest_of rest))) e
-      ∙ put_put view (up_to n (rest_of rest)) now ∙ ap (λ x. put x now) (up_to_more n rest view is more) ∙ h.same;
+      ∙ put-put view (up_to n (rest_of rest)) now ∙ ap (λ x. put x now) (up_to_more n rest view is more) ∙ h.same;
 }

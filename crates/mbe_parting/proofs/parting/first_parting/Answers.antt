@@ -23,7 +23,8 @@ returns-in_default g c =
 pub ways_on-requires : goal.ways_on-requires
 ways_on-requires g c =
     first-parted {A = g.row.A.Denot} (g.G.FragmentGrammar.grammar c.args.grammar.now) c.in_ok-graph.graph
-    c.in_ok-graph.ensures.graph c.in-Some.step (found g (goal.at.ways_on-requires g c).After-first_parting ∙ c.in-Some.is)
+    c.in_ok-graph.ensures.graph c.in-Some.step
+    (found g (goal.at.ways_on-requires g c).After-first_parting ∙ c.in-Some.is)
 
 pub returns : goal.returns
 returns g c =

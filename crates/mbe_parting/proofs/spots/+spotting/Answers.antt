@@ -18,7 +18,8 @@ counted g t c =
     subst (λ r. IfSome r (λ n. n ≡ op_dots (op_of c.args.op.now))) c.in_ok-dots.ensures.ok_part c.op_dots_of.ensures
 
 -- the one before it, and what is in it
-pushed : (g : _) (t : ℕ) (c : push_op-In_ok-push g t) (inside : List Spot) → inside ≡ spots_in (inside_of (op_of c.args.op.now))
+pushed : (g : _) (t : ℕ) (c : push_op-In_ok-push g t) (inside : List Spot)
+    → inside ≡ spots_in (inside_of (op_of c.args.op.now))
     → map spot_seen c.push.new.self.items ++ inside
     ≡ map spot_seen c.args.all.now.items ++ spots_of_op (op_of c.args.op.now)
 pushed g t c inside e =

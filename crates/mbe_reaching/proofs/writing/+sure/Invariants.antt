@@ -1,5 +1,5 @@
 use Rattle.mbe_ops.specs.Views.{op_of, ops_of}
-use Rattle.mbe_reaching.proofs.Sizes.{op_size, ops_size}
+use Rattle.mbe_ops.proofs.OpSizes.{op_size, ops_size}
 use Rattle.mbe_reaching.proofs.writing.+sure.Given as goal
 
 abbrev pub decreases-is_sure_op : goal.decreases-is_sure_op

@@ -1,9 +1,8 @@
 use Rattle.std.proofs.Common.{◌≡◌, ◌<◌, ◌+◌, ◌-◌, ◌∷◌, vec_len, length-append, ◌++◌, [], ◌∙◌, ap, sym, drop, length, refl, rules, arith}
 use Rattle.std.specs.Prelude.{is_some, option_map}
 use Rattle.mbe_tt.specs.Views.Shown.{literal_of, ident_of}
-use Rattle.mbe_semantics.specs.Writing.Rounds.{level, kept, kept_rounds, finite}
+use Rattle.mbe_semantics.specs.Writing.Rounds.{level, kept}
 use Rattle.mbe_semantics.specs.Writing.Substitution.{extent_faults}
-use Rattle.mbe_ops.specs.Expressions.{elements_seen}
 use Rattle.mbe_ops.specs.Views.{op_of, ops_of, separator_seen}
 use Rattle.mbe_log.specs.BindingViews.{bound_by}
 use Rattle.mbe_ops.proofs.EqualityLemmas.{op_no_heavier}
@@ -169,13 +168,11 @@ expand_repeat-loop-index-preserved g t c =
 pub expand_repeat-returns-clause-wrote : goal.expand_repeat-returns-clause-wrote
 expand_repeat-returns-clause-wrote g t c =
     let seps = option_map (λ s. separator_seen s.now) c.args.separator in
-    let same : kept_rounds c.args.kind (bound_by c.args.ctx.now.bindings.now) c.args.path.now (ops_of c.args.body.now)
-    ≡ finite c.in-Ok.rounds =
-    ap (kept c.args.kind) (sym c.rounds_of.ensures) ∙ c.in-Ok.ensures.kept.0 in
     let all : c.loop-index.index ≡ c.in-Ok.rounds = omega arith in
     lemmas.rounded_end _ _ _ _ _ seps (ops_of c.args.body.now) c.args.kind c.in-Ok.rounds (is_some c.loop-index.first)
     c.loop-index.separated c.args.builder.now c.loop-index.builder
-    same c.in-Ok.ensures.kept.1 (rw all at c.loop-index.invariant.rounded)
+    (ap (kept c.args.kind) (sym c.rounds_of.ensures) ∙ c.in-Ok.ensures.kept.0) c.in-Ok.ensures.kept.1
+    (rw all at c.loop-index.invariant.rounded)
 
 pub expand_op-returns-in-Subtree-clause-first : goal.expand_op-returns-in-Subtree-clause-first
 expand_op-returns-in-Subtree-clause-first g t c =
@@ -188,15 +185,13 @@ expand_op-returns-in-Repeat-clause-first g t c =
 pub expand_repeat-returns-clause-first : goal.expand_repeat-returns-clause-first
 expand_repeat-returns-clause-first g t c =
     let seps = option_map (λ s. separator_seen s.now) c.args.separator in
-    let same : kept_rounds c.args.kind (bound_by c.args.ctx.now.bindings.now) c.args.path.now (ops_of c.args.body.now)
-    ≡ finite c.in-Ok.rounds =
-    ap (kept c.args.kind) (sym c.rounds_of.ensures) ∙ c.in-Ok.ensures.kept.0 in
-    let faultless = c.in-Ok.ensures.fault
-    ∙ ap (λ e. extent_fault c.args.kind (kept c.args.kind e)) c.rounds_of.ensures in
     let all : c.loop-index.index ≡ c.in-Ok.rounds = omega arith in
     firsts.rounds_end error_of_fault c.args.ctx.now.call_site (bound_by c.args.ctx.now.bindings.now) c.args.path.now
     (ops_of c.args.body.now) seps
-    c.args.kind c.in-Ok.rounds c.loop-index.first same faultless (rw all at c.loop-index.invariant.first)
+    c.args.kind c.in-Ok.rounds c.loop-index.first
+    (ap (kept c.args.kind) (sym c.rounds_of.ensures) ∙ c.in-Ok.ensures.kept.0)
+    (c.in-Ok.ensures.fault ∙ ap (λ e. extent_fault c.args.kind (kept c.args.kind e)) c.rounds_of.ensures)
+    (rw all at c.loop-index.invariant.first)
 
 pub expand_ops-loop-op-init : goal.expand_ops-loop-op-init
 expand_ops-loop-op-init g t c = record {
@@ -265,15 +260,13 @@ expand_ops-returns-clause-left g t c =
 pub expand_repeat-returns-clause-left : goal.expand_repeat-returns-clause-left
 expand_repeat-returns-clause-left g t c =
     let seps = option_map (λ s. separator_seen s.now) c.args.separator in
-    let same : kept_rounds c.args.kind (bound_by c.args.ctx.now.bindings.now) c.args.path.now (ops_of c.args.body.now)
-    ≡ finite c.in-Ok.rounds =
-    ap (kept c.args.kind) (sym c.rounds_of.ensures) ∙ c.in-Ok.ensures.kept.0 in
-    let faultless = c.in-Ok.ensures.fault
-    ∙ ap (λ e. extent_fault c.args.kind (kept c.args.kind e)) c.rounds_of.ensures in
     let all : c.loop-index.index ≡ c.in-Ok.rounds = omega arith in
     lefts.left_rounds _ _ _ _ _ seps (ops_of c.args.body.now) c.args.kind c.in-Ok.rounds c.loop-index.separated
     c.args.builder.now
-    c.loop-index.builder same faultless (rw all at c.loop-index.invariant.left)
+    c.loop-index.builder
+    (ap (kept c.args.kind) (sym c.rounds_of.ensures) ∙ c.in-Ok.ensures.kept.0)
+    (c.in-Ok.ensures.fault ∙ ap (λ e. extent_fault c.args.kind (kept c.args.kind e)) c.rounds_of.ensures)
+    (rw all at c.loop-index.invariant.left)
 
 pub expand_repeat-returns-in-Err-clause-wrote : goal.expand_repeat-returns-in-Err-clause-wrote
 expand_repeat-returns-in-Err-clause-wrote g t c =

@@ -5,11 +5,11 @@ use Rattle.mbe_tt.specs.Views.View.{trees}
 use Rattle.mbe_tt.proofs.Trees.Walks.{begins, group_on, pop_on, all_done}
 use Rattle.mbe_rust_text.specs.Comments.{more_trees}
 use Rattle.mbe_rust_text.specs.Shown.{state_of, comment_shown}
-use Rattle.mbe_rust_text.proofs.WalkLemmas.{found, comment_turn, leaf_on, walk}
+use Rattle.mbe_rust_text.proofs.WalkLemmas.{found, comment_turn, leaf_on, text_walk}
 use Rattle.mbe_rust_text.proofs.writing.Writer.trees.Goals as goal
 
 pub tokens-init : goal.tokens-init
-tokens-init g c = begins walk _ _ _ _ c.new-around.ensures.items c.iter-iter.ensures
+tokens-init g c = begins text_walk _ _ _ _ c.new-around.ensures.items c.iter-iter.ensures
 
 pub tokens-preserved-in-Some : goal.tokens-preserved-in-Some
 tokens-preserved-in-Some g c =
@@ -35,16 +35,16 @@ tokens-preserved-in-Continue-branch-2 g c =
 
 pub tokens-preserved-in-Some-Subtree : goal.tokens-preserved-in-Some-Subtree
 tokens-preserved-in-Some-Subtree g c =
-    group_on walk c.tokens.around.items c.push.new.self.items c.tokens.iter c.next.new.self c.in-Some-Subtree.inside
-    c.in-Some-Subtree.group.now.delimiter (state_of c.tokens.self) (state_of c.open.new.self) _
+    group_on text_walk c.tokens.around.items c.push.new.self.items c.tokens.iter c.next.new.self
+    c.in-Some-Subtree.inside c.in-Some-Subtree.group.now.delimiter (state_of c.tokens.self) (state_of c.open.new.self) _
     c.next.ensures.rest (search rules) (search rules) (search rules) c.tokens.invariant
 
 pub returns-in-None-pop : goal.returns-in-None-pop
-returns-in-None-pop g c = all_done walk c.tokens.around.items c.tokens.iter _ _ (search rules) (search rules)
+returns-in-None-pop g c = all_done text_walk c.tokens.around.items c.tokens.iter _ _ (search rules) (search rules)
     c.tokens.invariant
 
 pub tokens-preserved : goal.tokens-preserved
 tokens-preserved g c =
-    pop_on walk c.tokens.around.items c.pop.new.self.items c.tokens.iter c.in-Some-pop.rest c.in-Some-pop.delimiter
+    pop_on text_walk c.tokens.around.items c.pop.new.self.items c.tokens.iter c.in-Some-pop.rest c.in-Some-pop.delimiter
     (state_of c.tokens.self) (state_of c.close.new.self) _ (search rules) (search rules) (search rules)
     c.tokens.invariant
