@@ -1,15 +1,14 @@
 -- What is left to be written, as the trees of another crate are written one after another.
-use Rattle.std.proofs.Common.{ℕ, zero, suc, ◌-◌, ◌≡◌, ◌<◌, Bool, false, List, ◌∷◌, length, Some, None, Result, Ok, Err, refl, ap, sym, ◌∙◌, arith}
+use Rattle.std.proofs.Common.{ℕ, zero, suc, ◌-◌, ◌≡◌, ◌<◌, Bool, false, List, [], ◌∷◌, length, Some, None, Result, Ok, Err, refl, ap, sym, ◌∙◌, arith}
 use Rattle.std.specs.Prelude.{OnOk}
 use Rattle.mbe_tt.specs.Buffers.Building.{Levels, put, closed}
 use Rattle.mbe_tt.specs.Trees.Leaf.{Leaf}
-use Rattle.mbe_tt.specs.Trees.Tree.{Forest, Leaf_tree, Group_tree, none, group, first, rest_of, one_leaf}
+use Rattle.mbe_tt.specs.Trees.Tree.{Forest, Tree, Leaf_tree, Group_tree, none, leaf, group, tree, append, first, rest_of, one_leaf, flat_len}
 use Rattle.mbe_tt.specs.declared.span.Span.{Span}
 use Rattle.mbe_tt.specs.declared.tt.Delimiter.{Delimiter}
 use Rattle.mbe_tt.specs.declared.tt.Spacing.TheVariants.{Alone, Joint}
 use Rattle.mbe_tt.proofs.Buffers.Built.{length-put}
-use Rattle.mbe_tt.proofs.Buffers.Grown.{put-none, put-put}
-use Rattle.mbe_tt.proofs.Trees.Firsts.{whole, nothing}
+use Rattle.mbe_tt.proofs.Buffers.Grown.{put-none}
 use Rattle.mbe_expandm.specs.Naming.{colon, colons, is_dollar, named_by, named_in, named_leaf}
 
 -- what is written of some trees, once the others are, is what is to be written of all
@@ -18,10 +17,39 @@ pub record Left (levels : ℕ) (name : List ℕ) (f : Forest) (old : Levels) (af
   pub same : put (named_by (named_in (levels - 1) name) name after rest) now ≡ put (named_in levels name f) old
   pub groups : length now ≡ length old
 
+same_some : {A : Type 0} (x y : A) → Some x ≡ Some y → x ≡ y
+same_some x y e = cc
+
+-- the first tree, and those after it
+whole : (f : Forest) (t : Tree) → first f ≡ Some t → f ≡ tree t (rest_of f)
+whole none t e = cc
+whole (leaf l rest) t e = ap (λ x. tree x rest) (same_some (Leaf_tree l) t e)
+whole (group d inside rest) t e = ap (λ x. tree x rest) (same_some (Group_tree d inside) t e)
+
+nothing : (f : Forest) → first f ≡ None → f ≡ none
+nothing none e = refl
+nothing (leaf l rest) e = cc
+nothing (group d inside rest) e = cc
+
+pub rest_less : (f : Forest) (t : Tree) → first f ≡ Some t → flat_len (rest_of f) < flat_len f
+rest_less none t e = cc
+rest_less (leaf l rest) t e = omega arith
+rest_less (group d inside rest) t e = omega arith
+
+append_append : (f g h : Forest) → append (append f g) h ≡ append f (append g h)
+append_append none g h = refl
+append_append (leaf l rest) g h = ap (leaf l) (append_append rest g h)
+append_append (group d inside rest) g h = ap (group d inside) (append_append rest g h)
+
+put_both : (f g : Forest) (b : Levels) → put g (put f b) ≡ put (append f g) b
+put_both f g [] = refl
+put_both f g (o ∷ outer) =
+    ap (λ (k : Forest). let x : Delimiter × Forest = (o.0, k) in x ∷ outer) (append_append o.1 f g)
+
 -- a `::` is two leaves
 both_colons : (at : Span) (b : Levels)
     → put (one_leaf (colon at Alone)) (put (one_leaf (colon at Joint)) b) ≡ put (colons at) b
-both_colons at b = put-put (one_leaf (colon at Joint)) (one_leaf (colon at Alone)) b
+both_colons at b = put_both (one_leaf (colon at Joint)) (one_leaf (colon at Alone)) b
 
 pub colons_pushed : {X E : Type 0} (r : Result X E) (at : Span) (a b : Leaf) (old mid new : Levels)
     → a ≡ colon at Joint → b ≡ colon at Alone → mid ≡ put (one_leaf a) old → OnOk r (new ≡ put (one_leaf b) mid)
@@ -52,7 +80,7 @@ leaf_on levels name f rest old now next after dollar l h is e d =
     let more = named_by inner name (is_dollar l) (rest_of rest) in
     record {
       same = ap (λ b. put (named_by inner name b (rest_of rest)) next) d ∙ (ap (put more) e
-          ∙ (put-put written more now
+          ∙ (put_both written more now
           ∙ (ap (λ g. put (named_by inner name after g) now) (sym (whole rest (Leaf_tree l) is)) ∙ h.same)));
       groups = ap length e ∙ length-put now written ∙ h.groups;
     }
@@ -68,7 +96,7 @@ group_on levels name f rest inside d old now opened mid next after h is o m e =
     let more = named_by inner name false (rest_of rest) in
     let w : next ≡ put (group d (inner inside) none) now = e ∙ ap (closed d.close) (m ∙ ap (put (inner inside)) o) in
     record {
-      same = ap (put more) w ∙ (put-put (group d (inner inside) none) more now
+      same = ap (put more) w ∙ (put_both (group d (inner inside) none) more now
           ∙ (ap (λ g. put (named_by inner name after g) now) (sym (whole rest (Group_tree d inside) is)) ∙ h.same));
       groups = ap length w ∙ length-put now (group d (inner inside) none) ∙ h.groups;
     }
