@@ -30,6 +30,7 @@ abbrev pub expression_seen : {A : Type 0} → code.Expression A → Expression
 expression_seen (code.TheVariants.Ignore name id) = ops.ignore name id
 expression_seen (code.TheVariants.Index depth) = ops.index depth
 expression_seen (code.TheVariants.Len depth) = ops.len depth
+expression_seen code.TheVariants.Depth = ops.nesting
 expression_seen (code.TheVariants.Count name depth) = ops.count name depth
 expression_seen (code.TheVariants.Concat elements span) = ops.concat (map element_seen elements.items) span
 
@@ -71,27 +72,30 @@ element_code = code_by ElementRow (coded⊎ ident_code (coded⊎ literal_code id
     row_element-element_row
 
 abbrev pub ExpressionRow : Type 0
-ExpressionRow = (Name × Span) ⊎ ((Name × ℕ) ⊎ (ℕ ⊎ (ℕ ⊎ (List Element × Span))))
+ExpressionRow = (Name × Span) ⊎ ((Name × ℕ) ⊎ (ℕ ⊎ (ℕ ⊎ (ℕ ⊎ (List Element × Span)))))
 
 abbrev pub expression_row : Expression → ExpressionRow
 expression_row (ops.ignore name s) = inl (name, s)
 expression_row (ops.count name depth) = inr (inl (name, depth))
 expression_row (ops.index depth) = inr (inr (inl depth))
 expression_row (ops.len depth) = inr (inr (inr (inl depth)))
-expression_row (ops.concat elements s) = inr (inr (inr (inr (elements, s))))
+expression_row ops.nesting = inr (inr (inr (inr (inl 0))))
+expression_row (ops.concat elements s) = inr (inr (inr (inr (inr (elements, s)))))
 
 abbrev pub row_expression : ExpressionRow → Expression
 row_expression (inl p) = ops.ignore p.0 p.1
 row_expression (inr (inl p)) = ops.count p.0 p.1
 row_expression (inr (inr (inl depth))) = ops.index depth
 row_expression (inr (inr (inr (inl depth)))) = ops.len depth
-row_expression (inr (inr (inr (inr p)))) = ops.concat p.0 p.1
+row_expression (inr (inr (inr (inr (inl n))))) = ops.nesting
+row_expression (inr (inr (inr (inr (inr p))))) = ops.concat p.0 p.1
 
 pub row_expression-expression_row : (e : Expression) → row_expression (expression_row e) ≡ e
 row_expression-expression_row (ops.ignore name s) = refl
 row_expression-expression_row (ops.count name depth) = refl
 row_expression-expression_row (ops.index depth) = refl
 row_expression-expression_row (ops.len depth) = refl
+row_expression-expression_row ops.nesting = refl
 row_expression-expression_row (ops.concat elements s) = refl
 
 abbrev pub expression_code : Coded Expression
@@ -99,7 +103,8 @@ expression_code =
     let names = coded_list coded_ℕ in
     let listed = coded× (coded_list element_code) span.the_row.coded in
     code_by ExpressionRow
-    (coded⊎ (coded× names span.the_row.coded) (coded⊎ (coded× names coded_ℕ) (coded⊎ coded_ℕ (coded⊎ coded_ℕ listed))))
+    (coded⊎ (coded× names span.the_row.coded)
+    (coded⊎ (coded× names coded_ℕ) (coded⊎ coded_ℕ (coded⊎ coded_ℕ (coded⊎ coded_ℕ listed)))))
     expression_row row_expression row_expression-expression_row
 
 -- equality of elements

@@ -35,6 +35,7 @@ pub enum Expression<A: Allocator = Global> {
     Len {
         depth: usize,
     },
+    Depth,
     Count {
         name: Symbol<A>,
         depth: usize,
@@ -77,7 +78,9 @@ impl<A: Allocator> Expression<A> {
         match self {
             Expression::Ignore { name, .. } => Mentions::one(name, Want::Fragment),
             Expression::Count { name, .. } => Mentions::one(name, Want::Number),
-            Expression::Index { .. } | Expression::Len { .. } => Mentions::among(&[]),
+            Expression::Index { .. } | Expression::Len { .. } | Expression::Depth => {
+                Mentions::among(&[])
+            }
             Expression::Concat { elements, .. } => Mentions::among(elements.as_slice()),
         }
     }
@@ -159,6 +162,7 @@ pub(crate) fn copied_expression<A: Allocator + Copy>(
         }),
         Expression::Index { depth } => Ok(Expression::Index { depth: *depth }),
         Expression::Len { depth } => Ok(Expression::Len { depth: *depth }),
+        Expression::Depth => Ok(Expression::Depth),
         Expression::Count { name, depth } => Ok(Expression::Count {
             name: name.clone()?,
             depth: *depth,
@@ -201,6 +205,7 @@ pub(crate) fn same_expression<A: Allocator>(one: &Expression<A>, two: &Expressio
         }
         (Expression::Index { depth }, Expression::Index { depth: d }) => depth == d,
         (Expression::Len { depth }, Expression::Len { depth: d }) => depth == d,
+        (Expression::Depth, Expression::Depth) => true,
         (Expression::Count { name, depth }, Expression::Count { name: n, depth: d }) => {
             name == n && depth == d
         }

@@ -192,6 +192,7 @@ fn write_expression<'t, A: Allocator + Copy, G: FragmentGrammar, M: Fn(Span) -> 
         Expression::Len { depth } => {
             write_at_call(ctx, rounds_at(path, *depth), builder).and(Ok(None))
         }
+        Expression::Depth => write_at_call(ctx, path.len(), builder).and(Ok(None)),
         Expression::Count { name, depth } => write_count(ctx, name, *depth, path, builder),
         Expression::Concat { elements, span } => {
             write_concat(ctx, elements, *span, path, builder)

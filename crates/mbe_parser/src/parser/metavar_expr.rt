@@ -16,7 +16,7 @@ use mbe_tt::span::Span;
 use mbe_tt::tt::{DelimiterKind, Ident, Leaf, Literal, TtElement, TtIter};
 use std::alloc::Allocator;
 
-/// Reads what is between the braces of `${..}`: `ignore($x)`, `index(d)`, `len(d)`,
+/// Reads what is between the braces of `${..}`: `ignore($x)`, `index(d)`, `len(d)`, `depth()`,
 /// `count($x)`, `count($x, d)` or `concat(e, e, ..)`. What follows the arguments isn't looked at.
 ///
 /// `Err` is `SyntaxFault::InvalidExpression` where the trees are none of these, or `Memory` if out of
@@ -71,6 +71,7 @@ fn parse_args<A: Allocator + Copy>(
             let depth = parse_depth(args).ok_or(SyntaxFault::InvalidExpression)?;
             Ok(Expression::Len { depth })
         }
+        "depth" if args.is_empty() => Ok(Expression::Depth),
         "concat" => parse_concat(alloc, func.span, args),
         _ => Err(ReadError::Fault(SyntaxFault::InvalidExpression)),
     }

@@ -31,6 +31,8 @@ pub data Expression : Type 0 where
   count : Name → ℕ → Expression
   index : ℕ → Expression
   len : ℕ → Expression
+  -- of `${depth()}`
+  nesting : Expression
   concat : List Element → Span → Expression
 
 -- what is read and written as it is
@@ -109,6 +111,7 @@ mentions_of_expression (ignore name span) = record { used = for_fragment name; p
 mentions_of_expression (count name depth) = record { used = for_number name; place = None } ∷ []
 mentions_of_expression (index depth) = []
 mentions_of_expression (len depth) = []
+mentions_of_expression nesting = []
 mentions_of_expression (concat elements span) = mentions_of_elements elements
 
 -- their uses alone

@@ -147,13 +147,14 @@ count_of f = option_and_then (λ x. option_map (ops.count (x.0).sym) (depth_afte
 abbrev pub concat_of : Span → Forest → Option Expression
 concat_of span f = option_and_then (if_two span) (elements_of f)
 
--- `ignore($x)`, `count($x, d)`, `index(d)`, `len(d)` and `concat(e, ..)`
+-- `ignore($x)`, `count($x, d)`, `index(d)`, `len(d)`, `depth()` and `concat(e, ..)`
 abbrev pub arguments_of : Ident → Forest → Option Expression
 arguments_of word inside =
     if is_text word.sym (codes "ignore") then ignore_of inside
     else if is_text word.sym (codes "count") then count_of inside
     else if is_text word.sym (codes "index") then option_map ops.index (depth_of inside)
     else if is_text word.sym (codes "len") then option_map ops.len (depth_of inside)
+    else if is_text word.sym (codes "depth") then if_end inside ops.nesting
     else if is_text word.sym (codes "concat") then concat_of word.span inside
     else None
 

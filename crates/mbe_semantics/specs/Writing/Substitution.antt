@@ -1,6 +1,6 @@
 -- What a template writes, and which templates fault (as in rust-analyzer). Spans of the template are marked, spans of
 -- the argument and of separators are kept, and integers have the call site's span.
-use Rattle.std.specs.Prelude.{◌≡◌, ℕ, zero, suc, ◌^◌, Bool, true, false, not, ◌||◌, ◌==◌, nat_lt, nat_le, if◌then◌else◌, List, [], ◌∷◌, Option, Some, None, is_none, decimal}
+use Rattle.std.specs.Prelude.{◌≡◌, ℕ, zero, suc, ◌^◌, Bool, true, false, not, ◌||◌, ◌==◌, nat_lt, nat_le, if◌then◌else◌, List, [], ◌∷◌, length, Option, Some, None, is_none, decimal}
 use Rattle.mbe_tt.specs.declared.span.Span.{Span}
 use Rattle.mbe_semantics.specs.declared.kinds.RepeatKind.{RepeatKind}
 use Rattle.mbe_semantics.specs.declared.kinds.RepeatKind.TheVariants.{ZeroOrOne, OneOrMore, ZeroOrMore}
@@ -14,7 +14,7 @@ use Rattle.mbe_tt.specs.declared.tt.DelimiterKind.TheVariants.{Invisible}
 use Rattle.mbe_tt.specs.Trees.Tree as tree
 use Rattle.mbe_tt.specs.Trees.Tree.{Forest, none, leaf, append}
 use Rattle.mbe_semantics.specs.Syntax.Op as ops
-use Rattle.mbe_semantics.specs.Syntax.Op.{Name, Token, Separator, ident_separator, literal_separator, punct_separator, lifetime_separator, Element, Expression, ignore, count, index, len, concat, Op, Ops, no_ops, op}
+use Rattle.mbe_semantics.specs.Syntax.Op.{Name, Token, Separator, ident_separator, literal_separator, punct_separator, lifetime_separator, Element, Expression, ignore, count, index, len, nesting, concat, Op, Ops, no_ops, op}
 use Rattle.mbe_tt.specs.Fragments.Grammar.{Grammar}
 use Rattle.mbe_semantics.specs.Bindings.Environment.{Value, fragment, missing, Environment, value_of}
 use Rattle.mbe_semantics.specs.Bindings.Missing.{default_trees}
@@ -46,6 +46,7 @@ expression_faults env path (ignore name span) = not (is_simple (followed env pat
 expression_faults env path (count name depth) = not (is_counted depth (followed env path name))
 expression_faults env path (index depth) = false
 expression_faults env path (len depth) = false
+expression_faults env path nesting = false
 expression_faults env path (concat elements span) = is_none (concat_text env path elements)
 
 -- too many rounds, or none where one has to be
@@ -176,6 +177,7 @@ module _ (g : Grammar) (Marks : Span → Span → Type 0) (call_site : Span) (en
   IsExpression path (count name depth) out = out ≡ integer (total_of depth (followed env path name)) call_site
   IsExpression path (index depth) out = out ≡ integer (index_of (level_at path depth)) call_site
   IsExpression path (len depth) out = out ≡ integer (rounds_in (level_at path depth)) call_site
+  IsExpression path nesting out = out ≡ integer (length path) call_site
   IsExpression path (concat elements span) out = IsConcat span (concat_text env path elements) out
 
   -- the op writes these trees, in the rounds of the path
