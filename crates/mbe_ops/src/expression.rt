@@ -140,11 +140,14 @@ fn next_variable<'a, A: Allocator>(
         ≡ record { used = for_fragment r.0.now.sym; place = Some r.0.now.span }
         ∷ mentions_of_elements (elements_seen r.1.now)) }
 {
-    let (element, rest) = elements.split_first()?;
-    match element {
-        ConcatMetaVarExprElem::Var(variable) => Some((variable, rest)),
-        ConcatMetaVarExprElem::Ident(_) | ConcatMetaVarExprElem::Literal(_) => next_variable(rest),
+    let mut left = elements;
+    'elements: while let Some((element, rest)) = left.split_first() {
+        left = rest;
+        if let ConcatMetaVarExprElem::Var(variable) = element {
+            return Some((variable, left));
+        }
     }
+    None
 }
 
 pub(crate) fn copied_expression<A: Allocator + Copy>(
