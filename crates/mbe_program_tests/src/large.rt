@@ -91,7 +91,8 @@ fn groups_in_one_another_are_taken_and_entered(rt: HostRuntime) -> Result<(), Wr
     each(rt.alloc(), &Worked(EDITION), GROUPS, 3)
 }
 
-// The names of a variable and of the argument, of 100,000 letters each; and a rule after a thousand that don't fit.
+// The names of a variable and of the argument, of 100,000 letters each; a name of 200,000 parts; and a rule after a thousand that
+// don't fit.
 const LONG: &str = rows![
     (
         "($«100000 x»:ident) => {${concat(b, $«100000 x»)}}",
@@ -99,6 +100,13 @@ const LONG: &str = rows![
         "",
         0,
         "  IDENT   b«100000 a» 0@100016..100022\n",
+    ),
+    (
+        "($($x:ident)*) => {$(${concat(«200000 a,»$x)})*}",
+        "b",
+        "",
+        0,
+        "  IDENT   «200000 a»b 0@23..29\n",
     ),
     (
         "«1000 (b) => {};»(a) => {c}",
@@ -118,7 +126,7 @@ const LONG: &str = rows![
 
 #[test]
 fn names_and_definitions_are_long(rt: HostRuntime) -> Result<(), Wrong> {
-    each(rt.alloc(), &Worked(EDITION), LONG, 3)
+    each(rt.alloc(), &Worked(EDITION), LONG, 4)
 }
 
 // What is printed of so many words of a file, from that byte on.
