@@ -1,7 +1,7 @@
 """Calls beside operators, groups and statements: what an expansion is put in so that the text means what the call meant. Worked
 out by hand, by the precedences of the Rust Reference.
 """
-from expanded import check_like
+from expandm import check_like
 
 # A definition, what follows it, and what that becomes.
 ROWS = (

@@ -1,5 +1,5 @@
 """Names that hygiene keeps apart. Which ones these are was worked out by the rules of hygiene."""
-from expanded import check_becomes, check_like, defined, joined, objects
+from expandm import check_becomes, check_like, defined, joined, objects
 
 # A definition, a call of it, and the notes: each with the byte of the call's line, or of the definition's (from 0), where it is.
 ROWS = (

@@ -1,7 +1,7 @@
 """What is reported of calls beside errors: what rules say of them, steps, and where tokens are from. Where each rule stops, what it
 wants there, what its variables took, and where each token is from was worked out by hand.
 """
-from expanded import defined, joined, notes, notes_in_lines, objects, shown
+from expandm import defined, joined, notes, notes_in_lines, objects, shown
 
 # A definition, a call of it in the next line, and what its rules say: each note with its line and column.
 ROWS = (

@@ -2,7 +2,7 @@
 makes of such calls: `u8 < 1` after `as` begins generic arguments, `stringify!` shows no parentheses that the argument doesn't have,
 `concat!` takes none, and `line!()` and `column!()` are the place of the outermost call.
 """
-from expanded import check_like
+from expandm import check_like
 
 # A definition, what follows it, and what that becomes.
 TYPES = (

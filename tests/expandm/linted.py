@@ -4,7 +4,7 @@ it. The rest was worked out by hand.
 """
 import re
 
-from expanded import joined, messages, objects, shown
+from expandm import joined, messages, objects, shown
 
 # The list of specifiers, which is said of each unknown one.
 VALID = (

@@ -1,7 +1,7 @@
 """What the files of crates become whose modules are in files, and where each is written."""
 import os
 
-from expanded import counted, files_of
+from expandm import counted, files_of
 
 # Words, of which the last is a crate's root; files, that one first, each `PATH: TEXT` and a `|` after it; what they become, a `|` after
 # each; and how many notes there are.

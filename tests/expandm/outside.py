@@ -1,5 +1,5 @@
 """What calls of macros of other crates become."""
-from expanded import counted, files_of
+from expandm import counted, files_of
 
 # Words; files, each `PATH: TEXT` with a `|` between them, the one that the words name first, and then the roots of other crates; what
 # the first file becomes; and how many notes there are.

@@ -1,7 +1,7 @@
 """Programs with each kind of fragment, with repetitions, and with calls in calls. What they become was worked out by hand, by the
 rules of macros; where the text has white space is the writer's choice.
 """
-from expanded import check_like
+from expandm import check_like
 
 # A definition, what follows it, and what that becomes.
 ROWS = (

@@ -1,5 +1,5 @@
 """What a file's text becomes."""
-from expanded import counted
+from expandm import counted
 
 M = "macro_rules! m { () => { m!(1) }; (1) => { 1 } }\n"
 
