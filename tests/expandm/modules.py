@@ -158,7 +158,7 @@ TARGETS = (
     ("", "/b.rs", "none"),
 )
 
-# The folder of the run, in which the absolute paths of rows are.
+# The folder of the run, in which the absolute paths of rows are: no test writes into `/` itself.
 HERE = "/proc/self/cwd"
 
 

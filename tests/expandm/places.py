@@ -1,7 +1,7 @@
 """Lines and columns of a text's bytes."""
 
-# A text, a byte of it, the line and the column of that, and the line's text. A byte counts as if lines ended with a line feed alone;
-# one beyond the text is its end.
+# A text, a byte of it, the line and the column of that, and the line's text. A byte counts as if lines ended with a line feed alone.
+# Nothing is reported beyond a text: a byte there is tried as its end.
 ROWS = (
     ("", 0, 1, 1, ""),
     ("", 9, 1, 1, ""),
