@@ -8,8 +8,8 @@ from expandm import joined, messages, objects, shown
 
 # The list of specifiers, which is said of each unknown one.
 VALID = (
-    "valid fragment specifiers are `ident`, `block`, `stmt`, `expr`, `pat`, `ty`, `lifetime`, `literal`, `path`, `meta`, "
-    "`tt`, `item` and `vis`, along with `expr_2021` and `pat_param` for edition compatibility"
+    "valid fragment specifiers are `ident`, `block`, `stmt`, `expr`, `pat`, `ty`, `lifetime`, `literal`, `path`, "
+    "`meta`, `tt`, `item` and `vis`, along with `expr_2021` and `pat_param` for edition compatibility"
 )
 
 # A file, and what is said of its definitions.
