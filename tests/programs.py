@@ -55,8 +55,11 @@ def in_text(output):
 
 
 def write(folder, path, text):
+    """Writes a file, with the folders that it is in; a path that ends with a `/` is a folder alone."""
     at = os.path.join(folder, path)
     os.makedirs(os.path.dirname(at), exist_ok=True)
+    if path.endswith("/"):
+        return
     with open(at, "wb") as it:
         it.write(in_bytes(text))
 

@@ -9,7 +9,7 @@ Each row is a definition, and what is found of it: `followed NAME A B`, `twice N
 follows. rustc has to report each of these at its last place, and nothing else; it counts the `$` of a variable, which is one byte before its
 name. Rows that differ are printed, and the status is 1 if there is one.
 
-Then in those of `crates/mbe_expandm_tests/src/linted.rt`, by line, column and words: each error of a row that rustc has words for, and that a variable
+Then in those of `tests/expandm/linted.py`, by line, column and words: each error of a row that rustc has words for, and that a variable
 still repeats, of which rustc warns. And for each unknown specifier there, which field it names where a struct has the specifiers as fields.
 """
 import json
@@ -19,7 +19,11 @@ import subprocess
 import sys
 import tempfile
 
+sys.dont_write_bytecode = True
 TOP = os.path.dirname(os.path.dirname(os.path.abspath(__file__)))
+sys.path.insert(0, f"{TOP}/tests")
+from expandm import linted  # noqa: E402
+
 ROW = re.compile(r'^    \(\s*"((?:[^"\\]|\\.)*)",\s*"((?:[^"\\]|\\.)*)",?\s*\),', re.M)
 KINDS = (("followed", "followed"), ("duplicate", "twice"), ("invalid fragment", "unknown"))
 
@@ -57,20 +61,6 @@ def reported(rustc, all_rows):
             place = spans[0]["column_start"] - 1 - len("macro_rules! m { ")
             found.setdefault(spans[0]["line_start"] - 1, []).append((kind, place))
     return found
-
-
-def linted():
-    """The test of reports."""
-    with open(f"{TOP}/crates/mbe_expandm_tests/src/linted.rt", encoding="utf-8") as it:
-        return it.read()
-
-
-def texts(name):
-    """The strings of a table's rows in the test, by row."""
-    table = re.search(rf"^pub\(crate\) const {name}: &str = rows!\[\n(.*?)^\];", linted(), re.M | re.S).group(1)
-    pair = re.compile(r'\(\s*"((?:[^"\\]|\\.)*)",\s*"((?:[^"\\]|\\.)*)",?\s*\),', re.S)
-    unescaped = lambda text: re.sub(r"\\\n\s*", "", text).encode().decode("unicode_escape")
-    return [tuple(unescaped(part) for part in row.groups()) for row in pair.finditer(table)]
 
 
 def messages(rustc, text):
@@ -116,7 +106,7 @@ def differing_names(rustc, all_rows):
 def main():
     rustc = sys.argv[1] if len(sys.argv) > 1 else "rustc"
     differ = differing_rows(rustc)
-    for what, all_rows, found in (("files", texts("DEFINITIONS"), differing_files), ("names", texts("SIMILAR"), differing_names)):
+    for what, all_rows, found in (("files", linted.DEFINITIONS, differing_files), ("names", linted.SIMILAR, differing_names)):
         lines = list(found(rustc, all_rows))
         print("".join(f"{line}\n" for line in lines) + f"{len(all_rows)} {what}, {len(lines)} differ")
         differ += len(lines) + (not all_rows)

@@ -1,20 +1,19 @@
-// What calls of macros of other crates become.
-use crate::runs::{notes_len, texts_of, words_of, written};
-use mbe_expandm::sessions::Named;
-use std::alloc::{AllocError, Global};
-use test_rows::{number, rows};
+"""What calls of macros of other crates become."""
+from expandm import counted, files_of
 
-// Words; files, each `PATH: TEXT` with a `|` between them, the one that the words name first, and then the roots of other crates; what
-// the first file becomes; and how many notes there are.
-pub(crate) const ROWS: &str = rows![
+# Words; files, each `PATH: TEXT` with a `|` between them, the one that the words name first, and then the roots of other crates; what
+# the first file becomes; and how many notes there are.
+ROWS = (
     (
         "--extern maths=maths.rs a.rs",
-        "a.rs: use maths::squares;
+        """\
+a.rs: use maths::squares;
 const A: [u32; 2] = squares![3, 4];|maths.rs: pub const fn square(x: u32) -> u32 { x * x }
 #[macro_export]
-macro_rules! squares { ($($x:expr),*) => { [$($crate::square($x)),*] }; }",
-        "use maths::squares;
-const A: [u32; 2] = [::maths::square(3), ::maths::square(4)];",
+macro_rules! squares { ($($x:expr),*) => { [$($crate::square($x)),*] }; }""",
+        """\
+use maths::squares;
+const A: [u32; 2] = [::maths::square(3), ::maths::square(4)];""",
         0,
     ),
     (
@@ -31,7 +30,8 @@ const A: [u32; 2] = [::maths::square(3), ::maths::square(4)];",
     ),
     (
         "--extern b=b.rs a.rs",
-        "a.rs: #[macro_use] extern crate b; mod a { fn f() { m!() } }|b.rs: mod n { #[macro_export] macro_rules! m { () => { 1 } } }",
+        "a.rs: #[macro_use] extern crate b; mod a { fn f() { m!() } }|"
+        "b.rs: mod n { #[macro_export] macro_rules! m { () => { 1 } } }",
         "#[macro_use] extern crate b; mod a { fn f() { 1 } }",
         0,
     ),
@@ -55,16 +55,13 @@ const A: [u32; 2] = [::maths::square(3), ::maths::square(4)];",
     ),
     (
         "--extern b=b.rs a.rs",
-        "a.rs: x = b::m!() + b::n!();|b.rs: #[rustc_builtin_macro] #[macro_export] macro_rules! m { () => { 1 } } #[macro_export] macro_rules! n { () => { 2 } }",
+        "a.rs: x = b::m!() + b::n!();|"
+        "b.rs: #[rustc_builtin_macro] #[macro_export] macro_rules! m { () => { 1 } } "
+        "#[macro_export] macro_rules! n { () => { 2 } }",
         "x = b::m!() + 2;",
         0,
     ),
-    (
-        "--extern b=b.rs a.rs",
-        "a.rs: x = b::n::m!();|b.rs: pub mod n { pub macro m() { 1 } }",
-        "x = 1;",
-        0,
-    ),
+    ("--extern b=b.rs a.rs", "a.rs: x = b::n::m!();|b.rs: pub mod n { pub macro m() { 1 } }", "x = 1;", 0),
     (
         "--extern b=b.rs a.rs",
         "a.rs: macro_rules! m { () => { 2 } } x = m!() + b::m!();|b.rs: #[macro_export] macro_rules! m { () => { 1 } }",
@@ -73,13 +70,15 @@ const A: [u32; 2] = [::maths::square(3), ::maths::square(4)];",
     ),
     (
         "--extern b=b.rs a.rs",
-        "a.rs: #[macro_export] macro_rules! m { () => { b::m!() } } x = [m!(), crate::m!()];|b.rs: #[macro_export] macro_rules! m { () => { 1 } }",
+        "a.rs: #[macro_export] macro_rules! m { () => { b::m!() } } x = [m!(), crate::m!()];|"
+        "b.rs: #[macro_export] macro_rules! m { () => { 1 } }",
         "#[macro_export] macro_rules! m { () => { b::m!() } } x = [1, 1];",
         0,
     ),
     (
         "--extern b=b.rs a.rs",
-        "a.rs: mod n { x = m!(); } mod o { macro_rules! m { () => { 2 } } }|b.rs: #[macro_export] macro_rules! m { () => { 1 } }",
+        "a.rs: mod n { x = m!(); } mod o { macro_rules! m { () => { 2 } } }|"
+        "b.rs: #[macro_export] macro_rules! m { () => { 1 } }",
         "mod n { x = 1; } mod o { macro_rules! m { () => { 2 } } }",
         0,
     ),
@@ -103,19 +102,23 @@ const A: [u32; 2] = [::maths::square(3), ::maths::square(4)];",
     ),
     (
         "--extern b=b.rs a.rs",
-        "a.rs: x = b::m!();|b.rs: #[macro_export] macro_rules! m { () => { $crate::n!() } } #[macro_export] macro_rules! n { () => { 3 } }",
+        "a.rs: x = b::m!();|"
+        "b.rs: #[macro_export] macro_rules! m { () => { $crate::n!() } } #[macro_export] macro_rules! n { () => { 3 } "
+        "}",
         "x = 3;",
         0,
     ),
     (
         "--extern b=b.rs a.rs",
-        "a.rs: x = b::m!();|b.rs: #[macro_export] macro_rules! m { () => { n!() } } #[macro_export] macro_rules! n { () => { 3 } }",
+        "a.rs: x = b::m!();|"
+        "b.rs: #[macro_export] macro_rules! m { () => { n!() } } #[macro_export] macro_rules! n { () => { 3 } }",
         "x = 3;",
         0,
     ),
     (
         "--extern b=b.rs a.rs",
-        "a.rs: x = b::m!();|b.rs: #[macro_export] macro_rules! m { () => { f(n!(), $crate::n!()) } } macro_rules! n { () => { 3 } }",
+        "a.rs: x = b::m!();|"
+        "b.rs: #[macro_export] macro_rules! m { () => { f(n!(), $crate::n!()) } } macro_rules! n { () => { 3 } }",
         "x = f(n!(), ::b::n!());",
         0,
     ),
@@ -127,19 +130,25 @@ const A: [u32; 2] = [::maths::square(3), ::maths::square(4)];",
     ),
     (
         "--extern b=b.rs a.rs",
-        "a.rs: fn f(a: i32) -> i32 { b::m!(a) }|b.rs: #[macro_export] macro_rules! m { ($x:expr) => {{ let a = 1; $x + a }} }",
+        "a.rs: fn f(a: i32) -> i32 { b::m!(a) }|"
+        "b.rs: #[macro_export] macro_rules! m { ($x:expr) => {{ let a = 1; $x + a }} }",
         "fn f(a: i32) -> i32 { {\n    let a_1 = 1;\n    a + a_1\n} }",
         0,
     ),
     (
         "--extern b=b.rs --extern c=c.rs a.rs",
-        "a.rs: x = b::m!() + c::m!() + m!();|b.rs: #[macro_export] macro_rules! m { () => { 1 } }|c.rs: #[macro_export] macro_rules! m { () => { 2 } }",
+        "a.rs: x = b::m!() + c::m!() + m!();|"
+        "b.rs: #[macro_export] macro_rules! m { () => { 1 } }|"
+        "c.rs: #[macro_export] macro_rules! m { () => { 2 } }",
         "x = 1 + 2 + m!();",
         0,
     ),
     (
         "--extern b=b.rs --extern c=c.rs a.rs",
-        "a.rs: x = [m!(), n!()];|b.rs: #[macro_export] macro_rules! m { () => { $crate::n!() } } #[macro_export] macro_rules! n { () => { 1 } }|c.rs: #[macro_export] macro_rules! n { () => { 2 } }",
+        "a.rs: x = [m!(), n!()];|"
+        "b.rs: #[macro_export] macro_rules! m { () => { $crate::n!() } } #[macro_export] macro_rules! n { () => { 1 } "
+        "}|"
+        "c.rs: #[macro_export] macro_rules! n { () => { 2 } }",
         "x = [1, n!()];",
         0,
     ),
@@ -149,12 +158,7 @@ const A: [u32; 2] = [::maths::square(3), ::maths::square(4)];",
         "x = 1;",
         0,
     ),
-    (
-        "--extern b=b.rs a.rs",
-        "a.rs: x = b::m!();|b.rs: \"",
-        "x = b::m!();",
-        1,
-    ),
+    ("--extern b=b.rs a.rs", 'a.rs: x = b::m!();|b.rs: "', "x = b::m!();", 1),
     (
         "--extern b=b.rs a.rs",
         "a.rs: x = b::m!(2);|b.rs: #[macro_export] macro_rules! m { () => { 1 } }",
@@ -187,31 +191,44 @@ const A: [u32; 2] = [::maths::square(3), ::maths::square(4)];",
     ),
     (
         "--extern b=b.rs --extern c=c.rs --extern d=d.rs a.rs",
-        "a.rs: x = b::k!();|b.rs: pub use d::k;|c.rs: #[macro_export] macro_rules! m { () => { 1 } }|d.rs: pub use c::m as k;",
+        "a.rs: x = b::k!();|"
+        "b.rs: pub use d::k;|"
+        "c.rs: #[macro_export] macro_rules! m { () => { 1 } }|"
+        "d.rs: pub use c::m as k;",
         "x = 1;",
         0,
     ),
     (
         "--extern b=b.rs --extern c=c.rs --extern d=d.rs a.rs",
-        "a.rs: x = b::m!();|b.rs: pub use d::*;|c.rs: #[macro_export] macro_rules! m { () => { 1 } }|d.rs: pub use c::*;",
+        "a.rs: x = b::m!();|"
+        "b.rs: pub use d::*;|"
+        "c.rs: #[macro_export] macro_rules! m { () => { 1 } }|"
+        "d.rs: pub use c::*;",
         "x = 1;",
         0,
     ),
     (
         "--extern b=b.rs --extern c=c.rs a.rs",
-        "a.rs: x = b::m!();|b.rs: pub use c::m;|c.rs: pub fn f() -> i32 { 7 } #[macro_export] macro_rules! m { () => { $crate::f() } }",
+        "a.rs: x = b::m!();|"
+        "b.rs: pub use c::m;|"
+        "c.rs: pub fn f() -> i32 { 7 } #[macro_export] macro_rules! m { () => { $crate::f() } }",
         "x = ::c::f();",
         0,
     ),
     (
         "--extern b=b.rs --extern c=c.rs a.rs",
-        "a.rs: x = (b::m!(), b::k!());|b.rs: pub use c::{m, n as k, o::*};|c.rs: #[macro_export] macro_rules! m { () => { 1 } } #[macro_export] macro_rules! n { () => { 2 } } pub mod o { pub fn g() {} }",
+        "a.rs: x = (b::m!(), b::k!());|"
+        "b.rs: pub use c::{m, n as k, o::*};|"
+        "c.rs: #[macro_export] macro_rules! m { () => { 1 } } #[macro_export] macro_rules! n { () => { 2 } } "
+        "pub mod o { pub fn g() {} }",
         "x = (1, 2);",
         0,
     ),
     (
         "--extern b=b.rs --extern c=c.rs a.rs",
-        "a.rs: x = (b::m!(), b::k!());|b.rs: pub use {c::m, c::{n as k}};|c.rs: #[macro_export] macro_rules! m { () => { 1 } } #[macro_export] macro_rules! n { () => { 2 } }",
+        "a.rs: x = (b::m!(), b::k!());|"
+        "b.rs: pub use {c::m, c::{n as k}};|"
+        "c.rs: #[macro_export] macro_rules! m { () => { 1 } } #[macro_export] macro_rules! n { () => { 2 } }",
         "x = (1, 2);",
         0,
     ),
@@ -235,13 +252,18 @@ const A: [u32; 2] = [::maths::square(3), ::maths::square(4)];",
     ),
     (
         "--extern b=b.rs --extern c=c.rs --extern d=d.rs a.rs",
-        "a.rs: x = b::m!();|b.rs: pub use c::*; pub use d::m;|c.rs: #[macro_export] macro_rules! m { () => { 1 } }|d.rs: #[macro_export] macro_rules! m { () => { 2 } }",
+        "a.rs: x = b::m!();|"
+        "b.rs: pub use c::*; pub use d::m;|"
+        "c.rs: #[macro_export] macro_rules! m { () => { 1 } }|"
+        "d.rs: #[macro_export] macro_rules! m { () => { 2 } }",
         "x = 2;",
         0,
     ),
     (
         "--extern b=b.rs --extern c=c.rs a.rs",
-        "a.rs: x = b::m!();|b.rs: #[macro_export] macro_rules! m { () => { 3 } } pub use c::*;|c.rs: #[macro_export] macro_rules! m { () => { 1 } }",
+        "a.rs: x = b::m!();|"
+        "b.rs: #[macro_export] macro_rules! m { () => { 3 } } pub use c::*;|"
+        "c.rs: #[macro_export] macro_rules! m { () => { 1 } }",
         "x = 3;",
         0,
     ),
@@ -259,7 +281,9 @@ const A: [u32; 2] = [::maths::square(3), ::maths::square(4)];",
     ),
     (
         "--extern b=b.rs --extern c=c.rs a.rs",
-        "a.rs: x = b::m!();|b.rs: extern crate c as e; pub use e::m;|c.rs: #[macro_export] macro_rules! m { () => { 1 } }",
+        "a.rs: x = b::m!();|"
+        "b.rs: extern crate c as e; pub use e::m;|"
+        "c.rs: #[macro_export] macro_rules! m { () => { 1 } }",
         "x = 1;",
         0,
     ),
@@ -283,7 +307,9 @@ const A: [u32; 2] = [::maths::square(3), ::maths::square(4)];",
     ),
     (
         "--extern b=b.rs --extern c=c.rs a.rs",
-        "a.rs: x = b::m!();|b.rs: pub use c::n::*;|c.rs: #[macro_export] macro_rules! m { () => { 1 } } pub mod n { pub fn f() {} }",
+        "a.rs: x = b::m!();|"
+        "b.rs: pub use c::n::*;|"
+        "c.rs: #[macro_export] macro_rules! m { () => { 1 } } pub mod n { pub fn f() {} }",
         "x = b::m!();",
         0,
     ),
@@ -295,31 +321,34 @@ const A: [u32; 2] = [::maths::square(3), ::maths::square(4)];",
     ),
     (
         "--extern b=b.rs --extern c=c.rs a.rs",
-        "a.rs: x = b::m!();|b.rs: pub use c::m;|c.rs: #[macro_export] macro_rules! m { () => { $crate::n!() } } #[macro_export] macro_rules! n { () => { 4 } }",
+        "a.rs: x = b::m!();|"
+        "b.rs: pub use c::m;|"
+        "c.rs: #[macro_export] macro_rules! m { () => { $crate::n!() } } #[macro_export] macro_rules! n { () => { 4 } "
+        "}",
         "x = 4;",
         0,
     ),
     (
         "--extern b=b.rs --extern c=c.rs a.rs",
-        "a.rs: x = b::o!();|b.rs: pub use c::m; #[macro_export] macro_rules! o { () => { $crate::m!() + 1 } }|c.rs: #[macro_export] macro_rules! m { () => { 1 } }",
+        "a.rs: x = b::o!();|"
+        "b.rs: pub use c::m; #[macro_export] macro_rules! o { () => { $crate::m!() + 1 } }|"
+        "c.rs: #[macro_export] macro_rules! m { () => { 1 } }",
         "x = 1 + 1;",
         0,
     ),
     (
         "--extern b=b.rs --extern c=c.rs a.rs",
-        "a.rs: x = b::m!();|b.rs: pub use c::*; pub use c::*;|c.rs: pub use b::*; #[macro_export] macro_rules! m { () => { 1 } }",
+        "a.rs: x = b::m!();|"
+        "b.rs: pub use c::*; pub use c::*;|"
+        "c.rs: pub use b::*; #[macro_export] macro_rules! m { () => { 1 } }",
         "x = 1;",
         0,
     ),
+    ("--extern b=b.rs a.rs", "a.rs: x = 1;|b.rs: #[macro_export] macro_rules! m { ($x) => { 1 } }", "x = 1;", 0),
     (
         "--extern b=b.rs a.rs",
-        "a.rs: x = 1;|b.rs: #[macro_export] macro_rules! m { ($x) => { 1 } }",
-        "x = 1;",
-        0,
-    ),
-    (
-        "--extern b=b.rs a.rs",
-        "a.rs: x = b::n!();|b.rs: #[macro_export] macro_rules! m { ($x) => { 1 } } #[macro_export] macro_rules! n { () => { 2 } }",
+        "a.rs: x = b::n!();|"
+        "b.rs: #[macro_export] macro_rules! m { ($x) => { 1 } } #[macro_export] macro_rules! n { () => { 2 } }",
         "x = 2;",
         0,
     ),
@@ -341,32 +370,12 @@ const A: [u32; 2] = [::maths::square(3), ::maths::square(4)];",
         "macro_rules! m { ($x) => { 1 } } x = m!(3);",
         1,
     ),
-];
+)
 
-// Whether the first of these texts is that one, and the others are as they were.
-fn are_texts(texts: &[String], files: &[Named], want: &str) -> bool {
-    match (texts, files) {
-        ([first, others @ ..], [_, rest @ ..]) => {
-            first.as_str() == want
-                && others
-                    .iter()
-                    .zip(rest.iter())
-                    .all(|(text, file)| text.as_str() == file.text.as_str())
-        }
-        _ => false,
-    }
-}
 
-/// Whether the first file becomes that by these words, the others stay, and there are so many notes.
-pub(crate) fn is_expanded(
-    alloc: Global,
-    words: &str,
-    row: &str,
-    (want, notes): (&str, &str),
-) -> Result<bool, AllocError> {
-    let words = words_of(alloc, words)?;
-    let files = texts_of(alloc, row)?;
-    let (session, texts) = written(alloc, &words, &files)?;
-    let is_counted = notes_len(&session) == number(notes);
-    Ok(are_texts(texts.as_slice(), files.as_slice(), want) && is_counted)
-}
+def test(program):
+    for row in ROWS:
+        words, texts, want, count = row
+        files = files_of(texts)
+        ran, found = counted(program, words.split(), files)
+        program.check("outside.ROWS", row, (ran.out, found, ran.files), (want, count, files))

@@ -1,0 +1,75 @@
+"""What the tests of `expandm` have in common: texts with a definition, files in rows, and what is in reports."""
+import json
+import re
+
+
+def defined(rules, rest):
+    """The text of a definition and what follows it in the next line."""
+    return f"macro_rules! {rules}\n{rest}"
+
+
+def check_becomes(program, table, row, text, want):
+    """A text becomes that, calls nine deep in others too, and nothing is reported."""
+    ran = program.run(["--depth", "9", "a.rs"], {"a.rs": text})
+    program.check(table, row, (ran.status, ran.out, ran.err), (0, want, ""))
+
+
+def check_like(program, table, rows):
+    """What follows a definition becomes what the row says, and nothing is reported."""
+    for row in rows:
+        rules, rest, want = row
+        check_becomes(program, table, row, defined(rules, rest), defined(rules, want))
+
+
+def files_of(row):
+    """Files by path, each `PATH: TEXT`, with a `|` between them."""
+    return dict(file.split(": ", 1) for file in row.split("|"))
+
+
+def objects(err):
+    """The reports in JSON, an object in each line."""
+    return [json.loads(line) for line in err.splitlines()]
+
+
+def shown(report):
+    """An object's line and column, its bytes, its level and its message."""
+    (at,) = report["spans"]
+    place = f"{at['line_start']}:{at['column_start']} {at['byte_start']}..{at['byte_end']}"
+    return f"{place} {report['level']}: {report['message']}\n"
+
+
+def counted(program, words, files, stdin=""):
+    """A run, and how many reports it has, in lines as in JSON, which changes nothing else. Its status is 1 just if one is an error."""
+    ran = program.run(words, files, stdin)
+    again = program.run(["--json", *words], files, stdin)
+    reports = objects(again.err)
+    in_lines = re.findall(r"^\S+:\d+:\d+: (error|note): ", ran.err, re.M)
+    is_so = [report["level"] for report in reports] == in_lines and ran.status == int("error" in in_lines)
+    is_same = (ran.status, ran.out, ran.files) == (again.status, again.out, again.files)
+    return ran, len(reports) if is_so and is_same else (ran, again)
+
+
+def messages(err):
+    """The reports in the form of rustc, each as its line and column, its level and its message."""
+    found, last = [], ""
+    for line in err.split("\n"):
+        if line.startswith(" --> a.rs:"):
+            found.append(f"{line.removeprefix(' --> a.rs:')} {last}")
+        elif re.match("(error|warning|note|help): ", line):
+            last = line
+    return found
+
+
+def notes(err):
+    """The notes in the form of rustc, each as its line and column and its message."""
+    return [f"{place} {note}" for place, _, note in (it.partition(" note: ") for it in messages(err)) if note]
+
+
+def notes_in_lines(err):
+    """The same of notes in the form `FILE:LINE:COL: note: MESSAGE`."""
+    return [f"{place} {note}" for place, note in re.findall(r"^a\.rs:(\d+:\d+): note: (.*)$", err, re.M)]
+
+
+def joined(parts):
+    """The parts with a `; ` after each."""
+    return "".join(f"{part}; " for part in parts)

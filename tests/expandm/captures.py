@@ -1,0 +1,128 @@
+"""Names that hygiene keeps apart. Which ones these are was worked out by the rules of hygiene."""
+from expandm import check_becomes, check_like, defined, joined, objects
+
+# A definition, a call of it, and the notes: each with the byte of the call's line, or of the definition's (from 0), where it is.
+ROWS = (
+    (
+        "m { ($x:ident) => { let $x = 1; a + $x } }",
+        "m!(a);",
+        "0:45 this `a` is the one that the call binds; 1:3 `a` is bound here; ",
+    ),
+    ("m { ($x:expr) => { let a = 1; a + $x } }", "m!(a);", ""),
+    ("m { ($x:ident) => { let $x = 1; $x } }", "m!(a);", ""),
+    ("m { ($x:ident) => { let a = 1; $x::b } }", "m!(a);", ""),
+    ("m { ($x:ident) => { let a = 1; let $x = 2; $x } }", "m!(a);", ""),
+    ("m { ($x:ident) => { { let $x = 1; } a } }", "m!(a);", ""),
+    (
+        "m { ($x:pat) => { f(|$x| a) } }",
+        "m!(a);",
+        "0:38 this `a` is the one that the call binds; 1:3 `a` is bound here; ",
+    ),
+    (
+        "m { ($x:pat) => { match b { $x if c => a, _ => d } } }",
+        "m!(Some(a));",
+        "0:52 this `a` is the one that the call binds; 1:8 `a` is bound here; ",
+    ),
+    ("m { ($x:pat) => { for $x in a { b } } }", "m!(a);", ""),
+    # What may be the macro's local, and may be none.
+    (
+        "m { ($x:expr) => { let a = 1; S { a } + $x } }",
+        "m!(a);",
+        "0:47 `a` keeps its name, since this may be the one that a macro binds; 0:36 `a` is bound here; ",
+    ),
+    (
+        'm { ($x:expr) => { let a = 1; f!("{a}", $x) } }',
+        "m!(a);",
+        "0:46 `a` keeps its name, since this may be the one that a macro binds; 0:36 `a` is bound here; ",
+    ),
+    ("m { ($x:expr) => { let a = 1; S { a } + $x } }", "m!(b);", ""),
+    ("m { ($x:expr) => { fn f(a: u8) { a } $x } }", "m!(a);", ""),
+)
+
+# A definition, what follows it, and what that becomes: locals and labels of the macro have names of their own where others have
+# theirs. Where the text has white space is the writer's choice.
+RENAMED = (
+    ("m { ($x:expr) => {{ let a = 1; a + $x }} }", "y = m!(a);", "y = {\n    let a_1 = 1;\n    a_1 + a\n};"),
+    ("m { ($x:expr) => {{ let a = 1; a + $x }} }", "y = m!(b);", "y = {\n    let a = 1;\n    a + b\n};"),
+    (
+        "m { ($x:expr) => {{ let a = $x; a }} }",
+        "y = m!(m!(a));",
+        "y = {\n    let a_1 = ({\n        let a_2 = a;\n        a_2\n    });\n    a_1\n};",
+    ),
+    (
+        "m { ($x:expr) => {{ let a = 1; $x + a }} }",
+        "y = m!(a + a_1);",
+        "y = {\n    let a_2 = 1;\n    (a + a_1) + a_2\n};",
+    ),
+    (
+        "m { ($x:expr) => { 'a: loop { $x } } }",
+        "'a: loop { m!(break 'a) }",
+        "'a: loop { 'a_1: loop {\n    (break 'a)\n} }",
+    ),
+    ("m { ($x:expr) => { let a = $x; } }", "{ m!(1); f(a) }", "{ let a_1 = 1; f(a) }"),
+    ("m { ($x:expr) => { let a = $x; } }", "{ m!(1); f(b) }", "{ let a = 1; f(b) }"),
+    ("m { ($x:expr) => { let a = $x; } }", "{ f(a); m!(1); }", "{ f(a); let a = 1; }"),
+    ("m { ($x:expr) => { { let a = $x; } } }", "{ m!(1); f(a) }", "{ {\n    let a = 1;\n}; f(a) }"),
+    ("m { ($x:expr) => { |a| $x + a } }", "y = m!(a);", "y = |a_1| a + a_1;"),
+    (
+        "m { ($x:expr) => { match b { Some(a) => a, _ => $x } } }",
+        "y = m!(a);",
+        "y = match b {\n    Some(a_1) => a_1, _ => a\n};",
+    ),
+    ("m { ($x:expr) => { for (a, b) in c { $x } } }", "m!(f(b));", "for (a, b_1) in c {\n    (f(b))\n};"),
+    ("m { ($x:expr) => { if let Some(a) = $x { a } } }", "m!(a.b);", "if let Some(a_1) = (a.b) {\n    a_1\n};"),
+    (
+        "m { ($n:ident) => { macro_rules! $n { ($x:expr) => {{ let a = $x; a }} } } }",
+        "m!(n); y = n!(a);",
+        "macro_rules! n {\n    ($x:expr) => {\n        {\n            let a = $x;\n            a\n        }\n    }\n"
+        "} y = {\n    let a_1 = a;\n    a_1\n};",
+    ),
+    (
+        "m { ($n:ident $i:ident) => { macro_rules! $n { () => {{ let $i = 1; a + $i }} } } }",
+        "m!(n b); y = n!();",
+        "macro_rules! n {\n    () => {\n        {\n            let b = 1;\n            a + b\n        }\n    }\n"
+        "} y = {\n    let b = 1;\n    a + b\n};",
+    ),
+    ("m { ($i:ident $j:ident) => {{ let $i = 1; $j }} }", "y = m!(a a);", "y = {\n    let a = 1;\n    a\n};"),
+)
+
+# The example of docs/EXPANDM.md: a text, and what it becomes.
+EXAMPLES = (
+    (
+        """\
+macro_rules! swap_sum { ($x:expr, $y:expr) => {{ let a = $x; let b = $y; b - a }}; }
+fn f(a: i32) -> i32 { swap_sum!(a, swap_sum!(1, 2)) }
+""",
+        """\
+macro_rules! swap_sum { ($x:expr, $y:expr) => {{ let a = $x; let b = $y; b - a }}; }
+fn f(a: i32) -> i32 { {
+    let a_1 = a;
+    let b_1 = ({
+        let a_2 = 1;
+        let b_2 = 2;
+        b_2 - a_2
+    });
+    b_1 - a_1
+} }
+""",
+    ),
+)
+
+
+def noted(text, report):
+    """The line of a report, from 0, the byte of it where it is, and what it says but for where."""
+    before = text.encode()[: report["spans"][0]["byte_start"]]
+    line, byte = before.count(b"\n"), len(before.rpartition(b"\n")[2])
+    return f"{line}:{byte} {report['message'].removeprefix('in the expansion of `m!` ')}"
+
+
+def test(program):
+    for row in ROWS:
+        rules, call, want = row
+        text = defined(rules, call)
+        ran = program.run(["--depth", "9", "--json", "a.rs"], {"a.rs": text})
+        found = joined(noted(text, report) for report in objects(ran.err))
+        program.check("captures.ROWS", row, (ran.status, found), (0, want))
+    check_like(program, "captures.RENAMED", RENAMED)
+    for row in EXAMPLES:
+        check_becomes(program, "captures.EXAMPLES", row, *row)

@@ -1,0 +1,271 @@
+"""What is reported of calls beside errors: what rules say of them, steps, and where tokens are from. Where each rule stops, what it
+wants there, what its variables took, and where each token is from was worked out by hand.
+"""
+from expandm import defined, joined, notes, notes_in_lines, objects, shown
+
+# A definition, a call of it in the next line, and what its rules say: each note with its line and column.
+ROWS = (
+    (
+        "m { ($($x:expr),*) => {} }",
+        "m!(1, 2,);",
+        "2:9 rule 1 of `m!` doesn't go on here: it wants `$x:expr`; 1:22 `$x:expr` in rule 1 of `m!`; ",
+    ),
+    (
+        "m { ($($n:ident : $t:ty),*) => {} }",
+        "m!(x: u8, y);",
+        "2:12 rule 1 of `m!` doesn't go on here: it wants `:`; 1:30 `:` in rule 1 of `m!`; ",
+    ),
+    (
+        "m { ($($a:ident)* $b:ident) => {} }",
+        "m!(x y);",
+        "2:4 rule 1 of `m!` is ambiguous here: it goes on by `$a:ident` and by `$b:ident`; "
+        "1:22 `$a:ident` in rule 1 of `m!`; "
+        "1:33 `$b:ident` in rule 1 of `m!`; ",
+    ),
+    (
+        "m { ($k:ident => $v:ty) => {}; ($k:ident = $v:ty) => {} }",
+        "m!(a + u8);",
+        "2:6 rule 1 of `m!` doesn't go on here: it wants `=>`; "
+        "1:28 `=>` in rule 1 of `m!`; "
+        "2:6 rule 2 of `m!` doesn't go on here: it wants `=`; "
+        "1:55 `=` in rule 2 of `m!`; ",
+    ),
+    (
+        "m { ($($x:ident),* ; $y:ty) => {} }",
+        "m!(a b);",
+        "2:6 rule 1 of `m!` doesn't go on here: it wants `,` or `;`; "
+        "1:30 `,` in rule 1 of `m!`; "
+        "1:33 `;` in rule 1 of `m!`; ",
+    ),
+    ("m { (a) => {} }", "m!(a b);", "2:6 rule 1 of `m!` doesn't go on here: it wants the end of the call; "),
+    ("m { ((a)) => {} }", "m!((a b));", "2:7 rule 1 of `m!` doesn't go on here: it wants the end of the group; "),
+    (
+        "m { (a) => {}; (b) => {} }",
+        "m!(b);",
+        "2:4 rule 1 of `m!` doesn't go on here: it wants `a`; 1:19 `a` in rule 1 of `m!`; 2:5 rule 2 of `m!` fits; ",
+    ),
+    (
+        "m { ($(a)? $(a)?) => {} }",
+        "m!(a);",
+        "2:4 rule 1 of `m!` reads the call in several ways: here it goes on by `a` and by `a`; "
+        "1:21 `a` in rule 1 of `m!`; "
+        "1:27 `a` in rule 1 of `m!`; ",
+    ),
+    (
+        "m { ($(a)? $(a)? $x:ident) => {} }",
+        "m!(a b);",
+        "2:4 rule 1 of `m!` is ambiguous here: it goes on by `a` and by `$x:ident`; "
+        "1:21 `a` in rule 1 of `m!`; "
+        "1:32 `$x:ident` in rule 1 of `m!`; ",
+    ),
+    (
+        "m { ($(1)? $(1)? $x:ident) => {} }",
+        "m!(1 c);",
+        "2:6 rule 1 of `m!` is ambiguous here: it goes on by `$x:ident` in two ways; "
+        "1:32 `$x:ident` in rule 1 of `m!`; ",
+    ),
+    (
+        "m { ($a:ident $($x:expr),* ; $([$($y:ident)*])*) => {} }",
+        "m!(k 1, 2 + 3; [a b] [] [c]);",
+        "2:28 rule 1 of `m!` fits; "
+        "1:20 `$a:ident` in rule 1 of `m!` took `k`; "
+        "1:31 `$x:expr` in rule 1 of `m!` took `1`, `2 + 3` (2 rounds); "
+        "1:49 `$y:ident` in rule 1 of `m!` took (`a`, `b`), nothing, (`c`) (3 rounds); ",
+    ),
+    (
+        "m { ($v:vis fn $($x:ty),* ; $($y:ty);*) => {} }",
+        "m!(fn ; u8);",
+        "2:11 rule 1 of `m!` fits; "
+        "1:20 `$v:vis` in rule 1 of `m!` took nothing; "
+        "1:32 `$x:ty` in rule 1 of `m!` took nothing; "
+        "1:45 `$y:ty` in rule 1 of `m!` took `u8` (1 round); ",
+    ),
+    (
+        "m { ($b:block) => {} }",
+        "m!({ let a = 1; a });",
+        "2:20 rule 1 of `m!` fits; 1:20 `$b:block` in rule 1 of `m!` took `{ let a = 1; a }`; ",
+    ),
+    (
+        "m { ($($t:tt)*) => {} }",
+        "m!(a b c d e f g h i j k l m n o p q r);",
+        "2:39 rule 1 of `m!` fits; "
+        "1:22 `$t:tt` in rule 1 of `m!` took `a`, `b`, `c`, `d`, `e`, `f`, `g`, `h`, `i`, `j`, `k`, `l`, `m`, `n`, "
+        "`o`, `p`, … (18 rounds); ",
+    ),
+    (
+        "m { ($e:expr) => {} }",
+        'm!("123456789 123456789 123456789 123456789 123456789 123456789 ");',
+        "2:66 rule 1 of `m!` fits; "
+        '1:20 `$e:expr` in rule 1 of `m!` took `"123456789 123456789 123456789 123456789 123456789 123456789…`; ',
+    ),
+    (
+        "m { ($e:expr) => {} }",
+        'm!("123456789 123456789 123456789 123456789 123456789 12345678");',
+        "2:64 rule 1 of `m!` fits; "
+        '1:20 `$e:expr` in rule 1 of `m!` took `"123456789 123456789 123456789 123456789 123456789 12345678"`; ',
+    ),
+    (
+        "m { ($e:expr) => {} }",
+        'm!("123456789 123456789 123456789 123456789 123456789 1234567漢漢");',
+        "2:65 rule 1 of `m!` fits; "
+        '1:20 `$e:expr` in rule 1 of `m!` took `"123456789 123456789 123456789 123456789 123456789 1234567漢…`; ',
+    ),
+)
+
+# A definition, a call of it in the next line, and where each token of each expansion is from, in the order of the steps; a group is
+# where it opens. An expression with operators is in parentheses, which are where its variable is.
+ORIGINS = (
+    ("m { ($x:ident) => { fn $x() {} } }", "m!(a);", "1:34 `fn`; 2:4 `a`; 1:39 `(`; 1:42 `{`; "),
+    (
+        "m { ($e:expr) => { const A: u8 = $e; } }",
+        "m!(1 + 2);",
+        "1:33 `const`; 1:39 `A`; 1:40 `:`; 1:42 `u8`; 1:45 `=`; 1:48 `(`; 2:4 `1`; 2:6 `+`; 2:8 `2`; 1:49 `;`; ",
+    ),
+    (
+        "m { (a $x:ident) => { m!(b $x); }; (b $x:ident) => { struct $x; } }",
+        "m!(a C);",
+        "1:36 `m`; 1:37 `!`; 1:38 `(`; 1:39 `b`; 2:6 `C`; 1:44 `;`; 1:67 `struct`; 2:6 `C`; 1:76 `;`; ",
+    ),
+    ("m { ($($x:ident)*) => { $(struct $x;)* } }", "m!();", ""),
+)
+
+# A definition, a call of it in the next line, and what rustc 1.95 notes of it under `trace_macros`, but for line breaks, each at its
+# call.
+STEPS = (
+    ("m { ($x:ident) => { fn $x() {} } }", "m!(a);", "2:1 expanding `m! { a }`; 2:1 to `fn a () {}`; "),
+    (
+        "m { (a $x:ident) => { m!(b $x); }; (b $x:ident) => { struct $x; } }",
+        "m!(a C);",
+        "2:1 expanding `m! { a C }`; 2:1 to `m! (b C);`; 1:36 expanding `m! { b C }`; 1:36 to `struct C;`; ",
+    ),
+    (
+        "p { ($($k:ident = $v:expr),*) => { const ALL: &[(&str, u8)] = &[$((stringify!($k), $v)),*]; } }",
+        "p!(x = 1, y = 3);",
+        "2:1 expanding `p! { x = 1, y = 3 }`; "
+        "2:1 to `const ALL : & [(& str, u8)] = & [(stringify! (x), 1), (stringify! (y), 3)];`; ",
+    ),
+)
+
+# Words, a file, and what is reported of it: the example of docs/EXPANDM.md, and wide characters, which take two columns, where tabs
+# take four.
+REPORTS = (
+    (
+        "--explain 2:13 a.rs",
+        """\
+macro_rules! pair { ($k:ident => $v:expr) => {}; ($k:ident = $v:expr) => {}; }
+fn main() { pair!(a -> 1); pair!(b = 2 + 3); }
+""",
+        """\
+error: expected punct: `=>` in the call of `pair!`
+ --> a.rs:2:21
+  |
+2 | fn main() { pair!(a -> 1); pair!(b = 2 + 3); }
+  |                     ^
+note: rule 1 of `pair!` doesn't go on here: it wants `=>`
+ --> a.rs:2:21
+  |
+2 | fn main() { pair!(a -> 1); pair!(b = 2 + 3); }
+  |                     ^
+note: `=>` in rule 1 of `pair!`
+ --> a.rs:1:31
+  |
+1 | macro_rules! pair { ($k:ident => $v:expr) => {}; ($k:ident = $v:expr) => {}; }
+  |                               ^
+note: rule 2 of `pair!` doesn't go on here: it wants `=`
+ --> a.rs:2:21
+  |
+2 | fn main() { pair!(a -> 1); pair!(b = 2 + 3); }
+  |                     ^
+note: `=` in rule 2 of `pair!`
+ --> a.rs:1:60
+  |
+1 | macro_rules! pair { ($k:ident => $v:expr) => {}; ($k:ident = $v:expr) => {}; }
+  |                                                            ^
+""",
+    ),
+    (
+        "--explain 9 a.rs",
+        'macro_rules! m { (a) => {} }\n\tx("漢", m!(b));',
+        """\
+error: unexpected token in input in the call of `m!`
+ --> a.rs:2:12
+  |
+2 |     x("漢", m!(b));
+  |                ^
+""",
+    ),
+)
+
+# Words, the file of the example, and the notes on it.
+NOTES = (
+    (
+        "--explain 3 a.rs",
+        """\
+macro_rules! pair { ($k:ident => $v:expr) => {}; ($k:ident = $v:expr) => {}; }
+fn main() { pair!(a -> 1); pair!(b = 2 + 3); }
+""",
+        "",
+    ),
+    (
+        "--explain 2:28 a.rs",
+        """\
+macro_rules! pair { ($k:ident => $v:expr) => {}; ($k:ident = $v:expr) => {}; }
+fn main() { pair!(a -> 1); pair!(b = 2 + 3); }
+""",
+        "2:36 rule 1 of `pair!` doesn't go on here: it wants `=>`; "
+        "1:31 `=>` in rule 1 of `pair!`; "
+        "2:43 rule 2 of `pair!` fits; "
+        "1:52 `$k:ident` in rule 2 of `pair!` took `b`; "
+        "1:63 `$v:expr` in rule 2 of `pair!` took `2 + 3`; ",
+    ),
+)
+
+# Words, a file, and its objects. Where its lines end with carriage returns, too, bytes are those of the file as it is.
+OBJECTS = (
+    (
+        "--explain 2 a.rs",
+        "macro_rules! m { (a) => {} }\r\nm!(b);",
+        """\
+2:4 33..34 error: unexpected token in input in the call of `m!`
+2:4 33..34 note: rule 1 of `m!` doesn't go on here: it wants `a`
+1:19 18..19 note: `a` in rule 1 of `m!`
+""",
+    ),
+)
+
+
+def reported(program, words, text):
+    """What is on standard error of a run on the file `a.rs`."""
+    return program.run(words.split(), {"a.rs": text}).err
+
+
+def tokens(said):
+    """Of notes on tokens, the place and the token."""
+    return [note.split(" in the expansion of `m!`")[0] for note in said if " in the expansion of `m!`" in note]
+
+
+def test(program):
+    for row in ROWS:
+        rules, call, want = row
+        err = reported(program, "--explain 2:1 a.rs", defined(rules, call))
+        program.check("explained.ROWS", row, joined(notes(err)), want)
+    for row in ORIGINS:
+        rules, call, want = row
+        err = reported(program, "--origin a.rs", defined(rules, call))
+        program.check("explained.ORIGINS", row, joined(tokens(notes_in_lines(err))), want)
+    for row in STEPS:
+        rules, call, want = row
+        err = reported(program, "--trace a.rs", defined(rules, call))
+        # How tokens are spaced is no matter of theirs.
+        found = joined(notes_in_lines(err)).replace(" ", "")
+        program.check("explained.STEPS", row, found, want.replace(" ", ""))
+    for row in REPORTS:
+        words, text, want = row
+        program.check("explained.REPORTS", row, reported(program, words, text), want)
+    for row in NOTES:
+        words, text, want = row
+        program.check("explained.NOTES", row, joined(notes(reported(program, words, text))), want)
+    for row in OBJECTS:
+        words, text, want = row
+        found = objects(reported(program, f"--json {words}", text))
+        program.check("explained.OBJECTS", row, "".join(shown(report) for report in found), want)

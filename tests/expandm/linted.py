@@ -1,0 +1,273 @@
+"""What is said of definitions alone. Where a row's messages are errors, rustc 1.95 reports them with these words at these places, but
+for its `is followed by`; the specifiers that are similar are those that it names for fields of these names: tools/lint-rows.py asks
+it. The rest was worked out by hand.
+"""
+import re
+
+from expandm import joined, messages, objects, shown
+
+# The list of specifiers, which is said of each unknown one.
+VALID = (
+    "valid fragment specifiers are `ident`, `block`, `stmt`, `expr`, `pat`, `ty`, `lifetime`, `literal`, `path`, "
+    "`meta`, `tt`, `item` and `vis`, along with `expr_2021` and `pat_param` for edition compatibility"
+)
+
+# A file, and what is said of its definitions.
+DEFINITIONS = (
+    ("", ""),
+    ("#[cfg(windows)] macro_rules! m { ($x:ident $x:ident) => { $x } }", ""),
+    ("fn main() { m!(x); }", ""),
+    ("macro_rules! m { ($x:ident) => { $x } }", ""),
+    (
+        "macro_rules! m { ($x:ident $x:ident) => { $x } }",
+        "1:28 error: duplicate matcher binding; 1:19 note: previous binding; ",
+    ),
+    (
+        "macro_rules! m { ($c:idnt) => { $c } }",
+        "1:19 error: invalid fragment specifier `idnt`; "
+        "1:22 help: a fragment specifier with a similar name exists: `ident`; ",
+    ),
+    ("macro_rules! m { ($c:zzz) => { $c } }", "1:19 error: invalid fragment specifier `zzz`; "),
+    (
+        "macro_rules! m { ($e:expr foo) => { $e } }",
+        "1:27 error: `$e:expr` may be followed by `foo`, which is not allowed for `expr` fragments; "
+        "1:19 note: allowed there are: `=>`, `,` or `;`; ",
+    ),
+    (
+        "macro_rules! m { ($e:expr_2021 $b:ty) => { $e $b } }",
+        "1:32 error: `$e:expr_2021` may be followed by `$b:ty`, which is not allowed for `expr_2021` fragments; "
+        "1:19 note: allowed there are: `=>`, `,` or `;`; ",
+    ),
+    (
+        "macro_rules! m { ($e:stmt (a)) => { $e } }",
+        "1:27 error: `$e:stmt` may be followed by `(`, which is not allowed for `stmt` fragments; "
+        "1:19 note: allowed there are: `=>`, `,` or `;`; ",
+    ),
+    (
+        "macro_rules! m { ($($e:expr)|*) => { $($e)* } }",
+        "1:29 error: `$e:expr` may be followed by `|"
+        "`, which is not allowed for `expr` fragments; 1:21 note: allowed there are: `=>`, `,` or `;`; ",
+    ),
+    (
+        "macro_rules! m { ($p:pat |) => { $p } }",
+        "1:26 error: `$p:pat` may be followed by `|"
+        "`, which is not allowed for `pat` fragments; 1:19 note: allowed there are: `=>`, `,`, `=`, `if` or `in`; ",
+    ),
+    (
+        "macro_rules! m { ($p:pat_param foo) => { $p } }",
+        "1:32 error: `$p:pat_param` may be followed by `foo`, which is not allowed for `pat_param` fragments; "
+        "1:19 note: allowed there are: `=>`, `,`, `=`, `|`, `if` or `in`; ",
+    ),
+    (
+        "macro_rules! m { ($t:path foo) => { $t } }",
+        "1:27 error: `$t:path` may be followed by `foo`, which is not allowed for `path` fragments; "
+        "1:19 note: allowed there are: `{`, `[`, `=>`, `,`, `>`, `=`, `:`, `;`, `|`, `as` or `where`; ",
+    ),
+    (
+        "macro_rules! m { ($v:vis +) => { $v } }",
+        "1:26 error: `$v:vis` may be followed by `+`, which is not allowed for `vis` fragments; "
+        "1:19 note: allowed there are: `,`, an ident or a type; ",
+    ),
+    (
+        "macro_rules! m { ($($x:ident)*) => { $x } }",
+        "1:38 error: variable `x` is still repeating at this depth; 1:21 note: bound at depth 1, and used at depth 0; ",
+    ),
+    (
+        "macro_rules! m { ($x:ident) => {} }",
+        "1:19 warning: unused macro variable: `$x`; "
+        "1:19 help: if this is intentional, prefix it with an underscore: `$_x`; ",
+    ),
+    ("macro_rules! m {\n    (a $x) => {};\n}", "2:8 error: macro `m`, rule 1: missing fragment specifier; "),
+    ("macro_rules! m { () => {} () => {} }", "1:27 error: macro `m`, rule 2: expected `;`; "),
+    ("macro m($x:tt) { $x $- }", "1:21 error: macro `m`, rule 1: expected ident; "),
+    ("macro_rules! m { () => }", "1:24 error: macro `m`, rule 1: expected subtree; "),
+    (
+        "macro_rules! m { ($x:ident) => {}; ($(a)? b) => {}; ($()*) => {} }",
+        "1:55 error: macro `m`, rule 3: empty token tree in repetition; "
+        "1:19 warning: unused macro variable: `$x`; "
+        "1:19 help: if this is intentional, prefix it with an underscore: `$_x`; ",
+    ),
+    (
+        "macro m($x:idnt) { $x }",
+        "1:9 error: invalid fragment specifier `idnt`; "
+        "1:12 help: a fragment specifier with a similar name exists: `ident`; ",
+    ),
+    (
+        "macro m { ($x:ident) => {}, ($y:ident) => { $y } }",
+        "1:12 warning: unused macro variable: `$x`; "
+        "1:12 help: if this is intentional, prefix it with an underscore: `$_x`; "
+        "1:29 warning: no call reaches this rule: rule 1 takes every argument that it takes; "
+        "1:11 note: rule 1 of `m!`; ",
+    ),
+    (
+        "mod a {\n    macro_rules! m { ($x : tt) => {} }\n}\nmacro_rules! n { ($ y:tt) => {} }",
+        "2:23 warning: unused macro variable: `$x`; "
+        "2:23 help: if this is intentional, prefix it with an underscore: `$_x`; "
+        "4:19 warning: unused macro variable: `$y`; "
+        "4:19 help: if this is intentional, prefix it with an underscore: `$_y`; ",
+    ),
+    ("m! { macro_rules! n { ($x:tt) => {} } }\nmacro_rules! o { () => { macro_rules! p { ($x:zzz) => {} } } }", ""),
+)
+
+# A definition of `m!`, and which of its rules no call reaches, each with its place and the earlier rule that takes what it takes.
+UNREACHED = (
+    ("macro_rules! m { (a $x:ty) => { $x }; (a $y:ty) => { $y } }", "1:39 by 1; "),
+    ("macro_rules! m { (a) => { 1 };\n (b) => { 2 };\n (a) => { 3 };\n (b) => { 4 } }", "3:2 by 1; 4:2 by 2; "),
+    ("macro_rules! m { (a) => {}; (a) => {}; (a) => {} }", "1:29 by 1; 1:40 by 1; "),
+    # Each fits what the other doesn't.
+    ("macro_rules! m { ($x:ty) => { $x }; ($x:expr) => { $x } }", ""),
+    ("macro_rules! m { ($($x:ident),*) => { $($x)* }; ($($x:ident);*) => { $($x)* } }", ""),
+    ("macro_rules! m { ($($x:ident)*) => { $($x)* }; ($($x:ident)+) => { $($x)+ } }", ""),
+    ("macro_rules! m { ((a)) => {}; ([a]) => {} }", ""),
+    ("macro_rules! m { (+ =) => {}; (+=) => {} }", ""),
+    # `$($t:tt)*` takes everything, and `$($t:tt)+` not.
+    ("macro_rules! m { ($($t:tt)*) => { $($t)* }; (a [b $x:expr]) => { $x } }", "1:45 by 1; "),
+    ("macro_rules! m { ($($t:tt)+) => { $($t)* }; (a) => {} }", ""),
+    ("macro_rules! m { ($($t:tt),*) => { $($t)* }; (a) => {} }", ""),
+    # Where the earlier rule's substitution faults, the search goes on.
+    ("macro_rules! m { ($($x:ident)*) => { $($x)+ }; ($($_y:ident)*) => {} }", ""),
+    (
+        "macro_rules! m { ($($x:ident)* ; $($y:ident)*) => { $($x $y)* }; "
+        "($($a:ident)* ; $($b:ident)*) => { $($a)* $($b)* } }",
+        "1:66 by 1; ",
+    ),
+    ("macro_rules! m { ($($x:ident)*) => { $x }; ($($y:ident)*) => { $($y)* } }", ""),
+    ("macro_rules! m { attr() (a) => {}; (a) => {} }", ""),
+)
+
+# An unknown specifier, and the field that rustc 1.95 names for it, if it does, where a struct has the specifiers as its fields, in its
+# order.
+SIMILAR = (
+    ("exp", "expr"),
+    ("ide", ""),
+    ("tokentree", ""),
+    ("t", "ty"),
+    ("type", ""),
+    ("pat_", "pat"),
+    ("pattern", ""),
+    ("itm", "item"),
+    ("vs", "vis"),
+    ("viz", "vis"),
+    ("lit", ""),
+    ("lifetme", "lifetime"),
+    ("lifetimes", "lifetime"),
+    ("blok", "block"),
+    ("EXPR", "expr"),
+    ("Ident", "ident"),
+    ("literl", "literal"),
+    ("pathh", "path"),
+    ("met", "meta"),
+    ("stm", "stmt"),
+    ("expr_20", "expr_2021"),
+    ("pat_parm", "pat_param"),
+    ("x", ""),
+    ("ti", "ty"),
+    ("expression", ""),
+    ("tts", "tt"),
+    ("identifier", ""),
+    ("tpe", ""),
+    ("epxr", "expr"),
+    ("idnet", "ident"),
+    ("vsi", "vis"),
+    ("expr2021", "expr_2021"),
+    ("patparam", "pat_param"),
+    ("statement", ""),
+    ("atem", "item"),
+    ("TT", "tt"),
+    ("expr_2024", "expr_2021"),
+    ("pa", "pat"),
+    ("visibility", ""),
+    ("paht", "pat"),
+)
+
+# The example of docs/EXPANDM.md: a file, what is reported of it, and the objects of the same reports.
+EXAMPLES = (
+    (
+        """\
+macro_rules! each { ($($x:exp),* $y:ident) => { $x }; }
+""",
+        """\
+error: invalid fragment specifier `exp`
+ --> a.rs:1:24
+  |
+1 | macro_rules! each { ($($x:exp),* $y:ident) => { $x }; }
+  |                        ^^^^^^
+help: a fragment specifier with a similar name exists: `expr`
+ --> a.rs:1:27
+  |
+1 | macro_rules! each { ($($x:exp),* $y:ident) => { $x }; }
+  |                           ^^^
+help: valid fragment specifiers are `ident`, `block`, `stmt`, `expr`, `pat`, `ty`, `lifetime`, `literal`, `path`, \
+`meta`, `tt`, `item` and `vis`, along with `expr_2021` and `pat_param` for edition compatibility
+ --> a.rs:1:27
+  |
+1 | macro_rules! each { ($($x:exp),* $y:ident) => { $x }; }
+  |                           ^^^
+warning: unused macro variable: `$y`
+ --> a.rs:1:34
+  |
+1 | macro_rules! each { ($($x:exp),* $y:ident) => { $x }; }
+  |                                  ^^^^^^^^
+help: if this is intentional, prefix it with an underscore: `$_y`
+ --> a.rs:1:34
+  |
+1 | macro_rules! each { ($($x:exp),* $y:ident) => { $x }; }
+  |                                  ^^^^^^^^
+error: variable `x` is still repeating at this depth
+ --> a.rs:1:49
+  |
+1 | macro_rules! each { ($($x:exp),* $y:ident) => { $x }; }
+  |                                                 ^^
+note: bound at depth 1, and used at depth 0
+ --> a.rs:1:24
+  |
+1 | macro_rules! each { ($($x:exp),* $y:ident) => { $x }; }
+  |                        ^^^^^^
+""",
+        """\
+1:24 23..29 error: invalid fragment specifier `exp`
+1:27 26..29 help: a fragment specifier with a similar name exists: `expr`
+1:27 26..29 help: valid fragment specifiers are `ident`, `block`, `stmt`, `expr`, `pat`, `ty`, `lifetime`, `literal`, \
+`path`, `meta`, `tt`, `item` and `vis`, along with `expr_2021` and `pat_param` for edition compatibility
+1:34 33..41 warning: unused macro variable: `$y`
+1:34 33..41 help: if this is intentional, prefix it with an underscore: `$_y`
+1:49 48..50 error: variable `x` is still repeating at this depth
+1:24 23..29 note: bound at depth 1, and used at depth 0
+""",
+    ),
+)
+
+# Of a message that no call reaches a rule, where the rule is, and the number of the earlier one.
+REACHES = re.compile(r"(\S+) warning: no call reaches this rule: rule (\d+) takes every argument that it takes")
+
+# Of a message on an unknown specifier, the similar one.
+EXISTS = re.compile(r"\S+ help: a fragment specifier with a similar name exists: `(\w+)`")
+
+
+def linted(program, text, *words):
+    """A run on the definitions of the file `a.rs`."""
+    return program.run(["--edition", "2021", "--lint", *words, "a.rs"], {"a.rs": text})
+
+
+def test(program):
+    for row in DEFINITIONS:
+        text, want = row
+        ran = linted(program, text)
+        found = joined(it for it in messages(ran.err) if not it.endswith(f" help: {VALID}"))
+        program.check("linted.DEFINITIONS", row, (ran.status, ran.out, found), (int(want != ""), "", want))
+    for row in UNREACHED:
+        text, want = row
+        found = filter(None, map(REACHES.fullmatch, messages(linted(program, text).err)))
+        program.check("linted.UNREACHED", row, joined(" by ".join(it.groups()) for it in found), want)
+    for row in SIMILAR:
+        name, want = row
+        said = messages(linted(program, f"macro_rules! m {{ ($c:{name}) => {{ $c }} }}").err)
+        found = "".join(it[1] for it in map(EXISTS.fullmatch, said) if it)
+        is_unknown = f"1:19 error: invalid fragment specifier `{name}`" in said
+        program.check("linted.SIMILAR", row, (is_unknown, found), (True, want))
+    for row in EXAMPLES:
+        text, want, lines = row
+        ran, again = linted(program, text), linted(program, text, "--json")
+        found = "".join(shown(report) for report in objects(again.err))
+        got = (ran.status, ran.err, again.status, found)
+        program.check("linted.EXAMPLES", row, got, (1, want, 1, lines))
