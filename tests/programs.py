@@ -9,8 +9,8 @@ from typing import NamedTuple
 
 
 class Ran(NamedTuple):
-    """How a run ended: its status, standard output and standard error, the files that are in its folder afterwards, and how many seconds of
-    a processor it took."""
+    """How a run ended: its status, standard output and standard error, the files that are in its folder afterwards, and
+    how many seconds of a processor it took."""
 
     status: int
     out: str
@@ -39,10 +39,13 @@ class Program:
     def run_in(self, folder, words, stdin="", before=None):
         """The same in a folder that is there, without a look at its files afterwards."""
         start = processor_seconds()
-        ran = subprocess.run(
-            [self.path, *words], cwd=folder, input=in_bytes(stdin), capture_output=True, timeout=self.seconds, check=False,
-            preexec_fn=before,
-        )
+        try:
+            ran = subprocess.run(
+                [self.path, *words], cwd=folder, input=in_bytes(stdin), capture_output=True, timeout=self.seconds,
+                check=False, preexec_fn=before,
+            )
+        except subprocess.TimeoutExpired:
+            return Ran(-signal.SIGKILL, "", f"no end within {self.seconds} seconds", {}, self.seconds)
         return Ran(ran.returncode, in_text(ran.stdout), in_text(ran.stderr), {}, processor_seconds() - start)
 
     def check(self, table, row, got, want):

@@ -22,7 +22,7 @@ def printed(argument, error, arm, trees):
 
 
 def worked(program, table, rows, edition=2024):
-    """Rows of a definition and an argument, the error with its place, if there is one, the arm, and the trees of the expansion."""
+    """Rows of a definition, an argument, the error with its place, or none, the arm, and the trees that are written."""
     for row in rows:
         definition, argument, error, arm, trees = row
         argument = spelled(argument)

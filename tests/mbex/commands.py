@@ -1,11 +1,11 @@
-"""The whole program on files: its status, its output and its line on standard error, where they can be written and where not."""
+"""The whole program on files: its status, its output and its line on standard error, which it can write or not."""
 import ctypes
 import os
 import resource
 import signal
 import tempfile
 
-from programs import write
+from programs import text_of, write
 
 FILES = {
     "good.def": "($x:ident) => {$x}",
@@ -20,58 +20,17 @@ FILES = {
     "half": b"a\xc3",
 }
 
-# The words, the status, standard output, and the line on standard error without its end. The word `?` is a byte that is in no
-# text. Nobody may read `secret`, reading `broken` fails, and `huge` is larger than the memory that a run may have.
+# The words, the status, standard output, and the line on standard error without its end. The word `?` is a byte that is
+# in no text. Nobody may read `secret`, reading `broken` fails, and `huge` is larger than the memory of a run.
 RUNS = (
-    (
-        "good.def good.arg", 0,
-        "arm 0\n"
-        "SUBTREE $$ 1@0..1 1@0..1\n"
-        "  IDENT   a 1@0..1\n",
-        "",
-    ),
-    (
-        "good.def good.arg 2015", 0,
-        "arm 0\n"
-        "SUBTREE $$ 1@0..1 1@0..1\n"
-        "  IDENT   a 1@0..1\n",
-        "",
-    ),
-    (
-        "good.def good.arg 2018", 0,
-        "arm 0\n"
-        "SUBTREE $$ 1@0..1 1@0..1\n"
-        "  IDENT   a 1@0..1\n",
-        "",
-    ),
-    (
-        "good.def good.arg 2021", 0,
-        "arm 0\n"
-        "SUBTREE $$ 1@0..1 1@0..1\n"
-        "  IDENT   a 1@0..1\n",
-        "",
-    ),
-    (
-        "good.def good.arg 2024", 0,
-        "arm 0\n"
-        "SUBTREE $$ 1@0..1 1@0..1\n"
-        "  IDENT   a 1@0..1\n",
-        "",
-    ),
+    ("good.def good.arg", 0, "arm 0\nSUBTREE $$ 1@0..1 1@0..1\n  IDENT   a 1@0..1\n", ""),
+    ("good.def good.arg 2015", 0, "arm 0\nSUBTREE $$ 1@0..1 1@0..1\n  IDENT   a 1@0..1\n", ""),
+    ("good.def good.arg 2018", 0, "arm 0\nSUBTREE $$ 1@0..1 1@0..1\n  IDENT   a 1@0..1\n", ""),
+    ("good.def good.arg 2021", 0, "arm 0\nSUBTREE $$ 1@0..1 1@0..1\n  IDENT   a 1@0..1\n", ""),
+    ("good.def good.arg 2024", 0, "arm 0\nSUBTREE $$ 1@0..1 1@0..1\n  IDENT   a 1@0..1\n", ""),
     # `pat` takes a `|` from edition 2021 on.
-    (
-        "old.def either.arg 2021", 0,
-        "arm 0\n"
-        "SUBTREE $$ 1@0..5 1@0..5\n",
-        "",
-    ),
-    (
-        "old.def either.arg 2018", 1,
-        "error: leftover tokens at 1@0..5\n"
-        "arm 0\n"
-        "SUBTREE $$ 1@0..5 1@0..5\n",
-        "",
-    ),
+    ("old.def either.arg 2021", 0, "arm 0\nSUBTREE $$ 1@0..5 1@0..5\n", ""),
+    ("old.def either.arg 2018", 1, "error: leftover tokens at 1@0..5\narm 0\nSUBTREE $$ 1@0..5 1@0..5\n", ""),
     (
         "good.def other.arg", 1,
         "error: expected ident at 1@0..1\n"
@@ -88,20 +47,8 @@ RUNS = (
         "  IDENT   missing 0@16..17\n",
         "",
     ),
-    (
-        "empty good.arg", 1,
-        "error: no rule matches input tokens at 1@0..1\n"
-        "arm none\n"
-        "SUBTREE $$ 1@0..1 1@0..1\n",
-        "",
-    ),
-    (
-        "empty empty", 1,
-        "error: no rule matches input tokens at 1@0..0\n"
-        "arm none\n"
-        "SUBTREE $$ 1@0..0 1@0..0\n",
-        "",
-    ),
+    ("empty good.arg", 1, "error: no rule matches input tokens at 1@0..1\narm none\nSUBTREE $$ 1@0..1 1@0..1\n", ""),
+    ("empty empty", 1, "error: no rule matches input tokens at 1@0..0\narm none\nSUBTREE $$ 1@0..0 1@0..0\n", ""),
     ("refused.def good.arg", 2, "", "definition refused: expected `;`"),
     # The files in the other order.
     ("good.arg good.def", 2, "", "definition refused: expected subtree"),
@@ -214,18 +161,15 @@ class Commands:
         run = self.program.run_in(self.folder, words, before=before)
         status, output, line = want
         said = f"{line}\n" if line else ""
-        self.program.check(what, row, (run.status, run.out or self.written(), run.err), (status, output, said))
+        self.program.check(what, row, (run.status, run.out + self.written(), run.err), (status, output, said))
 
     def written(self):
         """What is in the file `out`, which is removed; nothing if there is none."""
-        try:
-            with open(f"{self.folder}/out", encoding="utf-8") as it:
-                return it.read()
-        except FileNotFoundError:
+        if not os.path.exists(f"{self.folder}/out"):
             return ""
-        finally:
-            if os.path.exists(f"{self.folder}/out"):
-                os.remove(f"{self.folder}/out")
+        written = text_of(self.folder, "out")
+        os.remove(f"{self.folder}/out")
+        return written
 
     def breaks(self, row, before, room, what):
         """An output that takes so many bytes holds these, and the status is 3 unless that is all."""
@@ -243,7 +187,7 @@ class Commands:
         self.ends(row, unread(2), (status, output, ""), "RUNS, nobody reads standard error")
 
     def is_broken(self, row):
-        """A full device is reported after each number of bytes, and so is an output that is closed or that nobody reads."""
+        """A full device is reported after each number of bytes, and so is an output that nobody reads."""
         for room in range(len(row[2]) + 1):
             self.breaks(row, to_file(room), room, f"RUNS, room for {room} bytes")
         self.breaks(row, full, 0, "RUNS, a full device")

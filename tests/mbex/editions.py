@@ -1,4 +1,4 @@
-"""What the edition decides: `pat` takes alternatives from 2021 on, and `expr` takes `_` and `const` blocks from 2024 on."""
+"""What the edition decides: `pat` takes a `|` from 2021 on, and `expr` takes `_` and `const` blocks from 2024 on."""
 from mbex import worked
 
 BEFORE_2021 = (
@@ -8,12 +8,7 @@ BEFORE_2021 = (
 
 SINCE_2021 = (
     ("($p:pat) => {A}; ($p:pat | $q:pat) => {B}", "a | b", "", 0, "  IDENT   A 0@13..14\n"),
-    (
-        "($p:pat) => {$p}", "a | b", "", 0,
-        "  IDENT   a 1@0..1\n"
-        "  PUNCH   | [alone] 1@2..3\n"
-        "  IDENT   b 1@4..5\n",
-    ),
+    ("($p:pat) => {$p}", "a | b", "", 0, "  IDENT   a 1@0..1\n  PUNCH   | [alone] 1@2..3\n  IDENT   b 1@4..5\n"),
 )
 
 BEFORE_2024 = (

@@ -102,38 +102,14 @@ EXPANDED = (
         "    PUNCH   , [alone] 0@94..95\n",
     ),
     # Groups that are open end with the text.
-    (
-        "\n() => { { }\n", "", 0,
-        "arm 0\n"
-        "SUBTREE $$ 1@0..0 1@0..0\n"
-        "  SUBTREE {} 0@9..10 0@11..12\n",
-    ),
+    ("\n() => { { }\n", "", 0, "arm 0\nSUBTREE $$ 1@0..0 1@0..0\n  SUBTREE {} 0@9..10 0@11..12\n"),
     # Leaves fit by their texts.
-    (
-        "(1) => {}", '"1"', 0,
-        "arm 0\n"
-        "SUBTREE $$ 1@0..3 1@0..3\n",
-    ),
-    (
-        "(foo) => {}", "r#foo", 0,
-        "arm 0\n"
-        "SUBTREE $$ 1@0..5 1@0..5\n",
-    ),
+    ("(1) => {}", '"1"', 0, "arm 0\nSUBTREE $$ 1@0..3 1@0..3\n"),
+    ("(foo) => {}", "r#foo", 0, "arm 0\nSUBTREE $$ 1@0..5 1@0..5\n"),
     # An unbound name is written back.
-    (
-        "() => {$y}", "", 0,
-        "arm 0\n"
-        "SUBTREE $$ 1@0..0 1@0..0\n"
-        "  PUNCH   $ [alone] 0@8..9\n"
-        "  IDENT   y 0@8..9\n",
-    ),
+    ("() => {$y}", "", 0, "arm 0\nSUBTREE $$ 1@0..0 1@0..0\n  PUNCH   $ [alone] 0@8..9\n  IDENT   y 0@8..9\n"),
     # The last binding of a name is written.
-    (
-        "($x:ident $x:ident) => {$x}", "a b", 0,
-        "arm 0\n"
-        "SUBTREE $$ 1@0..3 1@0..3\n"
-        "  IDENT   b 1@2..3\n",
-    ),
+    ("($x:ident $x:ident) => {$x}", "a b", 0, "arm 0\nSUBTREE $$ 1@0..3 1@0..3\n  IDENT   b 1@2..3\n"),
     # The last punct of a fragment is alone.
     (
         "($a:tt $b:tt) => {$a $b}", ";+", 0,
@@ -143,18 +119,9 @@ EXPANDED = (
         "  PUNCH   + [alone] 1@1..2\n",
     ),
     # A variable of unknown kind never fits.
-    (
-        "($x:foo) => {}; (a) => {}", "a", 0,
-        "arm 1\n"
-        "SUBTREE $$ 1@0..1 1@0..1\n",
-    ),
+    ("($x:foo) => {}; (a) => {}", "a", 0, "arm 1\nSUBTREE $$ 1@0..1 1@0..1\n"),
     # No rule is of the style of the call.
-    (
-        "", "c", 1,
-        "error: no rule matches input tokens at 1@0..1\n"
-        "arm none\n"
-        "SUBTREE $$ 1@0..1 1@0..1\n",
-    ),
+    ("", "c", 1, "error: no rule matches input tokens at 1@0..1\narm none\nSUBTREE $$ 1@0..1 1@0..1\n"),
     (
         "attr() (c) => {b}", "c", 1,
         "error: no rule matches input tokens at 1@0..1\n"

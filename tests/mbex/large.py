@@ -34,8 +34,8 @@ GROUPS = (
     ),
 )
 
-# The names of a variable and of the argument, of 100,000 letters each; a name of 200,000 parts; and a rule after a thousand
-# that don't fit.
+# The names of a variable and of the argument, of 100,000 letters each; a name of 200,000 parts; and a rule after a
+# thousand that don't fit.
 LONG = (
     (
         "($«100000 x»:ident) => {${concat(b, $«100000 x»)}}", "«100000 a»", "", 0,

@@ -10,17 +10,9 @@ LINTS = (
     # No round, and one empty round.
     ("($($v:vis),*) => {}", "", "rule 0: several readings\n"),
     # A fault of the template is no matter of matching.
-    (
-        "($x:ident) => {$($x)*}; ($x:ident) => {$x}", "a",
-        "rule 0: one reading\n"
-        "rule 1: one reading\n",
-    ),
+    ("($x:ident) => {$($x)*}; ($x:ident) => {$x}", "a", "rule 0: one reading\nrule 1: one reading\n"),
     ("($x:ident = $t:tt;) => { pair ($t) $x }", "a = 1", "rule 0: stuck at 3\n"),
-    (
-        "($x:foo) => {}; ($($t:tt)*) => {}", "a",
-        "rule 0: stuck at 0\n"
-        "rule 1: one reading\n",
-    ),
+    ("($x:foo) => {}; ($($t:tt)*) => {}", "a", "rule 0: stuck at 0\nrule 1: one reading\n"),
     (
         "\n(-1) => {-1};\n(- 2) => {- 2};\n(- 3.0) => {- 3.0};\n(@$lit:literal) => {$lit}\n", "@--1.0",
         "rule 0: stuck at 0\n"

@@ -23,15 +23,16 @@ def nested(opening, text, closing, levels):
     return opening * levels + text + closing * levels
 
 
-def status(program, nest, levels):
-    """The status of a run on a definition with so many levels, and no argument."""
+def ran_on(program, nest, levels):
+    """The run on a definition with so many levels, and no argument."""
     before, opening, text, closing, after = nest
-    return ran(program, before + nested(opening, text, closing, levels) + after, "").status
+    return ran(program, before + nested(opening, text, closing, levels) + after, "")
 
 
 def is_limited(program, nest):
-    """Whether the limit's levels are read, and one more isn't."""
-    return status(program, nest, LIMIT) in (0, 1) and status(program, nest, LIMIT + 1) == 5
+    """Whether the limit's levels are read, and one more is out of memory."""
+    deeper = ran_on(program, nest, LIMIT + 1)
+    return ran_on(program, nest, LIMIT).status in (0, 1) and deeper[:3] == (5, "", "out of memory\n")
 
 
 def is_deepest(program, opening, closing, before, after):

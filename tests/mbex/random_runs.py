@@ -35,9 +35,9 @@ WORDS = (
 )
 
 # How many texts are made, three at a time; and of each seed, how many definitions, each with four arguments.
-TEXTS = 1_500
+TEXTS = 1_000
 SEEDS = (2, 3, 4, 5)
-DEFINITIONS = 300
+DEFINITIONS = 200
 
 
 class Numbers:

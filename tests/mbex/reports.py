@@ -113,11 +113,7 @@ DEFAULTS = (
     ("expr_2021", "Expr", "    IDENT   missing @\n"),
     ("ident", "ident", "    IDENT   missing @\n"),
     ("tt", "token tree", ""),
-    (
-        "lifetime", "lifetime",
-        "    PUNCH   ' [joint] @\n"
-        "    IDENT   missing @\n",
-    ),
+    ("lifetime", "lifetime", "    PUNCH   ' [joint] @\n    IDENT   missing @\n"),
     ("literal", "literal", "    IDENT   missing @\n"),
 )
 

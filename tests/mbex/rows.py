@@ -134,11 +134,7 @@ LENGTHS = (
         "  IDENT   q 1@2..3\n"
         "  IDENT   t 1@10..11\n",
     ),
-    (
-        "($($x:ident)*) => {$(${len()} $x)?}", "a b", "", 0,
-        "  LITERAL Integer 1 1@0..3\n"
-        "  IDENT   a 1@0..1\n",
-    ),
+    ("($($x:ident)*) => {$(${len()} $x)?}", "a b", "", 0, "  LITERAL Integer 1 1@0..3\n  IDENT   a 1@0..1\n"),
     ("($($x:ident)*) => {$(${len()})*}", "a b", "", 0, ""),
     ("() => {${len()}}", "", "", 0, "  LITERAL Integer 0 1@0..0\n"),
 )
@@ -191,11 +187,7 @@ ROUNDS = (
         "  IDENT   b 1@11..12\n"
         "  LITERAL Integer 3 1@15..16\n",
     ),
-    (
-        "($($x:ident)'a*) => {$($x)*}", "b 'a c", "", 0,
-        "  IDENT   b 1@0..1\n"
-        "  IDENT   c 1@5..6\n",
-    ),
+    ("($($x:ident)'a*) => {$($x)*}", "b 'a c", "", 0, "  IDENT   b 1@0..1\n  IDENT   c 1@5..6\n"),
     (
         "($($x:tt)true*) => {$($x)=>*}", "1 true 2", "", 0,
         "  LITERAL Integer 1 1@0..1\n"
@@ -217,11 +209,7 @@ REPEATED_NAMES = (
     ),
     ("($($x:ident),* ; $($x:ident),*) => {$($x)*}", "; b", "", 0, ""),
     # Within a round too it is the last.
-    (
-        "($($x:ident $x:ident),*) => {$($x)*}", "a b, c d", "", 0,
-        "  IDENT   b 1@2..3\n"
-        "  IDENT   d 1@7..8\n",
-    ),
+    ("($($x:ident $x:ident),*) => {$($x)*}", "a b, c d", "", 0, "  IDENT   b 1@2..3\n  IDENT   d 1@7..8\n"),
     (
         "($($($x:ident)* : $x:ident;)*) => {$($x)*}", "a b : c; : d;", "", 0,
         "  IDENT   c 1@6..7\n"

@@ -36,13 +36,19 @@ WORDS = (
     ("--lint d a 2018 x", "usage"),
 )
 
-# A definition whose rules tell the editions apart: `pat` takes a `|` from 2021 on, and `expr` takes `_` from 2024 on. In 2015
-# and 2018 all fragments are the same.
+# A definition whose rules tell the editions apart: `pat` takes a `|` from 2021 on, and `expr` takes `_` from 2024 on.
+# The fragments of 2015 are those of 2018. Of each edition, the first rule that reads the argument.
 TELLING = "($p:pat, $e:expr) => {}; ($p:pat, _) => {}; ($($t:tt)*) => {}"
 TOLD = "a | b, _"
 FIRST_RULE = {2015: 2, 2018: 2, 2021: 1, 2024: 0}
 
 USAGE = "usage: mbex [--lint] DEF-FILE ARG-FILE [EDITION]\n"
+
+# Words, the status, and the line on standard error, where it is no text that is at fault.
+LINES = (
+    ("", 3, "usage: mbex [--lint] DEF-FILE ARG-FILE [EDITION]"),
+    ("a.b a", 3, "cannot read a.b"),
+)
 
 # The words, and the status. The program's own file isn't UTF-8.
 FILES = (
@@ -79,15 +85,13 @@ def failures(program):
         program.check("FAILURES", row, (run.status, run.err, run.out != ""), want)
 
 
-def rules_that_fit(run, lint):
-    """The rules of TELLING that read its argument, the first alone if the run doesn't lint; nothing if it is none of the two."""
-    lines = run.out.splitlines()
+def has_told(run, lint, year):
+    """Whether a run on TELLING lints or expands, with the first rule that reads its argument in that edition."""
+    first = FIRST_RULE[year]
     if not lint:
-        return [int(lines[0][4:])] if lines[:1] and lines[0].startswith("arm ") else None
-    verdicts = [line.split(": ", 1) for line in lines]
-    if [name for name, *_ in verdicts] != ["rule 0", "rule 1", "rule 2"]:
-        return None
-    return [number for number, (_, verdict) in enumerate(verdicts) if verdict == "one reading"]
+        return run.out.startswith(f"arm {first}\n")
+    fits = [f"rule {number}: one reading" in run.out.splitlines() for number in range(3)]
+    return fits == [number >= first for number in range(3)]
 
 
 def words(program):
@@ -97,10 +101,14 @@ def words(program):
         if asked == ["usage"]:
             program.check("WORDS", row, (run.status, run.out, run.err), (3, "", USAGE))
             continue
-        lint, year = asked
-        first = FIRST_RULE[year]
-        want = (0, [*range(first, 3)] if lint else [first], "")
-        program.check("WORDS", row, (run.status, rules_that_fit(run, lint), run.err), want)
+        program.check("WORDS", row, (run.status, has_told(run, *asked), run.err), (0, True, ""))
+
+
+def lines(program):
+    for row in LINES:
+        text, status, line = row
+        run = program.run(text.split())
+        program.check("LINES", row, (run.status, run.out, run.err), (status, "", f"{line}\n"))
 
 
 def files(program):
@@ -153,5 +161,6 @@ def prefixes(program):
 def test(program):
     failures(program)
     words(program)
+    lines(program)
     files(program)
     prefixes(program)

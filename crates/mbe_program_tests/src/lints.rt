@@ -1,11 +1,10 @@
-// How each rule of a definition reads an argument, as the program writes it.
+// How each rule of a definition reads an argument, as the program writes it where a request or a write fails.
 use crate::memory::first_unneeded;
-use crate::runs::{first_unwritten, prints};
-use mbe_tt::span::Edition;
+use crate::runs::first_unwritten;
 use std::alloc::{AllocError, Global};
-use test_rows::{Fields, Rows, number, rows};
+use test_rows::{Fields, Rows, rows};
 
-// A definition and an argument, and the lines.
+// A definition and an argument, and the lines: the rows of tests/mbex/lints.py.
 pub const LINTS: &str = rows![
     // A further name and the word `as` both go on at the start.
     (
@@ -60,7 +59,7 @@ pub const LINTS: &str = rows![
     ("([$x:ident] b) => {}", "[x] c", "rule 0: stuck at 3\n"),
 ];
 
-// Each request of a run is refused once, and each write fails once.
+// Each request of a run is refused once, and each write fails once; without, it prints the lines.
 #[derive(Clone, Copy)]
 pub struct Lints;
 
@@ -69,29 +68,6 @@ impl Rows for Lints {
         let texts = (def, arg);
         let request = first_unneeded(alloc, texts, true, (want, 0));
         let write = first_unwritten(alloc, texts, true, want);
-        let is_so = prints(alloc, texts, (Edition::Edition2024, true), (want, 0));
-        Ok(is_so && request.unwrap_or(0) > 1 && write.unwrap_or(0) > 1)
+        Ok(request.unwrap_or(0) > 1 && write.unwrap_or(0) > 1)
     }
-}
-
-// Texts that come to no verdicts, and the status.
-pub const FAILURES: &str = rows![
-    ("() => {} x", "", 2),
-    ("($()*) => {}", "", 2),
-    ("(a ` b) => {}", "'", 4),
-    ("", "'", 4),
-];
-
-#[derive(Clone, Copy)]
-pub struct Refused;
-
-impl Rows for Refused {
-    fn is_so(&self, alloc: Global, [def, arg, status, ..]: Fields) -> Result<bool, AllocError> {
-        let mode = (Edition::Edition2024, true);
-        Ok(prints(alloc, (def, arg), mode, ("", status_of(status))))
-    }
-}
-
-fn status_of(field: &str) -> u8 {
-    u8::try_from(number(field)).unwrap_or(u8::MAX)
 }

@@ -1,5 +1,4 @@
 // What is done where a request for memory is refused.
-use crate::rows::printed;
 use crate::runs::ran;
 use mbe_tt::span::Edition;
 use refusing::Refusing;
@@ -27,6 +26,20 @@ pub fn first_unneeded(
         }
     }
     None
+}
+
+// What is printed, and the status.
+fn printed(
+    alloc: Global,
+    argument: &str,
+    (error, arm, trees): (&str, &str, &str),
+) -> Result<(String, u8), AllocError> {
+    let end = argument.len();
+    let rest = format!(in alloc; "arm {arm}\nSUBTREE $$ 1@0..{end} 1@0..{end}\n{trees}")?;
+    if error.is_empty() {
+        return Ok((rest, 0));
+    }
+    Ok((format!(in alloc; "error: {error}\n{rest}")?, 1))
 }
 
 // That is so of each row, after ten requests at least.
