@@ -1,8 +1,8 @@
 // How each rule of a definition reads an argument, as the program writes it where a request or a write fails.
 use crate::memory::first_unneeded;
 use crate::runs::first_unwritten;
-use std::alloc::{AllocError, Global};
-use test_rows::{Fields, Rows, rows};
+use std::alloc::Global;
+use test_rows::{Fields, rows};
 
 // A definition and an argument, and the lines: the rows of tests/mbex/lints.py.
 pub const LINTS: &str = rows![
@@ -59,15 +59,10 @@ pub const LINTS: &str = rows![
     ("([$x:ident] b) => {}", "[x] c", "rule 0: stuck at 3\n"),
 ];
 
-// Each request of a run is refused once, and each write fails once; without, it prints the lines.
-#[derive(Clone, Copy)]
-pub struct Lints;
-
-impl Rows for Lints {
-    fn is_so(&self, alloc: Global, [def, arg, want, ..]: Fields) -> Result<bool, AllocError> {
-        let texts = (def, arg);
-        let request = first_unneeded(alloc, texts, true, (want, 0));
-        let write = first_unwritten(alloc, texts, true, want);
-        Ok(request.unwrap_or(0) > 1 && write.unwrap_or(0) > 1)
-    }
+/// Whether each request of a run is refused and each write fails, and without that it prints the lines.
+pub fn are_refused(alloc: Global, [def, arg, want, ..]: Fields) -> bool {
+    let texts = (def, arg);
+    let request = first_unneeded(alloc, texts, true, (want, 0));
+    let write = first_unwritten(alloc, texts, true, want);
+    request.unwrap_or(0) > 1 && write.unwrap_or(0) > 1
 }

@@ -1,15 +1,15 @@
-// A definition whose groups or repetitions are in one another as deep as may be, copied.
+// Copies of definitions whose groups or repetitions are in one another as deep as may be.
 use crate::reading::{lexed, parsed};
 use crate::texts::push_many;
 use mbe::DeclarativeMacro;
 use std::alloc::{AllocError, Global};
-use test_rows::{Fields, Rows, Wrong, each, rows};
+use test_rows::{Fields, rows};
 
 // How many levels docs/DECISIONS.md gives.
 const LIMIT: usize = 256;
 
 // What opens and closes each level of pattern and template.
-const RULES: &str = rows![("(", ")"), ("$(", ")+")];
+pub const RULES: &str = rows![("(", ")"), ("$(", ")+")];
 
 // The text with so many openings before it and so many closings after it.
 fn push_nested(
@@ -38,19 +38,9 @@ fn defined(alloc: Global, open: &str, close: &str) -> Result<DeclarativeMacro, A
     parsed(alloc, &lexed(alloc, 0, text.as_str())?)
 }
 
-// A copy of its macro is equal.
-#[derive(Clone, Copy)]
-struct Copied;
-
-impl Rows for Copied {
-    fn is_so(&self, alloc: Global, [open, close, ..]: Fields) -> Result<bool, AllocError> {
-        let read = defined(alloc, open, close)?;
-        let copy = read.try_clone(alloc)?;
-        Ok(copy == read && copy.num_rules() == 1)
-    }
-}
-
-#[test]
-fn what_is_deepest_is_copied(rt: HostRuntime) -> Result<(), Wrong> {
-    each(rt.alloc(), &Copied, RULES, 2)
+/// Whether a copy of its macro is equal.
+pub fn is_copied(alloc: Global, [open, close, ..]: Fields) -> Result<bool, AllocError> {
+    let read = defined(alloc, open, close)?;
+    let copy = read.try_clone(alloc)?;
+    Ok(copy == read && copy.num_rules() == 1)
 }

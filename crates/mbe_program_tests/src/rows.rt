@@ -1,5 +1,5 @@
-// Rows of a definition and an argument, the error with its place, if there is one, the arm, and the trees of the expansion. They are those
-// of tests/mbex/rows.py and reports.py of these names.
+// Rows of a definition and an argument, the error with its place, if there is one, the arm, and the trees of the expansion. They are in
+// tests/mbex too: in rows.py, and the last table in reports.py.
 use test_rows::rows;
 
 pub const WORKED: &str = rows![

@@ -1,16 +1,19 @@
 // All tables, and what is tested once.
 use crate::expanding::{EXPLAINED, Fragment};
-use crate::memory::Unneeded;
 use crate::requests::refusals;
 use crate::rows::{RECOVERED, REPORTED, WORKED};
 use crate::worked::ROWS;
-use crate::{copies, expanding, lints, reading, runs, trees};
+use crate::{copies, expanding, lints, memory, nesting, reading, runs, trees};
 use std::alloc::{AllocError, Global};
 use test_rows::{Fields, Rows, Wrong, all, rows};
 
-// What is done while each request for memory is refused in turn.
+// What is done while each request for memory is refused in turn, or each write fails; and copies of what is deep.
 #[derive(Clone, Copy)]
 enum Refused {
+    Lints,
+    Unneeded,
+    Unwritten,
+    Deepest,
     Expanding,
     Reading,
     EveryForm,
@@ -27,6 +30,10 @@ enum Refused {
 impl Rows for Refused {
     fn is_so(&self, alloc: Global, fields: Fields) -> Result<bool, AllocError> {
         match self {
+            Refused::Lints => Ok(lints::are_refused(alloc, fields)),
+            Refused::Unneeded => memory::is_unneeded(alloc, fields),
+            Refused::Unwritten => Ok(runs::is_unwritten(alloc, fields)),
+            Refused::Deepest => nesting::is_copied(alloc, fields),
             Refused::Expanding => expanding::is_refused(alloc, fields),
             Refused::Reading => reading::are_refused(alloc, fields),
             Refused::EveryForm => reading::is_every_form_refused(alloc),
@@ -42,7 +49,13 @@ impl Rows for Refused {
     }
 }
 
-static REFUSED: [(Refused, &str, usize); 11] = [
+static REFUSED: [(Refused, &str, usize); 17] = [
+    (Refused::Lints, lints::LINTS, 14),
+    (Refused::Unneeded, WORKED, 13),
+    (Refused::Unneeded, RECOVERED, 10),
+    (Refused::Unneeded, REPORTED, 4),
+    (Refused::Unwritten, runs::PAIR, 1),
+    (Refused::Deepest, nesting::RULES, 2),
     (Refused::Expanding, ROWS, 9),
     (Refused::Reading, ROWS, 9),
     (
@@ -81,37 +94,6 @@ static REFUSED: [(Refused, &str, usize); 11] = [
 ];
 
 #[test]
-fn each_request_refused(rt: HostRuntime) -> Result<(), Wrong> {
+fn each_request_and_each_write_refused(rt: HostRuntime) -> Result<(), Wrong> {
     all(rt.alloc(), &REFUSED)
-}
-
-// What is tested of the rows of each table of runs.
-#[derive(Clone, Copy)]
-enum Broken {
-    Lints,
-    Unneeded,
-    Unwritten,
-}
-
-impl Rows for Broken {
-    fn is_so(&self, alloc: Global, fields: Fields) -> Result<bool, AllocError> {
-        match self {
-            Broken::Lints => lints::Lints.is_so(alloc, fields),
-            Broken::Unneeded => Unneeded.is_so(alloc, fields),
-            Broken::Unwritten => Ok(runs::is_unwritten(alloc, fields)),
-        }
-    }
-}
-
-static BROKEN: [(Broken, &str, usize); 5] = [
-    (Broken::Lints, lints::LINTS, 14),
-    (Broken::Unneeded, WORKED, 13),
-    (Broken::Unneeded, RECOVERED, 10),
-    (Broken::Unneeded, REPORTED, 4),
-    (Broken::Unwritten, runs::PAIR, 1),
-];
-
-#[test]
-fn each_request_and_each_write_of_a_run_fails(rt: HostRuntime) -> Result<(), Wrong> {
-    all(rt.alloc(), &BROKEN)
 }
