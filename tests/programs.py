@@ -1,5 +1,7 @@
 """A program under test: it is run in an empty folder for each row of a table, and the rows that are as they say are counted."""
 import os
+import re
+import resource
 import signal
 import subprocess
 import tempfile
@@ -7,12 +9,14 @@ from typing import NamedTuple
 
 
 class Ran(NamedTuple):
-    """How a run ended: its status, standard output and standard error, and the files that are in its folder afterwards."""
+    """How a run ended: its status, standard output and standard error, the files that are in its folder afterwards, and
+    how many seconds of a processor it took."""
 
     status: int
     out: str
     err: str
     files: dict
+    seconds: float
 
 
 class Program:
@@ -29,12 +33,20 @@ class Program:
         with tempfile.TemporaryDirectory() as folder:
             for path, text in (files or {}).items():
                 write(folder, path, text)
+            ran = self.run_in(folder, words, stdin, before)
+            return ran._replace(files={path: text_of(folder, path) for path in paths_below(folder)})
+
+    def run_in(self, folder, words, stdin="", before=None):
+        """The same in a folder that is there, without a look at its files afterwards."""
+        start = processor_seconds()
+        try:
             ran = subprocess.run(
-                [self.path, *words], cwd=folder, input=in_bytes(stdin), capture_output=True, timeout=self.seconds, check=False,
-                preexec_fn=before,
+                [self.path, *words], cwd=folder, input=in_bytes(stdin), capture_output=True, timeout=self.seconds,
+                check=False, preexec_fn=before,
             )
-            left = {path: text_of(folder, path) for path in paths_below(folder)}
-        return Ran(ran.returncode, in_text(ran.stdout), in_text(ran.stderr), left)
+        except subprocess.TimeoutExpired:
+            return Ran(-signal.SIGKILL, "", f"no end within {self.seconds} seconds", {}, self.seconds)
+        return Ran(ran.returncode, in_text(ran.stdout), in_text(ran.stderr), {}, processor_seconds() - start)
 
     def check(self, table, row, got, want):
         """Counts a row: it passes if what was got is what it wants."""
@@ -42,7 +54,24 @@ class Program:
             self.passed += 1
             return
         self.failed += 1
-        print(f"{os.path.basename(self.path)}: {table}: {row!r}\n  wanted {want!r}\n  got    {got!r}")
+        print(f"{os.path.basename(self.path)}: {table}: {shown(row)}\n  wanted {shown(want)}\n  got    {shown(got)}")
+
+
+def shown(value):
+    """A value as it is printed: of a long one the front and the end."""
+    text = repr(value)
+    return text if len(text) <= 4000 else f"{text[:2000]} .. {text[-2000:]}"
+
+
+def processor_seconds():
+    """What the processes that ended took of a processor."""
+    used = resource.getrusage(resource.RUSAGE_CHILDREN)
+    return used.ru_utime + used.ru_stime
+
+
+def spelled(text):
+    """The text, with `«3 a»` as `aaa`."""
+    return re.sub("«([0-9]+) ([^»]*)»", lambda it: it[2] * int(it[1]), text)
 
 
 def in_bytes(text):

@@ -27,11 +27,14 @@ def modules_of(name, words):
 
 def tried(name, path, words):
     """How many rows of a program's tests passed and failed."""
+    modules = modules_of(name, words)
+    if words and not modules:
+        return 0, 0
     if not os.access(path, os.X_OK):
         print(f"{name}: no program at {path}: run rt ci first")
         return 0, 1
     program = Program(path)
-    for module in modules_of(name, words):
+    for module in modules:
         before = program.passed, program.failed
         importlib.import_module(f"{name}.{module}").test(program)
         print(f"{name}/{module}: {program.passed - before[0]} passed, {program.failed - before[1]} failed")

@@ -4,8 +4,9 @@
     python3 tools/planted.py [--prove] [CRATE | CRATE/BODY]..
 
 It applies each file of tools/planted/CRATE to a copy of the repository and runs the tests of the crate that its line
-`tests: CRATE::MODULE` names, by `rt try --test`, which proves nothing. The other lines are as in tools/edits. Each body
-ends as one of these:
+`tests: CRATE::MODULE` names, by `rt try --test`, which proves nothing. Where that line is `tests: PROGRAM/MODULE`, it builds the
+program without proof and runs that module of tests/PROGRAM on it. The other lines are as in tools/edits. Each body ends as one of
+these:
 
     refused   tests of that module fail, which are named, or don't end within 20 seconds
     passes    every test of the module passes: a row is missing
@@ -28,9 +29,9 @@ from run import texts_of, tried  # noqa: E402
 
 
 def tests_of(body):
-    """The crate and the module whose tests refuse the body."""
+    """The crate and the module whose tests refuse the body, with `::` between them; or the program and its module, with `/`."""
     with open(body, encoding="utf-8") as it:
-        return re.search(r"(?m)^tests: (\w+)::(\w+)$", it.read()).groups()
+        return re.search(r"(?m)^tests: (\w+)(::|/)(\w+)$", it.read()).groups()
 
 
 def plant(body, crate):
@@ -63,12 +64,34 @@ def refusal(crate, module):
     return "passes", f"all tests of {name}::{module}"
 
 
+def program_refusal(top, program, module):
+    """How a body that is planted ends, by a module of the tests of a program that is built without proof."""
+    built = f"{top}/{program}"
+    words = {"expandm": {"CRATE": "expandm", "ARGS": "data/tour.rs"}}
+    ran = subprocess.run(
+        ["sh", f"{TOP}/tools/bench/unproved.sh", top, built], env={**os.environ, **words.get(program, {})},
+        stdin=subprocess.DEVNULL, stdout=subprocess.PIPE, stderr=subprocess.STDOUT, errors="replace",
+    )
+    if ran.returncode != 0:
+        return "bad", (re.findall(r"(?m)^.*error.*$", ran.stdout) or ran.stdout.split("\n"))[0][:200]
+    ran = subprocess.run(
+        [sys.executable, f"{TOP}/tests/run.py", f"--{program}", built, f"{program}/{module}"],
+        stdin=subprocess.DEVNULL, stdout=subprocess.PIPE, stderr=subprocess.STDOUT, errors="replace",
+    )
+    last = ran.stdout.rstrip().split("\n")[-1]
+    if not re.fullmatch(r"\d+ passed, \d+ failed", last):
+        return "bad", last[:200]
+    return "refused" if ran.returncode != 0 else "passes", f"{program}/{module}: {last}"
+
+
 def end_of(top, crate, body):
     right, wrong = plant(body, f"{top}/crates/{crate}")
     if right is None:
         return "bad", wrong
-    tests, module = tests_of(body)
+    tests, mark, module = tests_of(body)
     try:
+        if mark == "/":
+            return program_refusal(top, tests, module)
         return refusal(f"{top}/crates/{tests}", module)
     finally:
         for file, text in right.items():

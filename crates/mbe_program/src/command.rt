@@ -14,8 +14,8 @@ use std::io::{BufWriter, Read};
 use std::rt::{Env, Files};
 use std::{env, fs, io};
 
-/// Runs on the words after the program's name, and returns the exit status. The runtime is a parameter, here and below, so
-/// that tests can run the program with words, files and output of their own.
+/// Runs on the words after the program's name, and returns the exit status. The runtime, a parameter here and below, has the
+/// words, the files and the outputs.
 pub fn run_command<R: Env + Files + Print + Eprint + AllocGlobal>(rt: &R) -> u8 {
     match words(rt) {
         Ok(words) => started(rt, words.as_slice()),

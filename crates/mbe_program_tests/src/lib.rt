@@ -1,23 +1,13 @@
-// The tests of the program, through its public calls, and of what must hold whatever is given: memory that runs out at any request,
-// files that can't be read, outputs that break off, and definitions and arguments that are very large.
+// The tests of the libraries and of the program's `run` that a built program can't show: memory that runs out at any request, writers
+// that fail at any call, and calls of the libraries. What the program prints is tested by tests/mbex.
 #![tactic(auto)]
 
 #[cfg(test)]
-mod commands;
-#[cfg(test)]
 mod copies;
-#[cfg(test)]
-mod editions;
 #[cfg(test)]
 mod expanding;
 #[cfg(test)]
-mod expansions;
-#[cfg(test)]
-mod large;
-#[cfg(test)]
 mod lints;
-#[cfg(test)]
-mod machine;
 #[cfg(test)]
 mod memory;
 #[cfg(test)]
@@ -26,8 +16,6 @@ mod nesting;
 mod random;
 #[cfg(test)]
 mod reading;
-#[cfg(test)]
-mod reports;
 #[cfg(test)]
 mod requests;
 #[cfg(test)]
@@ -38,8 +26,6 @@ mod runs;
 mod tables;
 #[cfg(test)]
 mod texts;
-#[cfg(test)]
-mod thousands;
 #[cfg(test)]
 mod trees;
 #[cfg(test)]

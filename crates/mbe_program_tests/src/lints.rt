@@ -1,11 +1,10 @@
-// How each rule of a definition reads an argument, as the program writes it.
+// How each rule of a definition reads an argument, as the program writes it where a request or a write fails.
 use crate::memory::first_unneeded;
-use crate::runs::{first_unwritten, prints};
-use mbe_tt::span::Edition;
-use std::alloc::{AllocError, Global};
-use test_rows::{Fields, Rows, number, rows};
+use crate::runs::first_unwritten;
+use std::alloc::Global;
+use test_rows::{Fields, rows};
 
-// A definition and an argument, and the lines.
+// A definition and an argument, and the lines: the rows of tests/mbex/lints.py.
 pub const LINTS: &str = rows![
     // A further name and the word `as` both go on at the start.
     (
@@ -60,38 +59,10 @@ pub const LINTS: &str = rows![
     ("([$x:ident] b) => {}", "[x] c", "rule 0: stuck at 3\n"),
 ];
 
-// Each request of a run is refused once, and each write fails once.
-#[derive(Clone, Copy)]
-pub struct Lints;
-
-impl Rows for Lints {
-    fn is_so(&self, alloc: Global, [def, arg, want, ..]: Fields) -> Result<bool, AllocError> {
-        let texts = (def, arg);
-        let request = first_unneeded(alloc, texts, true, (want, 0));
-        let write = first_unwritten(alloc, texts, true, want);
-        let is_so = prints(alloc, texts, (Edition::Edition2024, true), (want, 0));
-        Ok(is_so && request.unwrap_or(0) > 1 && write.unwrap_or(0) > 1)
-    }
-}
-
-// Texts that come to no verdicts, and the status.
-pub const FAILURES: &str = rows![
-    ("() => {} x", "", 2),
-    ("($()*) => {}", "", 2),
-    ("(a ` b) => {}", "'", 4),
-    ("", "'", 4),
-];
-
-#[derive(Clone, Copy)]
-pub struct Refused;
-
-impl Rows for Refused {
-    fn is_so(&self, alloc: Global, [def, arg, status, ..]: Fields) -> Result<bool, AllocError> {
-        let mode = (Edition::Edition2024, true);
-        Ok(prints(alloc, (def, arg), mode, ("", status_of(status))))
-    }
-}
-
-fn status_of(field: &str) -> u8 {
-    u8::try_from(number(field)).unwrap_or(u8::MAX)
+/// Whether each request of a run is refused and each write fails, and without that it prints the lines.
+pub fn are_refused(alloc: Global, [def, arg, want, ..]: Fields) -> bool {
+    let texts = (def, arg);
+    let request = first_unneeded(alloc, texts, true, (want, 0));
+    let write = first_unwritten(alloc, texts, true, want);
+    request.unwrap_or(0) > 1 && write.unwrap_or(0) > 1
 }

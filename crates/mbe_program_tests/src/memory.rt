@@ -1,10 +1,9 @@
 // What is done where a request for memory is refused.
-use crate::rows::printed;
 use crate::runs::ran;
 use mbe_tt::span::Edition;
 use refusing::Refusing;
 use std::alloc::{AllocError, Global};
-use test_rows::{Fields, Rows};
+use test_rows::Fields;
 
 /// The number of the first request that a run doesn't make, if each other one, refused alone, ends it out of memory with
 /// nothing printed, and the run without a refusal prints that with that status.
@@ -29,18 +28,26 @@ pub fn first_unneeded(
     None
 }
 
-// That is so of each row, after ten requests at least.
-#[derive(Clone, Copy)]
-pub struct Unneeded;
-
-impl Rows for Unneeded {
-    fn is_so(
-        &self,
-        alloc: Global,
-        [def, arg, error, arm, trees, ..]: Fields,
-    ) -> Result<bool, AllocError> {
-        let (want, status) = printed(alloc, arg, (error, arm, trees))?;
-        let number = first_unneeded(alloc, (def, arg), false, (want.as_str(), status));
-        Ok(number.unwrap_or(0) > 10)
+// What is printed, and the status.
+fn printed(
+    alloc: Global,
+    argument: &str,
+    (error, arm, trees): (&str, &str, &str),
+) -> Result<(String, u8), AllocError> {
+    let end = argument.len();
+    let rest = format!(in alloc; "arm {arm}\nSUBTREE $$ 1@0..{end} 1@0..{end}\n{trees}")?;
+    if error.is_empty() {
+        return Ok((rest, 0));
     }
+    Ok((format!(in alloc; "error: {error}\n{rest}")?, 1))
+}
+
+/// Whether that is so of a row, after ten requests at least.
+pub fn is_unneeded(
+    alloc: Global,
+    [def, arg, error, arm, trees, ..]: Fields,
+) -> Result<bool, AllocError> {
+    let (want, status) = printed(alloc, arg, (error, arm, trees))?;
+    let number = first_unneeded(alloc, (def, arg), false, (want.as_str(), status));
+    Ok(number.unwrap_or(0) > 10)
 }

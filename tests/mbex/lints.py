@@ -1,0 +1,59 @@
+"""How each rule of a definition reads an argument, as the program writes it."""
+from mbex import prints, ran
+
+# A definition and an argument, and the lines.
+LINTS = (
+    # A further name and the word `as` both go on at the start.
+    ("($($t:ident),* as $ty:ident) => {}", "as u32", "rule 0: ambiguous at 0\n"),
+    ("($(a)? $(a)?) => {}", "a", "rule 0: several readings\n"),
+    ("\n($($e:expr),* $(,)?) => {\n    $($e);* ;\n};\n", "\n    _,\n    const { 1 },\n", "rule 0: one reading\n"),
+    # No round, and one empty round.
+    ("($($v:vis),*) => {}", "", "rule 0: several readings\n"),
+    # A fault of the template is no matter of matching.
+    ("($x:ident) => {$($x)*}; ($x:ident) => {$x}", "a", "rule 0: one reading\nrule 1: one reading\n"),
+    ("($x:ident = $t:tt;) => { pair ($t) $x }", "a = 1", "rule 0: stuck at 3\n"),
+    ("($x:foo) => {}; ($($t:tt)*) => {}", "a", "rule 0: stuck at 0\nrule 1: one reading\n"),
+    (
+        "\n(-1) => {-1};\n(- 2) => {- 2};\n(- 3.0) => {- 3.0};\n(@$lit:literal) => {$lit}\n", "@--1.0",
+        "rule 0: stuck at 0\n"
+        "rule 1: stuck at 0\n"
+        "rule 2: stuck at 0\n"
+        "rule 3: stuck at 1\n",
+    ),
+    # The opening counts as a token.
+    ("((a b)) => {}", "(a c)", "rule 0: stuck at 2\n"),
+    ("($($a:ident)* $b:ident) => {}", "x", "rule 0: ambiguous at 0\n"),
+    # Rules of all styles, and none.
+    (
+        "attr() (a) => {}; derive() (b) => {}; (c) => {}", "b",
+        "rule 0: stuck at 0\n"
+        "rule 1: one reading\n"
+        "rule 2: stuck at 0\n",
+    ),
+    ("", "a", ""),
+    # The first of two ambiguous positions, in two digits.
+    (
+        "(a a a a a a a a a a $($x:ident)* b $($y:ident)* c) => {}", "a a a a a a a a a a b c",
+        "rule 0: ambiguous at 10\n",
+    ),
+    # So does the closing.
+    ("([$x:ident] b) => {}", "[x] c", "rule 0: stuck at 3\n"),
+)
+
+# Texts that come to no verdicts, and the status.
+FAILURES = (
+    ("() => {} x", "", 2),
+    ("($()*) => {}", "", 2),
+    ("(a ` b) => {}", "'", 4),
+    ("", "'", 4),
+)
+
+
+def test(program):
+    for row in LINTS:
+        definition, argument, lines = row
+        prints(program, "LINTS", row, ran(program, definition, argument, lint=True), (0, lines))
+    for row in FAILURES:
+        definition, argument, status = row
+        run = ran(program, definition, argument, lint=True)
+        program.check("FAILURES", row, (run.status, run.out), (status, ""))

@@ -1,0 +1,50 @@
+"""Definitions whose groups and repetitions are in one another as deep as may be, and one level deeper."""
+from mbex import ran
+
+# How many levels docs/DECISIONS.md gives.
+LIMIT = 256
+
+# What a definition says before and after its levels, what opens and closes each, and what is in the innermost.
+NESTS = (
+    ("(", "(", "$x:ident", ")", ") => {}"),
+    ("(", "$(", "$x:ident", ")+", ") => {}"),
+    ("($($x:ident)*) => {", "(", "a", ")", "}"),
+    ("($($x:ident)*) => {", "$(", "$x", ")*", "}"),
+)
+
+# What opens and closes each level of pattern and template, and of the argument.
+RULES = (
+    ("(", ")", "(", ")"),
+    ("$(", ")+", "", ""),
+)
+
+
+def nested(opening, text, closing, levels):
+    return opening * levels + text + closing * levels
+
+
+def ran_on(program, nest, levels):
+    """The run on a definition with so many levels, and no argument."""
+    before, opening, text, closing, after = nest
+    return ran(program, before + nested(opening, text, closing, levels) + after, "")
+
+
+def is_limited(program, nest):
+    """Whether the limit's levels are read, and one more is out of memory."""
+    deeper = ran_on(program, nest, LIMIT + 1)
+    return ran_on(program, nest, LIMIT).status in (0, 1) and deeper[:3] == (5, "", "out of memory\n")
+
+
+def is_deepest(program, opening, closing, before, after):
+    """Whether a rule of as many levels as may be matches, and writes the argument's word."""
+    pattern = nested(opening, "$x:ident", closing, LIMIT)
+    template = nested(opening, "$x", closing, LIMIT)
+    run = ran(program, f"({pattern}) => {{{template}}}", nested(before, "a", after, LIMIT))
+    return run.status == 0 and "IDENT   a 1@" in run.out
+
+
+def test(program):
+    for row in NESTS:
+        program.check("NESTS", row, is_limited(program, row), True)
+    for row in RULES:
+        program.check("RULES", row, is_deepest(program, *row), True)
