@@ -104,8 +104,3 @@ def paths_below(folder):
     for at, _, names in os.walk(folder):
         found += [os.path.relpath(os.path.join(at, name), folder) for name in names]
     return sorted(found)
-
-
-def ended_by_signal(ran):
-    """The name of the signal that ended a run, or nothing."""
-    return signal.Signals(-ran.status).name if ran.status < 0 else None
