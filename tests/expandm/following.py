@@ -1,0 +1,256 @@
+"""What is found of rules alone, by the reports of `expandm --lint`, in edition 2024: `followed NAME PLACE NEXT;` for what may follow a
+fragment and mayn't, `twice NAME PLACE LATER;`, `unknown NAME PLACE;`, `unused NAME PLACE;` and `repeats NAME PLACE USED;`. Places are
+byte offsets in the text of a definition, of names and of what follows.
+"""
+import re
+
+from expandm import joined, objects
+
+# What may follow a fragment, and names that are bound twice or have an unknown specifier: rustc 1.95 refuses each of these
+# definitions at the second place of each line, or the only one, and nowhere else.
+FOLLOWING = (
+    ("($_e:expr =>) => {}", ""),
+    ("($_e:expr ,) => {}", ""),
+    ("($_e:expr ;) => {}", ""),
+    ("($_e:expr =) => {}", "followed _e 2 10;"),
+    ("($_e:expr foo) => {}", "followed _e 2 10;"),
+    ("($_e:expr 1) => {}", "followed _e 2 10;"),
+    ("($_e:expr (a)) => {}", "followed _e 2 10;"),
+    ("($_e:expr $_i:ident) => {}", "followed _e 2 11;"),
+    ("($_e:expr 'a) => {}", "followed _e 2 10;"),
+    ("($_e:expr ==) => {}", "followed _e 2 10;"),
+    ("($_e:expr ..) => {}", "followed _e 2 10;"),
+    ("($_s:stmt =>) => {}", ""),
+    ("($_s:stmt ,) => {}", ""),
+    ("($_s:stmt ;) => {}", ""),
+    ("($_s:stmt {}) => {}", "followed _s 2 10;"),
+    ("($_p:pat =>) => {}", ""),
+    ("($_p:pat ,) => {}", ""),
+    ("($_p:pat =) => {}", ""),
+    ("($_p:pat |) => {}", "followed _p 2 9;"),
+    ("($_p:pat if) => {}", ""),
+    ("($_p:pat in) => {}", ""),
+    ("($_p:pat r#if) => {}", "followed _p 2 9;"),
+    ("($_p:pat for) => {}", "followed _p 2 9;"),
+    ("($_p:pat if ) => {}", ""),
+    ("($_p:pat [a]) => {}", "followed _p 2 9;"),
+    ("($_p:pat ||) => {}", "followed _p 2 9;"),
+    ("($_p:pat_param |) => {}", ""),
+    ("($_p:pat_param =>) => {}", ""),
+    ("($_p:pat_param ||) => {}", "followed _p 2 15;"),
+    ("($_p:pat_param if) => {}", ""),
+    ("($_p:pat_param ->) => {}", "followed _p 2 15;"),
+    ("($_t:ty {}) => {}", ""),
+    ("($_t:path {}) => {}", ""),
+    ("($_t:ty []) => {}", ""),
+    ("($_t:path []) => {}", ""),
+    ("($_t:ty =>) => {}", ""),
+    ("($_t:path =>) => {}", ""),
+    ("($_t:ty ,) => {}", ""),
+    ("($_t:path ,) => {}", ""),
+    ("($_t:ty >) => {}", ""),
+    ("($_t:path >) => {}", ""),
+    ("($_t:ty >>) => {}", ""),
+    ("($_t:path >>) => {}", ""),
+    ("($_t:ty =) => {}", ""),
+    ("($_t:path =) => {}", ""),
+    ("($_t:ty :) => {}", ""),
+    ("($_t:path :) => {}", ""),
+    ("($_t:ty ;) => {}", ""),
+    ("($_t:path ;) => {}", ""),
+    ("($_t:ty |) => {}", ""),
+    ("($_t:path |) => {}", ""),
+    ("($_t:ty as) => {}", ""),
+    ("($_t:path as) => {}", ""),
+    ("($_t:ty where) => {}", ""),
+    ("($_t:path where) => {}", ""),
+    ("($_t:ty $_b:block) => {}", ""),
+    ("($_t:path $_b:block) => {}", ""),
+    ("($_t:ty ()) => {}", "followed _t 2 8;"),
+    ("($_t:path ()) => {}", "followed _t 2 10;"),
+    ("($_t:ty >=) => {}", "followed _t 2 8;"),
+    ("($_t:path >=) => {}", "followed _t 2 10;"),
+    ("($_t:ty ||) => {}", "followed _t 2 8;"),
+    ("($_t:path ||) => {}", "followed _t 2 10;"),
+    ("($_t:ty ::) => {}", "followed _t 2 8;"),
+    ("($_t:path ::) => {}", "followed _t 2 10;"),
+    ("($_t:ty if) => {}", "followed _t 2 8;"),
+    ("($_t:path if) => {}", "followed _t 2 10;"),
+    ("($_t:ty r#as) => {}", "followed _t 2 8;"),
+    ("($_t:path r#as) => {}", "followed _t 2 10;"),
+    ("($_t:ty $_b:tt) => {}", "followed _t 2 9;"),
+    ("($_t:path $_b:tt) => {}", "followed _t 2 11;"),
+    ("($_t:ty +) => {}", "followed _t 2 8;"),
+    ("($_t:path +) => {}", "followed _t 2 10;"),
+    ("($_v:vis ,) => {}", ""),
+    ("($_v:vis fn) => {}", ""),
+    ("($_v:vis r#priv) => {}", ""),
+    ("($_v:vis priv) => {}", "followed _v 2 9;"),
+    ("($_v:vis _) => {}", ""),
+    ("($_v:vis true) => {}", ""),
+    ("($_v:vis 1) => {}", "followed _v 2 9;"),
+    ("($_v:vis \"s\") => {}", "followed _v 2 9;"),
+    ("($_v:vis {}) => {}", "followed _v 2 9;"),
+    ("($_v:vis ()) => {}", ""),
+    ("($_v:vis []) => {}", ""),
+    ("($_v:vis <) => {}", ""),
+    ("($_v:vis <<) => {}", ""),
+    ("($_v:vis <=) => {}", "followed _v 2 9;"),
+    ("($_v:vis &) => {}", ""),
+    ("($_v:vis &&) => {}", ""),
+    ("($_v:vis ?) => {}", ""),
+    ("($_v:vis *) => {}", ""),
+    ("($_v:vis !) => {}", ""),
+    ("($_v:vis ::) => {}", ""),
+    ("($_v:vis :) => {}", "followed _v 2 9;"),
+    ("($_v:vis 'a) => {}", ""),
+    ("($_v:vis $crate) => {}", ""),
+    ("($_v:vis $_i:ident) => {}", ""),
+    ("($_v:vis $_i:ty) => {}", ""),
+    ("($_v:vis $_i:path) => {}", ""),
+    ("($_v:vis $_i:lifetime) => {}", "followed _v 2 10;"),
+    ("($_v:vis $_i:tt) => {}", "followed _v 2 10;"),
+    ("($_v:vis $_i:vis foo) => {}", "followed _v 2 10;"),
+    ("($_v:vis =>) => {}", "followed _v 2 9;"),
+    ("($_a:ident + $_b:ident 'x {}) => {}", ""),
+    ("($_a:block + $_b:block 'x {}) => {}", ""),
+    ("($_a:item + $_b:item 'x {}) => {}", ""),
+    ("($_a:meta + $_b:meta 'x {}) => {}", ""),
+    ("($_a:tt + $_b:tt 'x {}) => {}", ""),
+    ("($_a:literal + $_b:literal 'x {}) => {}", ""),
+    ("($_a:lifetime + $_b:lifetime 'x {}) => {}", ""),
+    ("($($_e:expr)*) => {}", ""),
+    ("($($_e:expr)? foo) => {}", "followed _e 4 14;"),
+    ("($($_e:expr),* ; $_t:ty) => {}", ""),
+    ("($($_e:expr)|*) => {}", "followed _e 4 12;"),
+    ("($($_e:expr),* foo) => {}", "followed _e 4 15;"),
+    ("($($_e:expr $(,)?)+ foo) => {}", "followed _e 4 20;"),
+    ("($_e:expr $($_x:ident)* ,) => {}", "followed _e 2 13;"),
+    (
+        "($_e:expr $($_x:ident)* foo) => {}",
+        "followed _e 2 13;followed _e 2 24;",
+    ),
+    ("($_e:expr $($_x:ident)+ foo) => {}", "followed _e 2 13;"),
+    ("($_e:expr $(, a)? $(; b)* c) => {}", "followed _e 2 26;"),
+    ("($_e:expr $($(, a)?)and* ,) => {}", "followed _e 2 20;"),
+    ("({$_e:expr} [$_t:ty] ($_p:pat) foo) => {}", ""),
+    ("({$_e:expr a} b) => {}", "followed _e 3 11;"),
+    ("($($_e:expr, $_t:ty if)*) => {}", "followed _t 14 20;"),
+    ("($($($_e:expr)|*);*) => {}", "followed _e 6 14;"),
+    ("($($($_e:expr);*)|*) => {}", "followed _e 6 17;"),
+    (
+        "($_a:expr $_b:expr $_c:expr) => {}",
+        "followed _a 2 11;followed _b 11 20;",
+    ),
+    ("($x:ident $x:ident) => {$x}", "twice x 2 11;"),
+    ("($x:ident $($x:ident),*) => {$x}", "twice x 2 13;"),
+    (
+        "({$x:ident} [$x:ty] ($x:tt)) => {$x}",
+        "twice x 3 14;twice x 3 22;",
+    ),
+    ("($x:foo) => {$x}", "unknown x 2;"),
+    (
+        "($x:Expr $y:block_ $z:ident) => {$x $y $z}",
+        "unknown x 2;unknown y 10;",
+    ),
+    (
+        "($_e:expr $_x:foo) => {}",
+        "unknown _x 11;followed _e 2 11;",
+    ),
+    ("($x:foo priv) => {$x}", "unknown x 2;"),
+)
+
+# Variables that a template doesn't name, and those that still repeat where it does. Worked out by hand.
+VARIABLES = (
+    ("() => {}", ""),
+    ("($x:ident) => {$x}", ""),
+    ("($x:ident) => {}", "unused x 2;"),
+    ("($x:ident) => {x}", "unused x 2;"),
+    ("($_x:ident $_y:ident) => {}", ""),
+    ("($x:ident $y:tt) => {$y}", "unused x 2;"),
+    ("($($x:ident [$y:tt]),*) => {$($x)*}", "unused y 14;"),
+    ("($x:ident) => {${ignore($x)}}", ""),
+    ("($($x:ident)*) => {${count($x)}}", ""),
+    ("($x:ident) => {${concat(a, $x)}}", ""),
+    ("($x:ident) => {${concat(a, x)}}", "unused x 2;"),
+    ("($($x:ident)*) => {$x}", "repeats x 4 20;"),
+    ("($($x:ident)*) => {$($x)*}", ""),
+    ("($($x:ident)*) => {$($($x)*)*}", ""),
+    ("($($($x:ident)*)*) => {$({$x})*}", "repeats x 6 27;"),
+    ("($($($x:ident)*)*) => {$($($x)*)* $x}", "repeats x 6 35;"),
+    ("($($x:ident)*) => {${concat(a, $x)}}", "repeats x 4 32;"),
+    ("($($x:ident)*) => {${ignore($x)}}", ""),
+    ("($x:ident $($x:ident)*) => {$x $y}", "twice x 2 13;"),
+    (
+        "($x:ident) => {}; ($y:ident) => {$x}",
+        "unused x 2;unused y 20;",
+    ),
+)
+
+# Definitions of which something else is reported too, which isn't of a finding.
+OTHERS = {
+    "($($($x:ident)*)*) => {$({$x})*}": "macro `m`, rule 1: empty token tree in repetition; ",
+    "($($($x:ident)*)*) => {$($($x)*)* $x}": "macro `m`, rule 1: empty token tree in repetition; ",
+    "($x:ident) => {}; ($y:ident) => {$x}": "no call reaches this rule: rule 1 takes every argument that it takes; ",
+}
+
+# What an error or a warning says of each kind of finding, and the note at the variable, if that is elsewhere.
+KINDS = (
+    ("followed", "`{variable}` may be followed by .+, which is not allowed for `{specifier}` fragments", "allowed there are: .+"),
+    ("twice", "duplicate matcher binding", "previous binding"),
+    ("unknown", "invalid fragment specifier `{specifier}`", None),
+    ("unused", r"unused macro variable: `\${name}`", None),
+    ("repeats", "variable `{name}` is still repeating at this depth", r"bound at depth \d+, and used at depth \d+"),
+)
+
+# What is before a definition's text.
+BEFORE = "macro_rules! m { "
+
+
+def part_of(text, report):
+    """The part of a definition that a report is of."""
+    (at,) = report["spans"]
+    return text[at["byte_start"] - len(BEFORE) : at["byte_end"] - len(BEFORE)]
+
+
+def place_of(text, report):
+    """Where that part begins; of a variable, where its name does."""
+    (at,) = report["spans"]
+    return at["byte_start"] - len(BEFORE) + part_of(text, report).startswith("$")
+
+
+def grouped(reports):
+    """The errors and warnings, each with the notes and helps after it."""
+    found = []
+    for report in reports:
+        if report["level"] in ("error", "warning"):
+            found.append((report, []))
+        else:
+            found[-1][1].append(report)
+    return found
+
+
+def finding(text, report, rest):
+    """What a row says of a report and the notes after it, or nothing if it isn't of a finding."""
+    for kind, said, note in KINDS:
+        at = next((it for it in rest if note and re.fullmatch(note, it["message"])), report)
+        variable = part_of(text, at)
+        name, _, specifier = variable.removeprefix("$").partition(":")
+        parts = {"variable": variable, "name": name, "specifier": specifier}
+        said = said.format(**{key: re.escape(part) for key, part in parts.items()})
+        if re.fullmatch(said, report["message"]):
+            later = f" {place_of(text, report)}" if note else ""
+            return f"{kind} {name} {place_of(text, at)}{later};"
+    return None
+
+
+def test(program):
+    for table, rows in (("FOLLOWING", FOLLOWING), ("VARIABLES", VARIABLES)):
+        for row in rows:
+            text, want = row
+            ran = program.run(["--edition", "2024", "--lint", "--json", "a.rs"], {"a.rs": f"{BEFORE}{text} }}"})
+            said = [(finding(text, report, rest), report["message"]) for report, rest in grouped(objects(ran.err))]
+            found = "".join(line for line, _ in said if line)
+            others = joined(message for line, message in said if not line)
+            got = (ran.status, ran.out, found, others)
+            program.check(f"following.{table}", row, got, (int(want != ""), "", want, OTHERS.get(text, "")))
