@@ -194,14 +194,21 @@ OTHERS = {
     "($x:ident) => {}; ($y:ident) => {$x}": "no call reaches this rule: rule 1 takes every argument that it takes; ",
 }
 
-# What an error or a warning says of each kind of finding, and the note at the variable, if that is elsewhere.
+# Of each kind of finding, what is reported: the part of the text and what is said of it; and of the note at the variable, if that is
+# elsewhere, what it says. Of a punct of several chars the first one is the part.
 KINDS = (
-    ("followed", "`{variable}` may be followed by .+, which is not allowed for `{specifier}` fragments", "allowed there are: .+"),
-    ("twice", "duplicate matcher binding", "previous binding"),
-    ("unknown", "invalid fragment specifier `{specifier}`", None),
-    ("unused", r"unused macro variable: `\${name}`", None),
-    ("repeats", "variable `{name}` is still repeating at this depth", r"bound at depth \d+, and used at depth \d+"),
+    (
+        "followed",
+        r"(?P<next>.+): `\${name}:{specifier}` may be followed by `(?P=next).*`, which is not allowed for `{specifier}` fragments",
+        "allowed there are: .+",
+    ),
+    ("twice", r"\${name}:\w+: duplicate matcher binding", "previous binding"),
+    ("unknown", r"\${name}:{specifier}: invalid fragment specifier `{specifier}`", None),
+    ("unused", r"\${name}:{specifier}: unused macro variable: `\${name}`", None),
+    ("repeats", r"\${name}: variable `{name}` is still repeating at this depth", r"bound at depth \d+, and used at depth \d+"),
 )
+
+VARIABLE = re.compile(r"\$(?P<name>\w+):(?P<specifier>\w+)")
 
 # What is before a definition's text.
 BEFORE = "macro_rules! m { "
@@ -223,7 +230,7 @@ def grouped(reports):
     """The errors and warnings, each with the notes and helps after it."""
     found = []
     for report in reports:
-        if report["level"] in ("error", "warning"):
+        if report["level"] in ("error", "warning") or not found:
             found.append((report, []))
         else:
             found[-1][1].append(report)
@@ -232,15 +239,13 @@ def grouped(reports):
 
 def finding(text, report, rest):
     """What a row says of a report and the notes after it, or nothing if it isn't of a finding."""
-    for kind, said, note in KINDS:
+    said = f"{part_of(text, report)}: {report['message']}"
+    for kind, form, note in KINDS:
         at = next((it for it in rest if note and re.fullmatch(note, it["message"])), report)
-        variable = part_of(text, at)
-        name, _, specifier = variable.removeprefix("$").partition(":")
-        parts = {"variable": variable, "name": name, "specifier": specifier}
-        said = said.format(**{key: re.escape(part) for key, part in parts.items()})
-        if re.fullmatch(said, report["message"]):
+        variable = VARIABLE.fullmatch(part_of(text, at))
+        if variable and re.fullmatch(form.format(**variable.groupdict()), said):
             later = f" {place_of(text, report)}" if note else ""
-            return f"{kind} {name} {place_of(text, at)}{later};"
+            return f"{kind} {variable['name']} {place_of(text, at)}{later};"
     return None
 
 
