@@ -3,7 +3,7 @@
 
     python3 tools/lint-rows.py [RUSTC]
 
-First in those of `crates/mbe_matcher_tests/src/following.rt`.
+First in those of the first table of `tests/expandm/following.py`.
 
 Each row is a definition, and what is found of it: `followed NAME A B`, `twice NAME A B` or `unknown NAME A`, with byte offsets of names and of what
 follows. rustc has to report each of these at its last place, and nothing else; it counts the `$` of a variable, which is one byte before its
@@ -22,17 +22,9 @@ import tempfile
 sys.dont_write_bytecode = True
 TOP = os.path.dirname(os.path.dirname(os.path.abspath(__file__)))
 sys.path.insert(0, f"{TOP}/tests")
-from expandm import linted  # noqa: E402
+from expandm import following, linted  # noqa: E402
 
-ROW = re.compile(r'^    \(\s*"((?:[^"\\]|\\.)*)",\s*"((?:[^"\\]|\\.)*)",?\s*\),', re.M)
 KINDS = (("followed", "followed"), ("duplicate", "twice"), ("invalid fragment", "unknown"))
-
-
-def rows():
-    with open(f"{TOP}/crates/mbe_matcher_tests/src/following.rt", encoding="utf-8") as it:
-        text = it.read()
-    text = re.sub(r"\\\n\s*", "", text)
-    return [tuple(part.encode().decode("unicode_escape") for part in row.groups()) for row in ROW.finditer(text)]
 
 
 def wanted(definition, found):
@@ -115,7 +107,7 @@ def main():
 
 def differing_rows(rustc):
     """Prints the rows of the first table that differ, and how many; returns that."""
-    all_rows = rows()
+    all_rows = following.FOLLOWING
     found = reported(rustc, all_rows)
     differ = 0
     for number, (definition, ours) in enumerate(all_rows):

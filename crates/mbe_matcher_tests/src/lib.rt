@@ -1,13 +1,9 @@
 // Tests of what is between reading and expanding: patterns and arguments of texts, what becomes of their matches, and where two
-// readings part; where definitions are refused, and what is found of rules alone.
+// readings part; where definitions are refused.
 #![tactic(auto)]
 
 #[cfg(test)]
 mod faults;
-#[cfg(test)]
-mod following;
-#[cfg(test)]
-mod found;
 #[cfg(test)]
 mod large;
 #[cfg(test)]
@@ -18,5 +14,3 @@ mod parting;
 mod rows;
 #[cfg(test)]
 mod tables;
-#[cfg(test)]
-mod variables;

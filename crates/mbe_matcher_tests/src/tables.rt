@@ -1,10 +1,9 @@
 // All tables, and the requests for memory that are refused. The rows of the tables are beside what they are about.
 use crate::faults::{Faults, Parts};
-use crate::found::Found;
 use crate::large::Large;
 use crate::parting::{Partings, Ways};
 use crate::rows::{Binds, Stops};
-use crate::{faults, following, large, parting, rows, variables};
+use crate::{faults, large, parting, rows};
 use std::alloc::{AllocError, Global};
 use test_rows::{AnyRows, Fields, Rows, Wrong, all, each_refused};
 
@@ -18,7 +17,6 @@ enum Kind {
     Fault,
     PartFault,
     BetweenRules,
-    Found,
 }
 
 impl Rows for Kind {
@@ -32,12 +30,11 @@ impl Rows for Kind {
             Kind::Fault => Faults.is_so(alloc, fields),
             Kind::PartFault => Parts.is_so(alloc, fields),
             Kind::BetweenRules => faults::is_between_rules(alloc, fields[0]),
-            Kind::Found => Found.is_so(alloc, fields),
         }
     }
 }
 
-static TABLES: [(Kind, &str, usize); 19] = [
+static TABLES: [(Kind, &str, usize); 17] = [
     (Kind::Stops, rows::REPETITIONS, 13),
     (Kind::Stops, rows::AMBIGUITIES, 2),
     (Kind::Binds, rows::REPORTS, 4),
@@ -55,12 +52,10 @@ static TABLES: [(Kind, &str, usize); 19] = [
     (Kind::Fault, faults::READ, 7),
     (Kind::PartFault, faults::PARTS, 5),
     (Kind::BetweenRules, faults::ONE, 1),
-    (Kind::Found, following::ROWS, 134),
-    (Kind::Found, variables::ROWS, 20),
 ];
 
 #[test]
-fn matches_partings_and_findings_are_as_their_rows_say(rt: HostRuntime) -> Result<(), Wrong> {
+fn matches_partings_and_faults_are_as_their_rows_say(rt: HostRuntime) -> Result<(), Wrong> {
     all(rt.alloc(), &TABLES)
 }
 

@@ -1,8 +1,14 @@
-// What may follow a fragment, and names that are bound twice or have an unknown specifier: rustc 1.95 refuses each of these
-// definitions at the second place of each line, or the only one, and nowhere else.
-use test_rows::rows;
+"""What is found of rules alone, by the reports of `expandm --lint`, in edition 2024: `followed NAME PLACE NEXT;` for what may follow a
+fragment and mayn't, `twice NAME PLACE LATER;`, `unknown NAME PLACE;`, `unused NAME PLACE;` and `repeats NAME PLACE USED;`. Places are
+byte offsets in the text of a definition, of names and of what follows.
+"""
+import re
 
-pub const ROWS: &str = rows![
+from expandm import joined, objects
+
+# What may follow a fragment, and names that are bound twice or have an unknown specifier: rustc 1.95 refuses each of these
+# definitions at the second place of each line, or the only one, and nowhere else.
+FOLLOWING = (
     ("($_e:expr =>) => {}", ""),
     ("($_e:expr ,) => {}", ""),
     ("($_e:expr ;) => {}", ""),
@@ -152,4 +158,104 @@ pub const ROWS: &str = rows![
         "unknown _x 11;followed _e 2 11;",
     ),
     ("($x:foo priv) => {$x}", "unknown x 2;"),
-];
+)
+
+# Variables that a template doesn't name, and those that still repeat where it does. Worked out by hand.
+VARIABLES = (
+    ("() => {}", ""),
+    ("($x:ident) => {$x}", ""),
+    ("($x:ident) => {}", "unused x 2;"),
+    ("($x:ident) => {x}", "unused x 2;"),
+    ("($_x:ident $_y:ident) => {}", ""),
+    ("($x:ident $y:tt) => {$y}", "unused x 2;"),
+    ("($($x:ident [$y:tt]),*) => {$($x)*}", "unused y 14;"),
+    ("($x:ident) => {${ignore($x)}}", ""),
+    ("($($x:ident)*) => {${count($x)}}", ""),
+    ("($x:ident) => {${concat(a, $x)}}", ""),
+    ("($x:ident) => {${concat(a, x)}}", "unused x 2;"),
+    ("($($x:ident)*) => {$x}", "repeats x 4 20;"),
+    ("($($x:ident)*) => {$($x)*}", ""),
+    ("($($x:ident)*) => {$($($x)*)*}", ""),
+    ("($($($x:ident)*)*) => {$({$x})*}", "repeats x 6 27;"),
+    ("($($($x:ident)*)*) => {$($($x)*)* $x}", "repeats x 6 35;"),
+    ("($($x:ident)*) => {${concat(a, $x)}}", "repeats x 4 32;"),
+    ("($($x:ident)*) => {${ignore($x)}}", ""),
+    ("($x:ident $($x:ident)*) => {$x $y}", "twice x 2 13;"),
+    (
+        "($x:ident) => {}; ($y:ident) => {$x}",
+        "unused x 2;unused y 20;",
+    ),
+)
+
+# Definitions of which something else is reported too, which isn't of a finding.
+OTHERS = {
+    "($($($x:ident)*)*) => {$({$x})*}": "macro `m`, rule 1: empty token tree in repetition; ",
+    "($($($x:ident)*)*) => {$($($x)*)* $x}": "macro `m`, rule 1: empty token tree in repetition; ",
+    "($x:ident) => {}; ($y:ident) => {$x}": "no call reaches this rule: rule 1 takes every argument that it takes; ",
+}
+
+# Of each kind of finding, what is reported: the part of the text and what is said of it; and of the note at the variable, if that is
+# elsewhere, what it says. Of a punct of several chars the first one is the part.
+KINDS = (
+    (
+        "followed",
+        r"(?P<next>.+): `\${name}:{specifier}` may be followed by `(?P=next).*`, which is not allowed for `{specifier}` fragments",
+        "allowed there are: .+",
+    ),
+    ("twice", r"\${name}:\w+: duplicate matcher binding", "previous binding"),
+    ("unknown", r"\${name}:{specifier}: invalid fragment specifier `{specifier}`", None),
+    ("unused", r"\${name}:{specifier}: unused macro variable: `\${name}`", None),
+    ("repeats", r"\${name}: variable `{name}` is still repeating at this depth", r"bound at depth \d+, and used at depth \d+"),
+)
+
+VARIABLE = re.compile(r"\$(?P<name>\w+):(?P<specifier>\w+)")
+
+# What is before a definition's text.
+BEFORE = "macro_rules! m { "
+
+
+def part_of(text, report):
+    """The part of a definition that a report is of."""
+    (at,) = report["spans"]
+    return text[at["byte_start"] - len(BEFORE) : at["byte_end"] - len(BEFORE)]
+
+
+def place_of(text, report):
+    """Where that part begins; of a variable, where its name does."""
+    (at,) = report["spans"]
+    return at["byte_start"] - len(BEFORE) + part_of(text, report).startswith("$")
+
+
+def grouped(reports):
+    """The errors and warnings, each with the notes and helps after it."""
+    found = []
+    for report in reports:
+        if report["level"] in ("error", "warning") or not found:
+            found.append((report, []))
+        else:
+            found[-1][1].append(report)
+    return found
+
+
+def finding(text, report, rest):
+    """What a row says of a report and the notes after it, or nothing if it isn't of a finding."""
+    said = f"{part_of(text, report)}: {report['message']}"
+    for kind, form, note in KINDS:
+        at = next((it for it in rest if note and re.fullmatch(note, it["message"])), report)
+        variable = VARIABLE.fullmatch(part_of(text, at))
+        if variable and re.fullmatch(form.format(**variable.groupdict()), said):
+            later = f" {place_of(text, report)}" if note else ""
+            return f"{kind} {variable['name']} {place_of(text, at)}{later};"
+    return None
+
+
+def test(program):
+    for table, rows in (("FOLLOWING", FOLLOWING), ("VARIABLES", VARIABLES)):
+        for row in rows:
+            text, want = row
+            ran = program.run(["--edition", "2024", "--lint", "--json", "a.rs"], {"a.rs": f"{BEFORE}{text} }}"})
+            said = [(finding(text, report, rest), report["message"]) for report, rest in grouped(objects(ran.err))]
+            found = "".join(line for line, _ in said if line)
+            others = joined(message for line, message in said if not line)
+            got = (ran.status, ran.out, found, others)
+            program.check(f"following.{table}", row, got, (int(want != ""), "", want, OTHERS.get(text, "")))
