@@ -175,6 +175,10 @@ over_steps (suc n) beyond p = record {
   done = None;
 }
 
+-- they are over flat tokens alone
+abbrev pub IsOver : {A : Type 0} → Steps A → Type 0
+IsOver s = (s.first ≡ None) × (s.second ≡ None) × (s.done ≡ None)
+
 -- past a repetition, where it may have no round
 pub record IsSkip {A : Type 0} (kind : RepeatKind) (body rest : Ops) (old new : Log) (before : Position A)
     (p : Option (Position A)) : Type 0 where

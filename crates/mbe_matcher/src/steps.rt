@@ -1,12 +1,17 @@
 // The steps of a position at one place.
-ghost use Rattle.std.specs.Prelude.{◌≡◌, ◌≤◌, ◌+◌, ◌++◌, IfOk, OnOk, Some, None, option_map, option_to_list};
-ghost use Rattle.mbe_semantics.specs.Bindings.Account.{Account, IsAccount, HasEntriesOf};
+ghost use Rattle.std.specs.Prelude.{ℕ, ◌≡◌, ◌≤◌, ◌<◌, ◌+◌, ◌++◌, List, IfOk, OnOk, IsSome, IfSome, Some, None, option_map, option_to_list};
+ghost use Rattle.mbe_tt.specs.Trees.Tree.{flat_len};
+ghost use Rattle.mbe_tt.specs.Views.View.{trees};
+ghost use Rattle.mbe_semantics.specs.Bindings.Account.{Log, Account, IsAccount, HasEntriesOf};
 ghost use Rattle.mbe_semantics.specs.Syntax.Op.{op as op_then, group, variable, repetition, no_ops};
 ghost use Rattle.mbe_semantics.specs.Matching.Dots.{dots};
 ghost use Rattle.mbe_tt.specs.declared.span.Span.{Span};
 ghost use Rattle.mbe_tt.specs.Fragments.Grammar.{Grammar};
 ghost use Rattle.mbe_ops.specs.Views.{op_of, ops_of, separator_seen};
-ghost use Rattle.mbe_matcher.specs.Positions.{IsPosition, IsPlain, GivesSteps, GivesStepsIn, GivesStepsOver, GivesStepsFor, GivesRoundSteps, AreStepsOf, IsSkip, over_steps};
+ghost use Rattle.mbe_places.specs.declared.position.Outer.{Outer};
+ghost use Rattle.mbe_matcher.specs.Matched.{IsStackOf};
+ghost use Rattle.mbe_matcher.specs.Reports.{GoesAlone};
+ghost use Rattle.mbe_matcher.specs.Positions.{IsPosition, IsPlain, GivesSteps, GivesStepsIn, GivesStepsOver, GivesStepsFor, GivesRoundSteps, AreStepsOf, IsSkip, IsOver, over_steps};
 
 use crate::eat::eat_fragment;
 use crate::fronts::{between_width, opens, token_width};
@@ -150,7 +155,8 @@ fn plain_steps<'a, A: Allocator>(
     requires plain { IsPlain (op_of op.now) }
     requires dot { ops_of position.dot.now ≡ op_then (op_of op.now) (ops_of rest.now) }
     requires number { 1 ≤ position.number }
-    ensures { AreStepsOf source.now position.entry result }
+    ensures steps { AreStepsOf source.now position.entry result }
+    ensures alone { IfSome result.next (λ _. IsOver result) }
 {
     let Some(width) = token_width(op, &source.here()) else {
         return no_steps();
@@ -162,6 +168,38 @@ fn plain_steps<'a, A: Allocator>(
         handle: position.handle,
     };
     over(width, None, after)
+}
+
+// The step of an only position, where that is before a token of the pattern that fits: nothing else
+// comes of the place, and nothing is to be noted there.
+#[inline(always)]
+pub(crate) fn step_alone<'a, A: Allocator>(
+    source: &Source<'a, A>,
+    todo: &[Position<'a, A>],
+) -> Option<Waiting<'a, A>>
+    requires stack { (g : Grammar) × (size : ℕ) × (log : Log) × (outers : List (Outer A))
+        × IsStackOf g source.now size log outers todo.now }
+    ensures within { IsSome result → source.now.place < flat_len (trees source.now.whole) }
+    ensures alone { IfSome result
+        (λ w. (g : Grammar) (size : ℕ) (log : Log) (outers : List (Outer A))
+        (s : IsStackOf g source.now size log outers todo.now)
+        → GoesAlone g source.now s.pattern s.spots log outers w) }
+{
+    let [position] = todo else {
+        return None;
+    };
+    if source.is_at_end() {
+        return None;
+    }
+    let [op, rest @ ..] = position.dot else {
+        return None;
+    };
+    match op {
+        Op::Literal(_) | Op::Ident(_) | Op::Punct(_) => {
+            plain_steps(source, op, rest, position.again()).next
+        }
+        _ => None,
+    }
 }
 
 // Into a group.
