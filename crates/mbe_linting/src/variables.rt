@@ -140,7 +140,7 @@ fn push_used_op<'a, A: Allocator>(
             })?;
             Ok(())
         }
-        Op::Expression(expression) => push_used_expression(used, expression, depth),
+        Op::Expression(expression) => push_used_expression(used, expression.as_ref(), depth),
         Op::Subtree { tokens, .. } => push_used(used, &tokens.0, depth),
         Op::Repeat { tokens, .. } => {
             let deeper = one_deeper(depth)?;

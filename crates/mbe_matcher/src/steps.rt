@@ -63,7 +63,7 @@ fn op_steps<'a, A: Allocator + Copy, G: FragmentGrammar>(
             variable_steps(grammar, source, log, name, *kind, rest, position)
         }
         Op::Subtree { tokens, delimiter } => {
-            group_steps(source, outers, *delimiter, &tokens.0, rest, position)
+            group_steps(source, outers, delimiter.get(), &tokens.0, rest, position)
         }
         Op::Repeat {
             tokens,

@@ -20,7 +20,7 @@ fn start_of(puncts: &[Punct]) -> u32 {
 fn op_start(op: &Op) -> u32 {
     match op {
         Op::Var { id, .. } => id.start,
-        Op::Subtree { delimiter, .. } => delimiter.opening.start,
+        Op::Subtree { delimiter, .. } => delimiter.get().opening.start,
         Op::Literal(literal) => literal.span.start,
         Op::Ident(ident) => ident.span.start,
         Op::Punct(puncts) => start_of(puncts.as_slice()),

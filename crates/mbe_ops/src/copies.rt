@@ -3,7 +3,7 @@ ghost use Rattle.std.specs.Prelude.{◌≡◌, IfOk, option_map};
 ghost use Rattle.mbe_ops.specs.Views.{separator_seen, op_of, ops_of, template_of};
 
 use crate::expression::copied_expression;
-use crate::held::Between;
+use crate::held::{Around, Between, Inside};
 use crate::ops::{MetaTemplate, Op, Separator};
 use arrayvec::ArrayVec;
 use mbe_tt::tt::Punct;
@@ -41,7 +41,10 @@ fn copied_op<A: Allocator + Copy>(alloc: A, op: &Op<A>) -> Result<Op<A>, AllocEr
             kind: *kind,
             id: *id,
         }),
-        Op::Expression(expression) => Ok(Op::Expression(copied_expression(expression)?)),
+        Op::Expression(expression) => {
+            let copy = copied_expression(expression.as_ref())?;
+            Ok(Op::Expression(Inside::new(alloc, copy)?))
+        }
         Op::Repeat {
             tokens,
             kind,
@@ -53,7 +56,7 @@ fn copied_op<A: Allocator + Copy>(alloc: A, op: &Op<A>) -> Result<Op<A>, AllocEr
         }),
         Op::Subtree { tokens, delimiter } => Ok(Op::Subtree {
             tokens: MetaTemplate(copied_ops(alloc, &tokens.0)?),
-            delimiter: *delimiter,
+            delimiter: Around::new(alloc, delimiter.get())?,
         }),
         Op::Literal(literal) => Ok(Op::Literal(literal.clone()?)),
         Op::Punct(puncts) => Ok(Op::Punct(puncts.try_clone(alloc)?)),

@@ -49,7 +49,7 @@ fn same_op<A: Allocator>(one: &Op<A>, two: &Op<A>) -> bool
                 id: i,
             },
         ) => name == n && kind == k && id == i,
-        (Op::Expression(one), Op::Expression(two)) => same_expression(one, two),
+        (Op::Expression(one), Op::Expression(two)) => same_expression(one.as_ref(), two.as_ref()),
         (
             Op::Repeat {
                 tokens,
@@ -68,7 +68,7 @@ fn same_op<A: Allocator>(one: &Op<A>, two: &Op<A>) -> bool
                 tokens: ts,
                 delimiter: d,
             },
-        ) => same_delimiter(delimiter, d) && same_ops(&tokens.0, &ts.0),
+        ) => same_delimiter(&delimiter.get(), &d.get()) && same_ops(&tokens.0, &ts.0),
         (Op::Literal(one), Op::Literal(two)) => same_literal(one, two),
         (Op::Punct(one), Op::Punct(two)) => same_puncts(one.as_slice(), two.as_slice()),
         (Op::Ident(one), Op::Ident(two)) => same_ident(one, two),

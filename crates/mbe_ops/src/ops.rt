@@ -5,13 +5,12 @@ ghost use Rattle.std.specs.Str.{bytes_eq};
 ghost use Rattle.mbe_ops.specs.Equality.{IsSameSeparator};
 ghost use Rattle.mbe_ops.specs.Views.{separator_seen};
 
-use crate::expression::Expression;
-use crate::held::{Between, Puncts};
+use crate::held::{Around, Between, Inside, Puncts};
 use arrayvec::ArrayVec;
 use mbe_semantics::kinds::{MetaVarKind, RepeatKind};
 use mbe_tt::span::Span;
 use mbe_tt::symbol::Symbol;
-use mbe_tt::tt::{Delimiter, Ident, Literal, Punct};
+use mbe_tt::tt::{Ident, Literal, Punct};
 use std::alloc::{Allocator, Global};
 
 /// What is written between two rounds of a repetition.
@@ -89,7 +88,7 @@ pub enum Op<A: Allocator = Global> {
         kind: Option<MetaVarKind>,
     },
     /// In a template alone.
-    Expression(Expression<A>),
+    Expression(Inside<A>),
     Repeat {
         tokens: MetaTemplate<A>,
         kind: RepeatKind,
@@ -97,7 +96,7 @@ pub enum Op<A: Allocator = Global> {
     },
     Subtree {
         tokens: MetaTemplate<A>,
-        delimiter: Delimiter,
+        delimiter: Around<A>,
     },
     Literal(Literal<A>),
     Punct(Puncts<A>),

@@ -257,7 +257,7 @@ fn shortest_of_op<A: Allocator>(
     match op {
         Op::Literal(_) | Op::Ident(_) | Op::Punct(_) => None,
         Op::Var { name, .. } => extent_under(bindings, path, Want::Fragment, name),
-        Op::Expression(expression) => shortest_of_expression(bindings, path, expression),
+        Op::Expression(expression) => shortest_of_expression(bindings, path, expression.as_ref()),
         Op::Subtree { tokens, .. } => shortest(bindings, path, &tokens.0),
         Op::Repeat { tokens, .. } => shortest(bindings, path, &tokens.0),
     }

@@ -11,6 +11,7 @@ ghost use Rattle.mbe_ops.specs.Views.{op_of};
 
 use mbe_errors::error::{ReadError, SyntaxFault};
 use mbe_ops::expression::{ConcatMetaVarExprElem, Expression};
+use mbe_ops::held::Inside;
 use mbe_ops::ops::Op;
 use mbe_tt::span::Span;
 use mbe_tt::tt::{DelimiterKind, Ident, Leaf, Literal, TtElement, TtIter};
@@ -32,7 +33,8 @@ pub fn parse_metavar_expr<A: Allocator + Copy>(
     ensures fault { IfErr result (λ e. NotExpression e (expression_of src.entry)) }
 {
     let (func, args) = func_and_args(src).ok_or(SyntaxFault::InvalidExpression)?;
-    Ok(Op::Expression(parse_args(alloc, func, args)?))
+    let expression = parse_args(alloc, func, args)?;
+    Ok(Op::Expression(Inside::new(alloc, expression)?))
 }
 
 // The name of the function, and the arguments, which are in parentheses.
