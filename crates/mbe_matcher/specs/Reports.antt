@@ -27,7 +27,8 @@ use Rattle.mbe_matcher.specs.declared.report.Last.{Last}
 use Rattle.mbe_matcher.specs.Positions.{Both, Holds}
 use Rattle.mbe_places.specs.declared.position.Outer.{Outer}
 use Rattle.mbe_places.specs.declared.position.Waiting.{Waiting}
-use Rattle.mbe_matcher.specs.Matched.{AreSettled, AreSettledAt}
+use Rattle.mbe_places.specs.declared.position.Position.{Position}
+use Rattle.mbe_matcher.specs.Matched.{IsStackOf, AreSettled, AreSettledAt}
 use Rattle.mbe_places.specs.Stops.{verdict_in}
 use Rattle.mbe_matcher.specs.Failures.{Misfit, Source, failed, ended, Notes, is_any, or_first, source_of, noted_at, AreNotes, Reports}
 
@@ -85,6 +86,13 @@ pub record GoesAlone {A : Type 0} (g : Grammar) (source : Argument A) (pattern :
   pub notes : (n : Notes) → noted_at (input_of g (trees source.whole)) source.place
       (kept_at (input_of g (trees source.whole)) (dots pattern) source.place (reverse spots)) n ≡ n
   pub all : IsLawful g → FollowsAll g source pattern spots
+
+-- The only position of a stack goes on so, over so many flat tokens, and is the stack after it.
+abbrev pub StepsAlone : {A : Type 0} → Argument A → ℕ → List (Position A) → List (Position A) → Type 0
+StepsAlone {A} source width before after =
+    (w : Waiting A) × (w.width ≡ width) × (w.beyond ≡ None) × (after ≡ w.after ∷ [])
+    × ((g : Grammar) (size : ℕ) (log : Log) (outers : List (Outer A))
+    (s : IsStackOf g source size log outers before) → GoesAlone g source s.pattern s.spots log outers w)
 
 -- The steps of the positions are followed, two of each dot, and the place is noted.
 pub record Settles {A : Type 0} (g : Grammar) (source : Argument A) (pattern : Ops) (spots : List Outline)

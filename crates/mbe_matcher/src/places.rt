@@ -80,10 +80,8 @@ pub(crate) fn follow<'a, A: Allocator + Copy, G: FragmentGrammar>(
     let mut settled = Settled::new(&alloc);
     let mut source = Source::new(alloc, argument);
     loop {
-        if let Some(next) = step_alone(&source, todo.as_slice()) {
-            source = after_step(source, &next)?;
-            todo.clear();
-            todo.push(next.after)?;
+        if let Some(width) = step_alone(&source, &mut todo) {
+            source = source.passed(width)?;
             continue;
         }
         settle(grammar, &source, log, &mut state, &mut todo, &mut settled)?;

@@ -10,7 +10,7 @@ ghost use Rattle.mbe_tt.specs.Fragments.Grammar.{Grammar};
 ghost use Rattle.mbe_ops.specs.Views.{op_of, ops_of, separator_seen};
 ghost use Rattle.mbe_places.specs.declared.position.Outer.{Outer};
 ghost use Rattle.mbe_matcher.specs.Matched.{IsStackOf};
-ghost use Rattle.mbe_matcher.specs.Reports.{GoesAlone};
+ghost use Rattle.mbe_matcher.specs.Reports.{StepsAlone};
 ghost use Rattle.mbe_matcher.specs.Positions.{IsPosition, IsPlain, GivesSteps, GivesStepsIn, GivesStepsOver, GivesStepsFor, GivesRoundSteps, AreStepsOf, IsSkip, IsOver, over_steps};
 
 use crate::eat::eat_fragment;
@@ -19,7 +19,7 @@ use crate::skipping::skip_ops;
 use mbe_log::fragment::of_kind;
 use mbe_log::log::{BindingLog, again, emptied};
 use mbe_ops::ops::{Op, Separator};
-use mbe_places::position::{Outer, Position, Rounds, Steps, Waiting};
+use mbe_places::position::{Outer, Position, Rounds, Steps, Todo, Waiting};
 use mbe_places::source::Source;
 use mbe_semantics::kinds::{MetaVarKind, RepeatKind};
 use mbe_tt::grammar::FragmentGrammar;
@@ -170,36 +170,41 @@ fn plain_steps<'a, A: Allocator>(
     over(width, None, after)
 }
 
-// The step of an only position, where that is before a token of the pattern that fits: nothing else
-// comes of the place, and nothing is to be noted there.
+// Moves an only position over the token of the pattern that it is before, if that fits, and returns
+// how many flat tokens that passes: nothing else comes of the place, and nothing is to be noted there.
 #[inline(always)]
-pub(crate) fn step_alone<'a, A: Allocator>(
+pub(crate) fn step_alone<'a, A: Allocator + Copy>(
     source: &Source<'a, A>,
-    todo: &[Position<'a, A>],
-) -> Option<Waiting<'a, A>>
+    todo: &mut Todo<'a, '_, A>,
+) -> Option<usize>
     requires stack { (g : Grammar) × (size : ℕ) × (log : Log) × (outers : List (Outer A))
-        × IsStackOf g source.now size log outers todo.now }
+        × IsStackOf g source.now size log outers todo.old.items }
     ensures within { IsSome result → source.now.place < flat_len (trees source.now.whole) }
-    ensures alone { IfSome result
-        (λ w. (g : Grammar) (size : ℕ) (log : Log) (outers : List (Outer A))
-        (s : IsStackOf g source.now size log outers todo.now)
-        → GoesAlone g source.now s.pattern s.spots log outers w) }
+    ensures alone { IfSome result (λ width. StepsAlone source.now width
+        todo.old.items todo.new.items) }
+    ensures unmoved { result ≡ None → todo.new ≡ todo.old }
 {
-    let [position] = todo else {
+    let [position] = todo.as_slice() else {
+        return None;
+    };
+    let [op, rest @ ..] = position.dot else {
         return None;
     };
     if source.is_at_end() {
         return None;
     }
-    let [op, rest @ ..] = position.dot else {
+    let width = token_width(op, &source.here())?;
+    if width == 0 {
         return None;
-    };
-    match op {
-        Op::Literal(_) | Op::Ident(_) | Op::Punct(_) => {
-            plain_steps(source, op, rest, position.again()).next
-        }
-        _ => None,
     }
+    let after = Position {
+        dot: rest,
+        number: position.number - 1,
+        up: position.up,
+        handle: again(&position.handle),
+    };
+    todo.as_mut_slice()[0] = after;
+    Some(width)
 }
 
 // Into a group.

@@ -35,8 +35,8 @@ counted g c =
 pub at_start-requires : goal.at_start-requires
 at_start-requires g c = counted g (goal.at.at_start-requires g c).In_ok-dots
 
-pub loop-next-init : goal.loop-next-init
-loop-next-init g c =
+pub loop-width-init : goal.loop-width-init
+loop-width-init g c =
     let h = g.G.FragmentGrammar.grammar c.args.grammar.now in
     let s = c.new-source.result in
     let pat = template_of c.args.pattern.now in
@@ -53,13 +53,13 @@ loop-next-init g c =
       );
       whole = c.new-source.ensures.whole;
       blank = λ q l. c.in_ok-state.ensures.blank q (omega arith);
-      size = c.in_ok-state.ensures.size ∙ counted g (goal.at.loop-next-init g c).In_ok-dots;
+      size = c.in_ok-state.ensures.size ∙ counted g (goal.at.loop-width-init g c).In_ok-dots;
       kept = c.in_ok-position.ensures.kept;
     }
 
 pub settle-requires : goal.settle-requires
 settle-requires g c =
-    let inv = c.loop-next.invariant in
+    let inv = c.loop-width.invariant in
     let stack = came_stack (g.met.G.FragmentGrammar.lawful c.args.grammar.now) c.requires inv.comes.0 inv.size in
     (omega arith, (omega arith, (stack, inv.blank)))
 
@@ -68,49 +68,49 @@ settle-requires g c =
 pub step_alone-requires : goal.step_alone-requires
 step_alone-requires g c =
     let h = g.G.FragmentGrammar.grammar c.args.grammar.now in
-    let inv = c.loop-next.invariant in
-    let size = dots_in c.loop-next.state in
-    let outers = c.loop-next.state.outers.items in
+    let inv = c.loop-width.invariant in
+    let size = dots_in c.loop-width.state in
+    let outers = c.loop-width.state.outers.items in
     record {
       stack = (
         h,
         size,
-        c.loop-next.log,
+        c.loop-width.log,
         outers,
-        subst (λ l. IsStackOf h c.loop-next.source size c.loop-next.log outers l) (sym c.as_slice.ensures)
+        subst (λ l. IsStackOf h c.loop-width.source size c.loop-width.log outers l) (sym c.as_slice.ensures)
             (came_stack (g.met.G.FragmentGrammar.lawful c.args.grammar.now) c.requires inv.comes.0 inv.size),
       );
     }
 
 module _ (g : _) (c : In-Some g) where
-  goes : GoesAlone (g.G.FragmentGrammar.grammar c.args.grammar.now) c.loop-next.source
-      (template_of c.args.pattern.now) c.loop-next.invariant.comes.0.spots c.loop-next.log
-      c.loop-next.state.outers.items c.in-Some.next
+  goes : GoesAlone (g.G.FragmentGrammar.grammar c.args.grammar.now) c.loop-width.source
+      (template_of c.args.pattern.now) c.loop-width.invariant.comes.0.spots c.loop-width.log
+      c.loop-width.state.outers.items c.in-Some.next
   goes =
       let h = g.G.FragmentGrammar.grammar c.args.grammar.now in
-      let size = dots_in c.loop-next.state in
-      let outers = c.loop-next.state.outers.items in
-      subst (λ l. (s : IsStackOf h c.loop-next.source size c.loop-next.log outers l)
-      → GoesAlone h c.loop-next.source s.pattern s.spots c.loop-next.log outers c.in-Some.next)
-      c.as_slice.ensures (c.in-Some.ensures.alone h size c.loop-next.log outers)
-      (came_stack (g.met.G.FragmentGrammar.lawful c.args.grammar.now) c.requires c.loop-next.invariant.comes.0
-      c.loop-next.invariant.size)
+      let size = dots_in c.loop-width.state in
+      let outers = c.loop-width.state.outers.items in
+      subst (λ l. (s : IsStackOf h c.loop-width.source size c.loop-width.log outers l)
+      → GoesAlone h c.loop-width.source s.pattern s.spots c.loop-width.log outers c.in-Some.next)
+      c.as_slice.ensures (c.in-Some.ensures.alone h size c.loop-width.log outers)
+      (came_stack (g.met.G.FragmentGrammar.lawful c.args.grammar.now) c.requires c.loop-width.invariant.comes.0
+      c.loop-width.invariant.size)
 
   gone : SettledAt (g.G.FragmentGrammar.grammar c.args.grammar.now) (template_of c.args.pattern.now)
-      (trees c.loop-next.source.whole) c.loop-next.source.place c.loop-next.invariant.comes.0.spots
-      c.loop-next.log c.loop-next.state.outers.items (c.in-Some.next ∷ []) []
+      (trees c.loop-width.source.whole) c.loop-width.source.place c.loop-width.invariant.comes.0.spots
+      c.loop-width.log c.loop-width.state.outers.items (c.in-Some.next ∷ []) []
   gone = record {
     lawful = g.met.G.FragmentGrammar.lawful c.args.grammar.now;
     checked = c.requires;
-    comes = c.loop-next.invariant.comes.0.comes;
-    within = c.loop-next.source.within;
+    comes = c.loop-width.invariant.comes.0.comes;
+    within = c.loop-width.source.within;
     steps = goes.steps;
   }
 
   on : Onward (g.G.FragmentGrammar.grammar c.args.grammar.now) (template_of c.args.pattern.now)
-      (trees c.loop-next.source.whole) c.loop-next.source.place c.loop-next.invariant.comes.0.spots
+      (trees c.loop-width.source.whole) c.loop-width.source.place c.loop-width.invariant.comes.0.spots
       (c.in-Some.next ∷ []) c.in-Some.next
-  on = settled_onward gone (waits_on c.loop-next.source.place (flat_len (trees c.loop-next.source.whole))
+  on = settled_onward gone (waits_on c.loop-width.source.place (flat_len (trees c.loop-width.source.whole))
       c.in-Some.next (c.in-Some.ensures.within refl)) c.in-Some.next (c.in-Some.next ∷ []) refl refl
 
 pub after_step-requires-clause-fits : goal.after_step-requires-clause-fits
@@ -122,23 +122,23 @@ after_step-requires-clause-fits g c =
 pub after_step-requires-clause-left : goal.after_step-requires-clause-left
 after_step-requires-clause-left g c = (on g (goal.at.after_step-requires-clause-left g c).In-Some).left
 
-pub loop-next-smaller-in-Some : goal.loop-next-smaller-in-Some
-loop-next-smaller-in-Some g c =
-    let n = on g (goal.at.loop-next-smaller-in-Some g c).In-Some in
+pub loop-width-smaller-in-Some : goal.loop-width-smaller-in-Some
+loop-width-smaller-in-Some g c =
+    let n = on g (goal.at.loop-width-smaller-in-Some g c).In-Some in
     let fits = n.fits in
     let some = n.some in
     let at = c.in_ok-source.ensures.place in
     let same = ap (λ x. flat_len (trees x)) c.in_ok-source.ensures.whole in
     omega (arith, fits, some, at, same)
 
-pub loop-next-preserved-in-Some : goal.loop-next-preserved-in-Some
-loop-next-preserved-in-Some g c =
-    let here = (goal.at.loop-next-preserved-in-Some g c).In-Some in
+pub loop-width-preserved-in-Some : goal.loop-width-preserved-in-Some
+loop-width-preserved-in-Some g c =
+    let here = (goal.at.loop-width-preserved-in-Some g c).In-Some in
     let h = g.G.FragmentGrammar.grammar c.args.grammar.now in
-    let s = c.loop-next.source in
+    let s = c.loop-width.source in
     let i = input_of h (trees s.whole) in
     let pat = template_of c.args.pattern.now in
-    let inv = c.loop-next.invariant in
+    let inv = c.loop-width.invariant in
     let spots = inv.comes.0.spots in
     let next = c.in-Some.next in
     let n = on g here in
@@ -155,7 +155,7 @@ loop-next-preserved-in-Some g c =
             (ap (λ x. trees x) c.in_ok-source.ensures.whole) c.in_ok-source.source.place at
             c.push-in-Some.new.self.items arrived,
         inv.comes.1,
-        subst (λ x. IsReportOf c.loop-next.log (trees x) c.loop-next.state.report [] inv.comes.1)
+        subst (λ x. IsReportOf c.loop-width.log (trees x) c.loop-width.state.report [] inv.comes.1)
             (sym c.in_ok-source.ensures.whole) inv.comes.2,
         λ clean.
             let was = inv.comes.3 clean in
@@ -177,109 +177,109 @@ loop-next-preserved-in-Some g c =
 
 module _ (g : _) (c : In_ok-settle g) where
   -- what is known of the positions, and of what they report
-  settles : Settles (g.G.FragmentGrammar.grammar c.args.grammar.now) c.loop-next.source
-      (template_of c.args.pattern.now) c.loop-next.invariant.comes.0.spots c.loop-next.log c.settle.new.log
-      c.loop-next.state c.settle.new.state c.settle.new.settled
+  settles : Settles (g.G.FragmentGrammar.grammar c.args.grammar.now) c.loop-width.source
+      (template_of c.args.pattern.now) c.loop-width.invariant.comes.0.spots c.loop-width.log c.settle.new.log
+      c.loop-width.state c.settle.new.state c.settle.new.settled
   settles = c.in_ok-settle.ensures.settled
-      (came_stack (g.met.G.FragmentGrammar.lawful c.args.grammar.now) c.requires c.loop-next.invariant.comes.0
-      c.loop-next.invariant.size)
+      (came_stack (g.met.G.FragmentGrammar.lawful c.args.grammar.now) c.requires c.loop-width.invariant.comes.0
+      c.loop-width.invariant.size)
 
   settled : SettledAt (g.G.FragmentGrammar.grammar c.args.grammar.now) (template_of c.args.pattern.now)
-      (trees c.loop-next.source.whole) c.loop-next.source.place c.loop-next.invariant.comes.0.spots
+      (trees c.loop-width.source.whole) c.loop-width.source.place c.loop-width.invariant.comes.0.spots
       c.settle.new.log c.settle.new.state.outers.items c.settle.new.settled.waiting.items
       c.settle.new.settled.ends.items
   settled = record {
     lawful = g.met.G.FragmentGrammar.lawful c.args.grammar.now;
     checked = c.requires;
-    comes = c.loop-next.invariant.comes.0.comes;
-    within = c.loop-next.source.within;
+    comes = c.loop-width.invariant.comes.0.comes;
+    within = c.loop-width.source.within;
     steps = settles.steps;
   }
 
   -- what is noted at the place and before it
   abbrev noted : Notes
-  noted = noted_at (input_of (g.G.FragmentGrammar.grammar c.args.grammar.now) (trees c.loop-next.source.whole))
-      c.loop-next.source.place
-      (kept (input_of (g.G.FragmentGrammar.grammar c.args.grammar.now) (trees c.loop-next.source.whole))
-      (dots (template_of c.args.pattern.now)) c.loop-next.source.place
-      (reverse c.loop-next.invariant.comes.0.spots)) c.loop-next.invariant.comes.1
+  noted = noted_at (input_of (g.G.FragmentGrammar.grammar c.args.grammar.now) (trees c.loop-width.source.whole))
+      c.loop-width.source.place
+      (kept (input_of (g.G.FragmentGrammar.grammar c.args.grammar.now) (trees c.loop-width.source.whole))
+      (dots (template_of c.args.pattern.now)) c.loop-width.source.place
+      (reverse c.loop-width.invariant.comes.0.spots)) c.loop-width.invariant.comes.1
 
-  lawful : Lawful (input_of (g.G.FragmentGrammar.grammar c.args.grammar.now) (trees c.loop-next.source.whole))
-      (flat_len (trees c.loop-next.source.whole))
-  lawful = lawful_input (g.G.FragmentGrammar.grammar c.args.grammar.now) (trees c.loop-next.source.whole)
+  lawful : Lawful (input_of (g.G.FragmentGrammar.grammar c.args.grammar.now) (trees c.loop-width.source.whole))
+      (flat_len (trees c.loop-width.source.whole))
+  lawful = lawful_input (g.G.FragmentGrammar.grammar c.args.grammar.now) (trees c.loop-width.source.whole)
       (g.met.G.FragmentGrammar.lawful c.args.grammar.now)
 
   -- as long as none was dropped, all that is held is followed
   whole : c.settle.new.state.has_dropped ≡ false
-      → (was : WholeWith (input_of (g.G.FragmentGrammar.grammar c.args.grammar.now) (trees c.loop-next.source.whole))
-      (template_of c.args.pattern.now) c.loop-next.source.place c.loop-next.invariant.comes.0.spots
-      c.loop-next.invariant.comes.1)
-      × (kept (input_of (g.G.FragmentGrammar.grammar c.args.grammar.now) (trees c.loop-next.source.whole))
-      (dots (template_of c.args.pattern.now)) c.loop-next.source.place
-      (reverse c.loop-next.invariant.comes.0.spots)
+      → (was : WholeWith (input_of (g.G.FragmentGrammar.grammar c.args.grammar.now) (trees c.loop-width.source.whole))
+      (template_of c.args.pattern.now) c.loop-width.source.place c.loop-width.invariant.comes.0.spots
+      c.loop-width.invariant.comes.1)
+      × (kept (input_of (g.G.FragmentGrammar.grammar c.args.grammar.now) (trees c.loop-width.source.whole))
+      (dots (template_of c.args.pattern.now)) c.loop-width.source.place
+      (reverse c.loop-width.invariant.comes.0.spots)
       ≡ map erase (held (input_of (g.G.FragmentGrammar.grammar c.args.grammar.now)
-      (trees c.loop-next.source.whole)) c.loop-next.source.place was.xs))
+      (trees c.loop-width.source.whole)) c.loop-width.source.place was.xs))
   whole clean =
       let follows = settles.all clean in
-      let was = c.loop-next.invariant.comes.3 follows.0 in (
+      let was = c.loop-width.invariant.comes.3 follows.0 in (
         was,
         follows.1 c.requires was.xs (whole_sound _ _ _ lawful c.requires _ _ _ was) was.same,
       )
 
 -- it stops there
 stops : (g : _) (c : In-Some-stopped g) → Some (verdict_in c.in-Some-stopped.stop)
-    ≡ stop_at c.loop-next.source.place (flat_len (trees c.loop-next.source.whole))
+    ≡ stop_at c.loop-width.source.place (flat_len (trees c.loop-width.source.whole))
     c.settle.new.settled.waiting.items c.settle.new.settled.ends.items
-stops g c = stop_seen (Some (verdict_in c.in-Some-stopped.stop)) c.loop-next.source.place
-    (flat_len (trees c.loop-next.source.whole)) c.deref-in-loop-next.result.now
-    c.settle.new.settled.waiting.items c.deref-in-loop-next-2.result.now c.settle.new.settled.ends.items
-    c.in-Some-stopped.ensures.stop c.deref-in-loop-next.ensures c.deref-in-loop-next-2.ensures
+stops g c = stop_seen (Some (verdict_in c.in-Some-stopped.stop)) c.loop-width.source.place
+    (flat_len (trees c.loop-width.source.whole)) c.deref-in-loop-width.result.now
+    c.settle.new.settled.waiting.items c.deref-in-loop-width-2.result.now c.settle.new.settled.ends.items
+    c.in-Some-stopped.ensures.stop c.deref-in-loop-width.ensures c.deref-in-loop-width-2.ensures
 
 -- or not
 stays : (g : _) (c : In_default-stopped g) → None
-    ≡ stop_at c.loop-next.source.place (flat_len (trees c.loop-next.source.whole))
+    ≡ stop_at c.loop-width.source.place (flat_len (trees c.loop-width.source.whole))
     c.settle.new.settled.waiting.items c.settle.new.settled.ends.items
-stays g c = stop_seen None c.loop-next.source.place (flat_len (trees c.loop-next.source.whole))
-    c.deref-in-loop-next.result.now c.settle.new.settled.waiting.items c.deref-in-loop-next-2.result.now
-    c.settle.new.settled.ends.items c.in_default-stopped.ensures.stop c.deref-in-loop-next.ensures
-    c.deref-in-loop-next-2.ensures
+stays g c = stop_seen None c.loop-width.source.place (flat_len (trees c.loop-width.source.whole))
+    c.deref-in-loop-width.result.now c.settle.new.settled.waiting.items c.deref-in-loop-width-2.result.now
+    c.settle.new.settled.ends.items c.in_default-stopped.ensures.stop c.deref-in-loop-width.ensures
+    c.deref-in-loop-width-2.ensures
 
 pub returns-in-Some-stopped-clause-verdict : goal.returns-in-Some-stopped-clause-verdict
 returns-in-Some-stopped-clause-verdict g c =
     let here = goal.at.returns-in-Some-stopped-clause-verdict g c in
     let v = verdict_in c.in-Some-stopped.stop in
     subst (λ x. IsVerdict (g.G.FragmentGrammar.grammar c.args.grammar.now) (template_of c.args.pattern.now) (trees x) v)
-    c.loop-next.invariant.whole (settled_verdict (settled g here.In_ok-settle) v (stops g here.In-Some-stopped))
+    c.loop-width.invariant.whole (settled_verdict (settled g here.In_ok-settle) v (stops g here.In-Some-stopped))
 
 pub returns-in-Some-stopped-clause-unmatched : goal.returns-in-Some-stopped-clause-unmatched
 returns-in-Some-stopped-clause-unmatched g c =
     let here = goal.at.returns-in-Some-stopped-clause-unmatched g c in
     let v = verdict_in c.in-Some-stopped.stop in
-    subst (λ x. c.trees_left.result ≡ unmatched (trees x) v) c.loop-next.invariant.whole
-    (c.trees_left.ensures ∙ ap (λ (n : ℕ). tree_count (rest_at (trees c.loop-next.source.whole) n))
+    subst (λ x. c.trees_left.result ≡ unmatched (trees x) v) c.loop-width.invariant.whole
+    (c.trees_left.ensures ∙ ap (λ (n : ℕ). tree_count (rest_at (trees c.loop-width.source.whole) n))
     (sym (settled_place (settled g here.In_ok-settle) v (stops g here.In-Some-stopped))))
 
 pub returns-in-Some-stopped-clause-binds : goal.returns-in-Some-stopped-clause-binds
 returns-in-Some-stopped-clause-binds g c =
     let here = goal.at.returns-in-Some-stopped-clause-binds g c in
-    let only = subst (λ l. IfSome (reading_in c.in-Some-stopped.stop) (λ h. l ≡ h ∷ [])) c.deref-in-loop-next-2.ensures
+    let only = subst (λ l. IfSome (reading_in c.in-Some-stopped.stop) (λ h. l ≡ h ∷ [])) c.deref-in-loop-width-2.ensures
     c.in-Some-stopped.ensures.reading in
     subst (λ x. IfSome (reading_in c.in-Some-stopped.stop)
     (Binds (g.G.FragmentGrammar.grammar c.args.grammar.now) (template_of c.args.pattern.now) (trees x)
-    c.settle.new.log)) c.loop-next.invariant.whole
+    c.settle.new.log)) c.loop-width.invariant.whole
     (settled_binds (settled g here.In_ok-settle) c.in-Some-stopped.stop (stops g here.In-Some-stopped) only)
 
 pub returns-in-Some-stopped-clause-kept : goal.returns-in-Some-stopped-clause-kept
 returns-in-Some-stopped-clause-kept g c =
-    kept-on c.args.log.now c.loop-next.log c.settle.new.log c.loop-next.invariant.kept c.in_ok-settle.ensures.kept.log
+    kept-on c.args.log.now c.loop-width.log c.settle.new.log c.loop-width.invariant.kept c.in_ok-settle.ensures.kept.log
 
 pub returns-in-Some-stopped-clause-notes : goal.returns-in-Some-stopped-clause-notes
 returns-in-Some-stopped-clause-notes g c =
     let here = goal.at.returns-in-Some-stopped-clause-notes g c in
     let h = g.G.FragmentGrammar.grammar c.args.grammar.now in
-    let s = c.loop-next.source in
+    let s = c.loop-width.source in
     let pat = template_of c.args.pattern.now in
-    let inv = c.loop-next.invariant in
+    let inv = c.loop-width.invariant in
     let at = here.In_ok-settle in
     let stop = settled_place (settled g at) (verdict_in c.in-Some-stopped.stop) (stops g here.In-Some-stopped) in
     let reached : Reached g.row.A.Denot =
@@ -301,59 +301,59 @@ returns-in-Some-stopped-clause-notes g c =
 pub bounds-deref-0 : goal.bounds-deref-0
 bounds-deref-0 g c =
     let here = goal.at.bounds-deref-0 g c in
-    settled_some (settled g here.In_ok-settle) (stays g here.In_default-stopped) c.deref-in-loop-next-3.result.now
-    c.deref-in-loop-next-3.ensures
+    settled_some (settled g here.In_ok-settle) (stays g here.In_default-stopped) c.deref-in-loop-width-3.result.now
+    c.deref-in-loop-width-3.ensures
 
 -- it goes on, with the step at the front of what was read
 onward : (g : _) (c : In_default-stopped g) (x : Waiting g.row.A.Denot) (seen : List (Waiting g.row.A.Denot))
     → seen ≡ c.settle.new.settled.waiting.items → x ≡ get_or seen 0 x
     → Onward (g.G.FragmentGrammar.grammar c.args.grammar.now) (template_of c.args.pattern.now)
-    (trees c.loop-next.source.whole) c.loop-next.source.place c.loop-next.invariant.comes.0.spots
+    (trees c.loop-width.source.whole) c.loop-width.source.place c.loop-width.invariant.comes.0.spots
     c.settle.new.settled.waiting.items x
 onward g c x seen same is =
     settled_onward (settled g (goal.at.In_default-stopped g c).In_ok-settle) (stays g c) x seen same is
 
-pub after_step-requires-in-loop-next-clause-fits : goal.after_step-requires-in-loop-next-clause-fits
-after_step-requires-in-loop-next-clause-fits g c =
-    let n = onward g (goal.at.after_step-requires-in-loop-next-clause-fits g c).In_default-stopped
-    c.index-deref-0.result c.deref-in-loop-next-3.result.now c.deref-in-loop-next-3.ensures c.index-deref-0.is in
+pub after_step-requires-in-loop-width-clause-fits : goal.after_step-requires-in-loop-width-clause-fits
+after_step-requires-in-loop-width-clause-fits g c =
+    let n = onward g (goal.at.after_step-requires-in-loop-width-clause-fits g c).In_default-stopped
+    c.index-deref-0.result c.deref-in-loop-width-3.result.now c.deref-in-loop-width-3.ensures c.index-deref-0.is in
     let fits = n.fits in
     omega (arith, fits)
 
-pub after_step-requires-in-loop-next-clause-left : goal.after_step-requires-in-loop-next-clause-left
-after_step-requires-in-loop-next-clause-left g c =
-    (onward g (goal.at.after_step-requires-in-loop-next-clause-left g c).In_default-stopped c.index-deref-0.result
-    c.deref-in-loop-next-3.result.now c.deref-in-loop-next-3.ensures c.index-deref-0.is).left
+pub after_step-requires-in-loop-width-clause-left : goal.after_step-requires-in-loop-width-clause-left
+after_step-requires-in-loop-width-clause-left g c =
+    (onward g (goal.at.after_step-requires-in-loop-width-clause-left g c).In_default-stopped c.index-deref-0.result
+    c.deref-in-loop-width-3.result.now c.deref-in-loop-width-3.ensures c.index-deref-0.is).left
 
-pub loop-next-smaller : goal.loop-next-smaller
-loop-next-smaller g c =
-    let n = onward g (goal.at.loop-next-smaller g c).In_default-stopped c.index-deref-0.result
-    c.deref-in-loop-next-3.result.now c.deref-in-loop-next-3.ensures c.index-deref-0.is in
+pub loop-width-smaller : goal.loop-width-smaller
+loop-width-smaller g c =
+    let n = onward g (goal.at.loop-width-smaller g c).In_default-stopped c.index-deref-0.result
+    c.deref-in-loop-width-3.result.now c.deref-in-loop-width-3.ensures c.index-deref-0.is in
     let fits = n.fits in
     let some = n.some in
     let at = c.in_ok-source-2.ensures.place in
     let same = ap (λ x. flat_len (trees x)) c.in_ok-source-2.ensures.whole in
     omega (arith, fits, some, at, same)
 
-pub loop-next-preserved : goal.loop-next-preserved
-loop-next-preserved g c =
-    let here = goal.at.loop-next-preserved g c in
+pub loop-width-preserved : goal.loop-width-preserved
+loop-width-preserved g c =
+    let here = goal.at.loop-width-preserved g c in
     let h = g.G.FragmentGrammar.grammar c.args.grammar.now in
-    let s = c.loop-next.source in
+    let s = c.loop-width.source in
     let i = input_of h (trees s.whole) in
     let pat = template_of c.args.pattern.now in
-    let inv = c.loop-next.invariant in
+    let inv = c.loop-width.invariant in
     let spots = inv.comes.0.spots in
     let ws = c.settle.new.settled.waiting.items in
     let log = c.settle.new.log in
     let step = c.index-deref-0.result in
-    let n = onward g here.In_default-stopped step c.deref-in-loop-next-3.result.now c.deref-in-loop-next-3.ensures
+    let n = onward g here.In_default-stopped step c.deref-in-loop-width-3.result.now c.deref-in-loop-width-3.ensures
     c.index-deref-0.is in
     let some = n.some in
     let at = c.in_ok-source-2.ensures.place in
     let place = here.In_ok-settle in
     let arrived : c.come.new.todo.items ≡ map position_after ws =
-    c.in_ok-come.ensures ∙ ap (λ l. c.settle.new.todo.items ++ map position_after l) c.deref-in-loop-next-4.ensures
+    c.in_ok-come.ensures ∙ ap (λ l. c.settle.new.todo.items ++ map position_after l) c.deref-in-loop-width-4.ensures
     ∙ ap (λ l. l ++ map position_after ws) c.in_ok-settle.ensures.done in
     record {
       comes = (
@@ -374,5 +374,5 @@ loop-next-preserved g c =
       whole = c.in_ok-source-2.ensures.whole ∙ inv.whole;
       blank = λ q l. c.in_ok-settle.ensures.blank q (omega (arith, l, at, some));
       size = c.in_ok-settle.ensures.size ∙ inv.size;
-      kept = kept-on c.args.log.now c.loop-next.log log inv.kept c.in_ok-settle.ensures.kept.log;
+      kept = kept-on c.args.log.now c.loop-width.log log inv.kept c.in_ok-settle.ensures.kept.log;
     }

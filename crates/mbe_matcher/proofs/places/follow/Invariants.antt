@@ -12,8 +12,8 @@ use Rattle.mbe_matcher.proofs.Whole.{WholeWith}
 use Rattle.mbe_matcher.proofs.Arriving.{CameTo}
 use Rattle.mbe_matcher.proofs.places.follow.Given as goal
 
-abbrev pub invariant-loop-next : goal.invariant-loop-next
-invariant-loop-next g l = record {
+abbrev pub invariant-loop-width : goal.invariant-loop-width
+invariant-loop-width g l = record {
   comes : (came : CameTo (g.G.FragmentGrammar.grammar l.grammar) (template_of l.pattern) (trees l.source.whole)
       l.source.place l.log l.state.outers.items l.todo.items)
       × (before : Notes) × IsReportOf l.log (trees l.source.whole) l.state.report [] before
@@ -26,5 +26,5 @@ invariant-loop-next g l = record {
   kept : IsKept l.fn.log l.log;
 }
 
-abbrev pub decreases-loop-next : goal.decreases-loop-next
-decreases-loop-next g l = flat_len (trees l.source.whole) - l.source.place
+abbrev pub decreases-loop-width : goal.decreases-loop-width
+decreases-loop-width g l = flat_len (trees l.source.whole) - l.source.place
