@@ -8,6 +8,8 @@ import tempfile
 from programs import text_of, write
 
 FILES = {
+    "first.def": "($x:ident = $t:tt;) => { pair ($t) $x }",
+    "first.arg": "a = 1;",
     "good.def": "($x:ident) => {$x}",
     "old.def": "($p:pat) => {}",
     "refused.def": "() => {} x",
@@ -23,6 +25,16 @@ FILES = {
 # The words, the status, standard output, and the line on standard error without its end. The word `?` is a byte that is
 # in no text. Nobody may read `secret`, reading `broken` fails, and `huge` is larger than the memory of a run.
 RUNS = (
+    (
+        "first.def first.arg", 0,
+        "arm 0\n"
+        "SUBTREE $$ 1@0..6 1@0..6\n"
+        "  IDENT   pair 0@25..29\n"
+        "  SUBTREE () 0@30..31 0@33..34\n"
+        "    LITERAL Integer 1 1@4..5\n"
+        "  IDENT   a 1@0..1\n",
+        "",
+    ),
     ("good.def good.arg", 0, "arm 0\nSUBTREE $$ 1@0..1 1@0..1\n  IDENT   a 1@0..1\n", ""),
     ("good.def good.arg 2015", 0, "arm 0\nSUBTREE $$ 1@0..1 1@0..1\n  IDENT   a 1@0..1\n", ""),
     ("good.def good.arg 2018", 0, "arm 0\nSUBTREE $$ 1@0..1 1@0..1\n  IDENT   a 1@0..1\n", ""),
@@ -54,6 +66,7 @@ RUNS = (
     ("good.arg good.def", 2, "", "definition refused: expected subtree"),
     ("--lint good.def good.arg", 0, "rule 0: one reading\n", ""),
     ("--lint good.def other.arg", 0, "rule 0: stuck at 0\n", ""),
+    ("--lint good.def other.arg 2018", 0, "rule 0: stuck at 0\n", ""),
     # `pat` takes the first name alone.
     ("--lint old.def either.arg 2018", 0, "rule 0: stuck at 1\n", ""),
     ("--lint old.def either.arg 2021", 0, "rule 0: one reading\n", ""),
@@ -61,6 +74,8 @@ RUNS = (
     ("--lint refused.def good.arg", 2, "", "definition refused: expected `;`"),
     ("--lint", 3, "", "usage: mbex [--lint] DEF-FILE ARG-FILE [EDITION]"),
     ("--lint good.def missing", 3, "", "cannot read missing"),
+    ("--lint missing good.arg", 3, "", "cannot read missing"),
+    ("--lint good.def good.arg 2022", 3, "", "usage: mbex [--lint] DEF-FILE ARG-FILE [EDITION]"),
     ("--lint good.def open.arg", 4, "", "cannot lex open.arg at 2"),
     ("", 3, "", "usage: mbex [--lint] DEF-FILE ARG-FILE [EDITION]"),
     ("good.def", 3, "", "usage: mbex [--lint] DEF-FILE ARG-FILE [EDITION]"),
@@ -72,12 +87,16 @@ RUNS = (
     ("good.def missing", 3, "", "cannot read missing"),
     ("missing latin", 3, "", "cannot read missing"),
     ("latin missing", 3, "", "cannot read latin"),
+    ("latin open.arg", 3, "", "cannot read latin"),
     ("good.def latin", 3, "", "cannot read latin"),
     ("half good.arg", 3, "", "cannot read half"),
     ("secret good.arg", 3, "", "cannot read secret"),
     ("good.def secret", 3, "", "cannot read secret"),
     ("folder good.arg", 3, "", "cannot read folder"),
     ("good.def folder", 3, "", "cannot read folder"),
+    (". good.arg", 3, "", "cannot read ."),
+    ("good.def .", 3, "", "cannot read ."),
+    ("/proc/self/mem good.arg", 3, "", "cannot read /proc/self/mem"),
     ("broken good.arg", 3, "", "cannot read broken"),
     ("open.arg missing", 3, "", "cannot read missing"),
     ("open.arg good.arg", 4, "", "cannot lex open.arg at 2"),

@@ -1,4 +1,4 @@
-"""Definitions whose groups and repetitions are in one another as deep as may be, and one level deeper."""
+"""Definitions whose groups and repetitions are in one another as deep as may be, one level deeper, and a million levels deep."""
 from mbex import ran
 
 # How many levels docs/DECISIONS.md gives.
@@ -19,14 +19,31 @@ RULES = (
 )
 
 
+MILLION = 1_000_000
+
+# Parts of a definition and of an argument a million levels deep, each as above; the status, and the line on standard error.
+DEEP = (
+    (("(", "(", "$x:ident", ")", ") => {}"), ("", "", "a", "", ""), 5, "out of memory\n"),
+    (("(", "$(", "$x:ident", ")+", ") => {}"), ("", "", "a", "", ""), 5, "out of memory\n"),
+    (("() => {", "(", "a", ")", "}"), ("", "", "a", "", ""), 5, "out of memory\n"),
+    (("() => {", "$(", "$x", ")*", "}"), ("", "", "a", "", ""), 5, "out of memory\n"),
+    (("", "", "($t:tt) => {}", "", ""), ("", "(", "a", ")", ""), 0, ""),
+)
+
+
 def nested(opening, text, closing, levels):
     return opening * levels + text + closing * levels
 
 
+def spelled(nest, levels):
+    """The text with so many levels."""
+    before, opening, text, closing, after = nest
+    return before + nested(opening, text, closing, levels) + after
+
+
 def ran_on(program, nest, levels):
     """The run on a definition with so many levels, and no argument."""
-    before, opening, text, closing, after = nest
-    return ran(program, before + nested(opening, text, closing, levels) + after, "")
+    return ran(program, spelled(nest, levels), "")
 
 
 def is_limited(program, nest):
@@ -48,3 +65,7 @@ def test(program):
         program.check("NESTS", row, is_limited(program, row), True)
     for row in RULES:
         program.check("RULES", row, is_deepest(program, *row), True)
+    for row in DEEP:
+        definition, argument, status, line = row
+        run = ran(program, spelled(definition, MILLION), spelled(argument, MILLION))
+        program.check("DEEP", row, (run.status, run.err), (status, line))
