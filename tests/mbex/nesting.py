@@ -1,4 +1,4 @@
-"""Definitions whose groups and repetitions are in one another as deep as may be, one level deeper, and a million levels deep."""
+"""Groups and repetitions in one another: as deep as definitions may have them, one level deeper, and a million levels."""
 from mbex import ran
 
 # How many levels docs/DECISIONS.md gives.
@@ -21,7 +21,7 @@ RULES = (
 
 MILLION = 1_000_000
 
-# Parts of a definition and of an argument a million levels deep, each as above; the status, and the line on standard error.
+# Parts of a definition and of an argument a million levels deep, as above; the status, and what is on standard error.
 DEEP = (
     (("(", "(", "$x:ident", ")", ") => {}"), ("", "", "a", "", ""), 5, "out of memory\n"),
     (("(", "$(", "$x:ident", ")+", ") => {}"), ("", "", "a", "", ""), 5, "out of memory\n"),
