@@ -21,8 +21,9 @@ use Rattle.mbe_places.specs.declared.position.Position.{Position}
 use Rattle.mbe_places.specs.declared.position.Waiting.{Waiting}
 use Rattle.mbe_places.specs.After.{IsLeft}
 use Rattle.mbe_places.specs.Stops.{position_after, stop_at, verdict_in, reading_in}
-use Rattle.mbe_matcher.specs.Positions.{Each, Shows}
+use Rattle.mbe_matcher.specs.Positions.{Each, Shows, Keeps}
 use Rattle.mbe_matcher.specs.Matched.{IsStack, IsAtStart, AreSettled, Binds}
+use Rattle.mbe_matcher.proofs.Keeping.{each_weaker, shows_keep}
 use Rattle.mbe_matcher.proofs.MatchEnds.{right_stop, stop_place, binds_stop, Next, next, shown_after}
 
 -- The stack at a place stands for what comes there.
@@ -60,6 +61,17 @@ came_stack {g = g} {pattern = pattern} {argument = argument} lawful checked came
       stack = record { sound = c.mirrors.sound; same = c.same };
       shown = came.shown;
     }
+
+-- it stays so as more is written
+abbrev pub came_on : {A : Type 0} {g : Grammar} {pattern : Ops} {argument : Forest} {q : ℕ} {old new : Log}
+    {before after : List (Outer A)} {todo : List (Position A)} → Keeps old new before after
+    → CameTo g pattern argument q old before todo → CameTo g pattern argument q new after todo
+came_on {old = old} {new = new} {before = before} {after = after} {todo = todo} kept came = record {
+  spots = came.spots;
+  shown = each_weaker (Shows old before) (Shows new after) (shows_keep old new before after kept) todo came.spots
+      came.shown;
+  comes = came.comes;
+}
 
 -- What came of the stack at a place.
 pub record SettledAt {A : Type 0} (g : Grammar) (pattern : Ops) (argument : Forest) (q : ℕ) (spots : List Outline)

@@ -5,6 +5,7 @@ pub mod SkipLemmas
 pub mod StepLemmas
 pub mod Whole
 pub mod Settling
+pub mod Alone
 pub mod MatchEnds
 pub mod Arriving
 pub mod Reporting

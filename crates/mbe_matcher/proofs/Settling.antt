@@ -79,6 +79,10 @@ one_step {Y = Y} f x = at (f x)
     at None = refl
     at (Some y) = refl
 
+pub no_misfit : (q : ℕ) (o : Outline) → misfit_unless true q o ≡ None
+no_misfit q (outline no_ops a up) = refl
+no_misfit q (outline (op o rest) a up) = refl
+
 pub shown_number : {A : Type 0} (log : Log) (outers : List (Outer A)) (p : Position A) (o : Outline)
     → Shows log outers p o → p.number ≡ outline_number o
 shown_number log outers p (outline rest a up) s = s.number
@@ -179,6 +183,14 @@ walked_start i q size log outers here todo ws hs s e f = record {
   ended = subst (λ l. Each (Holds log) l []) (sym f) tt;
 }
 
+-- none has failed
+pub misfits_start : {A : Type 0} (i : Input) (q size : ℕ) (log : Log) (outers : List (Outer A)) (here : Forest)
+    (todo : List (Position A)) (ws : List (Waiting A)) (hs : List Handle)
+    (s : IsStack i q size log outers todo) (e : ws ≡ []) (g : hs ≡ [])
+    → filter_map (misfit i q) (walked_start i q size log outers here todo ws hs s e g).out ≡ []
+unfolding walked_start
+misfits_start i q size log outers here todo ws hs s e g = refl
+
 pub report_start : {A : Type 0} (i : Input) (q size : ℕ) (log : Log) (outers : List (Outer A)) (here : Forest)
     (todo : List (Position A)) (ws : List (Waiting A)) (hs : List Handle)
     (s : IsStack i q size log outers todo) (e : ws ≡ []) (g : hs ≡ []) (f : Forest) (r : Report A) (n : Notes)
@@ -260,6 +272,17 @@ module _ {A : Type 0} (i : Input) (pattern : Ops) (argument : Forest) (q : ℕ) 
       goes_on = leads_on i argument q log outers rest p w.stack popped new after s gives w.out ws ws' waits w.goes_on;
       ended = ends_on i argument q log outers rest p w.stack popped new after s gives w.out hs hs' ends w.ended;
     }
+
+    -- with a step it doesn't fail
+    pub misfits_take : (few : nat_lt (times p.number met) 2 ≡ true) → is_step s ≡ true
+        → filter_map (misfit i q) w.out ≡ [] → filter_map (misfit i q) (walked_take few).out ≡ []
+    unfolding walked_take
+    misfits_take few steps none = filter_map-append (misfit i q) w.out (popped.last ∷ [])
+        ∙ ap (λ l. l ++ filter_map (misfit i q) (popped.last ∷ [])) none
+        ∙ one_step (misfit i q) popped.last
+        ∙ ap (λ b. option_to_list (misfit_unless b q popped.last))
+        (sym (step_same i argument q new after popped.last s (gives popped.last popped.lasts).now) ∙ steps)
+        ∙ ap (λ x. option_to_list x) (no_misfit q popped.last)
 
     -- and it is noted where it fails
     pub report_take : (few : nat_lt (times p.number met) 2 ≡ true) (f : Forest) (r r' : Report A) (n : Notes) (b : Bool)

@@ -1,5 +1,5 @@
 -- A pattern whose first op doesn't fit what the argument begins with: the match is stuck at its start.
-use Rattle.std.proofs.Common.{ℕ, ◌≡◌, ◌≤◌, ◌<◌, Bool, true, false, Option, Some, None, option_to_list, List, [], ◌∷◌, ◌++◌, map, reverse, refl, sym, ap, subst, ◌∙◌, arith}
+use Rattle.std.proofs.Common.{ℕ, ◌≡◌, Bool, true, false, Option, Some, None, option_to_list, List, [], ◌∷◌, map, reverse, refl, sym, ap, subst, ◌∙◌, arith}
 use Rattle.std.specs.Prelude.{◌==◌, if◌then◌else◌, not, is_some, ◌||◌, unwrap_or, IfSome}
 use Rattle.std.specs.List.{filter_map}
 use Rattle.mbe_tt.specs.declared.span.DelimSpan.{DelimSpan}
@@ -16,7 +16,7 @@ use Rattle.mbe_semantics.specs.Laws.Lawful.{Lawful}
 use Rattle.mbe_semantics.specs.Readings.Fit.{token_front}
 use Rattle.mbe_semantics.specs.Readings.Input.{Input, input_of, length_of, fragment_of, is_opening}
 use Rattle.mbe_semantics.specs.Readings.Reading.{Beginning, At}
-use Rattle.mbe_semantics.specs.Readings.Verdict.{Verdict, stuck, IsVerdict}
+use Rattle.mbe_semantics.specs.Readings.Verdict.{stuck, IsVerdict}
 use Rattle.mbe_semantics.specs.Bindings.Account.{Account, Handle, no_account, no_commands, no_lists}
 use Rattle.mbe_semantics.specs.Matching.Dots.{dots, outline_number}
 use Rattle.mbe_semantics.specs.Matching.Held.{held}
@@ -25,15 +25,14 @@ use Rattle.mbe_semantics.specs.Matching.Outline.{Edge, gate, Outline, outline, a
 use Rattle.mbe_semantics.proofs.InputLemmas.{lawful_input}
 use Rattle.mbe_bounds.specs.Loop.Kept.{kept, kept_moves, kept_ends}
 use Rattle.mbe_bounds.proofs.Loop.TurnedLoop.{KeepsTo, turned_keeps, turned_done, turned_take}
-use Rattle.mbe_bounds.proofs.Loop.TurnedPlaces.{ComesTo, turned_start}
-use Rattle.mbe_places.specs.declared.position.Outer.{Outer}
+use Rattle.mbe_bounds.proofs.Loop.TurnedPlaces.{turned_start}
 use Rattle.mbe_matcher.specs.Fronts.{IsUnlike, BeginsUnlike, is_other, begins_otherwise, failing_first}
 use Rattle.mbe_matcher.specs.Positions.{Each, LeadsTo, Holds}
 use Rattle.mbe_places.specs.declared.stops.Stop.{Stop}
 use Rattle.mbe_places.specs.declared.stops.Stop.TheVariants as variants
 use Rattle.mbe_matcher.specs.Matched.{AreSettled}
 use Rattle.mbe_places.specs.Stops.{verdict_in, reading_in}
-use Rattle.mbe_matcher.specs.Failures.{Misfit, Notes, no_notes, noted_at, noted_with, misfit, misfit_unless, has_step, is_any, AreNotes, stop_kind, Reports}
+use Rattle.mbe_matcher.specs.Failures.{Misfit, no_notes, noted_at, noted_with, misfit, misfit_unless, has_step, is_any, AreNotes, stop_kind, Reports}
 use Rattle.mbe_matcher.proofs.MatchEnds.{right_stop}
 use Rattle.mbe_matcher.proofs.Whole.{WholeWith, whole_first, whole_sound, whole_notes, FillsAll, fills_first, fills_more, fills_whole}
 

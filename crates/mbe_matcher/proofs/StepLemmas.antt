@@ -1,6 +1,6 @@
 -- The steps of a position are those of its outline.
 use Rattle.std.proofs.Common.{ℕ, zero, suc, ◌+◌, ◌-◌, ◌≡◌, ◌≤◌, ◌<◌, true, false, Option, Some, None, option_map, option_to_list, List, [], ◌∷◌, ◌++◌, length, get_or, take, drop, Bor, refl, sym, ap, subst, ◌∙◌, arith}
-use Rattle.std.specs.Prelude.{slice_get, is_some}
+use Rattle.std.specs.Prelude.{slice_get, is_some, IfSome}
 use Rattle.std.specs.Option.{option_copied}
 use Rattle.std.proofs.lemmas.Option.{none-some, same_Some, slice_get_within}
 use Rattle.mbe_semantics.specs.declared.kinds.MetaVarKind.{MetaVarKind}
@@ -34,7 +34,7 @@ use Rattle.mbe_places.specs.declared.position.Outer.{Outer}
 use Rattle.mbe_places.specs.declared.position.Rounds.{Rounds}
 use Rattle.mbe_places.specs.declared.position.Steps.{Steps}
 use Rattle.mbe_matcher.specs.Fronts.{op_width, if_again}
-use Rattle.mbe_matcher.specs.Positions.{Each, Both, AreRounds, edge_in, AreEdges, none_open, group_open, repetition_open, Outlined, Shows, IsPosition, LeadsTo, Holds, idle_in, AreStepsNow, Keeps, AreSteps, IsPlain, over_steps, IsSkip}
+use Rattle.mbe_matcher.specs.Positions.{Each, Both, AreRounds, edge_in, AreEdges, none_open, group_open, repetition_open, Outlined, Shows, IsPosition, LeadsTo, Holds, idle_in, AreStepsNow, Keeps, AreSteps, IsPlain, IsAtMostOver, over_steps, IsSkip}
 use Rattle.mbe_places.specs.After.{IsLeft}
 use Rattle.mbe_matcher.specs.Rewriting.{IsRewritten}
 use Rattle.mbe_matcher.proofs.Keeping.{kept_not, grows_not, each_weaker, shows_keep, edges_keep}
@@ -127,6 +127,11 @@ pub over_none : {A : Type 0} (n : ℕ) (b : Option Forest) (p : Position A) → 
     (let s : Steps A = record { first = Some p; second = None; next = None; done = None } in s) ≡ over_steps n b p
 over_none zero b p h = refl
 over_none (suc n) b p h = absurd (omega arith)
+
+-- with a step over some token, there is no other one
+pub over_alone : {A : Type 0} (n : ℕ) (b : Option Forest) (p : Position A) → IsAtMostOver (over_steps n b p)
+over_alone zero b p = tt
+over_alone (suc n) b p = refl
 
 module _ {A : Type 0} (argument : Forest) (q : ℕ) (log : Log) (outers : List (Outer A)) where
   over_idle : (n : ℕ) (b : Option Forest) (p : Position A) (o : Outline) → Shows log outers p o

@@ -50,6 +50,10 @@ IsAtStart {A} log pattern p = (outers : List (Outer A)) → Outlined log outers 
 abbrev pub dots_in : {A : Type 0} → State A → ℕ
 dots_in state = length state.counts.marks.items
 
+-- at the place of a source
+abbrev pub IsStackOf : {A : Type 0} → Grammar → Source A → ℕ → Log → List (Outer A) → List (Position A) → Type 0
+IsStackOf g source size log outers todo = IsStack (input_of g (trees source.whole)) source.place size log outers todo
+
 -- both at the place of a source
 abbrev pub IsStackAt : {A : Type 0} → Grammar → Source A → Log → State A → List (Position A) → Type 0
 IsStackAt g source log state todo = IsStack (input_of g (trees source.whole)) source.place (dots_in state) log

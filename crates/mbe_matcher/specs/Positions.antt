@@ -1,5 +1,5 @@
 -- What the matcher's positions stand for.
-use Rattle.std.specs.Prelude.{ℕ, zero, suc, ◌+◌, ◌≡◌, Bool, Option, Some, None, option_map, is_some, option_to_list, List, [], ◌∷◌, ◌++◌, slice_get, Result, IfOk}
+use Rattle.std.specs.Prelude.{ℕ, zero, suc, ◌+◌, ◌≡◌, Bool, Option, Some, None, option_map, is_some, option_to_list, List, [], ◌∷◌, ◌++◌, slice_get, Result, Ok, IfOk, IfSome}
 use Rattle.std.specs.declared.alloc.AllocError.{AllocError}
 use Rattle.mbe_semantics.specs.declared.kinds.RepeatKind.{RepeatKind}
 use Rattle.mbe_tt.specs.Trees.Tree.{Forest, rest_at}
@@ -175,6 +175,14 @@ over_steps (suc n) beyond p = record {
   done = None;
 }
 
+-- one step, over some tokens
+abbrev pub only_step : {A : Type 0} → Waiting A → Steps A
+only_step w = record { first = None; second = None; next = Some w; done = None }
+
+-- with a step over some tokens, there is no other one
+abbrev pub IsAtMostOver : {A : Type 0} → Steps A → Type 0
+IsAtMostOver s = IfSome s.next (λ w. s ≡ only_step w)
+
 -- past a repetition, where it may have no round
 pub record IsSkip {A : Type 0} (kind : RepeatKind) (body rest : Ops) (old new : Log) (before : Position A)
     (p : Option (Position A)) : Type 0 where
@@ -188,6 +196,19 @@ pub record IsSkip {A : Type 0} (kind : RepeatKind) (body rest : Ops) (old new : 
 abbrev pub IsInRounds : {A : Type 0} → List (Outer A) → Position A → Outer A → Rounds A → Type 0
 IsInRounds outers p outer rounds = (n : ℕ) × (p.up ≡ Some n) × (slice_get outers n ≡ Some outer)
     × (outer.rounds ≡ Some rounds)
+
+-- out of the group whose outer item this is
+abbrev pub GivesClosingSteps : {A : Type 0} → Source A → Outer A → Position A → Steps A → Type 0
+GivesClosingSteps {A} source outer p s =
+    (g : Grammar) (log : Log) (outers : List (Outer A)) (n : ℕ) → p.up ≡ Some n → slice_get outers n ≡ Some outer
+    → GivesSteps g source log log outers outers p (Ok s)
+
+-- the only step of the position, if there is an answer
+abbrev pub GivesAlone : {A : Type 0} → Grammar → Source A → Log → Log → List (Outer A) → List (Outer A) → Position A
+    → Result (Option (Waiting A)) AllocError → Type 0
+GivesAlone g source old new before after p answer = (o : Outline) → Shows old before p o →
+    IfOk answer (λ n. Keeps old new before after × IfSome n (λ w.
+    AreStepsNow (input_of g (trees source.whole)) (trees source.whole) source.place new after o (only_step w)))
 
 -- at the end of a round, in the repetition whose outer item this is
 abbrev pub GivesRoundSteps : {A : Type 0} → Source A → Log → Log → Outer A → Rounds A → Position A

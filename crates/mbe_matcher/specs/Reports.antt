@@ -1,12 +1,12 @@
 -- What positions report on the way.
-use Rattle.std.specs.Prelude.{ℕ, ◌≡◌, Option, Some, None, false, List, [], map, reverse}
+use Rattle.std.specs.Prelude.{ℕ, ◌≡◌, Option, Some, None, false, List, [], ◌∷◌, map, reverse}
 use Rattle.mbe_tt.specs.declared.span.DelimSpan.{DelimSpan}
 use Rattle.mbe_tt.specs.Trees.Tree.{Forest, rest_at}
 use Rattle.mbe_semantics.specs.Bindings.Account.{Commands, Log, Handle, HasEntriesOf}
 use Rattle.mbe_semantics.specs.Expansion.Error.{ExpandError}
 use Rattle.mbe_semantics.specs.Readings.Verdict.{Verdict, stop_of}
 use Rattle.mbe_tt.specs.Views.View.{trees}
-use Rattle.mbe_tt.specs.Fragments.Grammar.{Grammar}
+use Rattle.mbe_tt.specs.Fragments.Grammar.{Grammar, IsLawful}
 use Rattle.mbe_semantics.specs.Syntax.Op.{Ops}
 use Rattle.mbe_semantics.specs.Readings.Input.{input_of}
 use Rattle.mbe_semantics.specs.Matching.Dots.{dots}
@@ -25,7 +25,10 @@ use Rattle.mbe_matcher.specs.declared.report.Misfit as kept
 use Rattle.mbe_matcher.specs.declared.report.Report.{Report}
 use Rattle.mbe_matcher.specs.declared.report.Last.{Last}
 use Rattle.mbe_matcher.specs.Positions.{Both, Holds}
-use Rattle.mbe_matcher.specs.Matched.{AreSettledAt}
+use Rattle.mbe_places.specs.declared.position.Outer.{Outer}
+use Rattle.mbe_places.specs.declared.position.Waiting.{Waiting}
+use Rattle.mbe_places.specs.declared.position.Position.{Position}
+use Rattle.mbe_matcher.specs.Matched.{IsStackOf, AreSettled, AreSettledAt}
 use Rattle.mbe_places.specs.Stops.{verdict_in}
 use Rattle.mbe_matcher.specs.Failures.{Misfit, Source, failed, ended, Notes, is_any, or_first, source_of, noted_at, AreNotes, Reports}
 
@@ -74,6 +77,21 @@ FollowsAll g source pattern spots =
     → map erase xs ≡ reverse spots →
     kept_at (input_of g (trees source.whole)) (dots pattern) source.place (reverse spots)
     ≡ map erase (held (input_of g (trees source.whole)) source.place xs)
+
+-- One position goes on by this step, no other one comes of the place, and nothing is to be noted there.
+pub record GoesAlone {A : Type 0} (g : Grammar) (source : Argument A) (pattern : Ops) (spots : List Outline)
+    (log : Log) (outers : List (Outer A)) (w : Waiting A) : Type 0 where
+  pub steps : AreSettled (input_of g (trees source.whole)) source.place pattern spots log outers
+      (rest_at (trees source.whole) source.place) (w ∷ []) []
+  pub notes : (n : Notes) → noted_at (input_of g (trees source.whole)) source.place
+      (kept_at (input_of g (trees source.whole)) (dots pattern) source.place (reverse spots)) n ≡ n
+  pub all : IsLawful g → FollowsAll g source pattern spots
+
+-- The only position of a stack goes on by this step.
+abbrev pub StepsAlone : {A : Type 0} → Grammar → Argument A → Log → Log → List (Outer A) → List (Outer A)
+    → List (Position A) → Waiting A → Type 0
+StepsAlone g source old new before after todo w =
+    (size : ℕ) (s : IsStackOf g source size old before todo) → GoesAlone g source s.pattern s.spots new after w
 
 -- The steps of the positions are followed, two of each dot, and the place is noted.
 pub record Settles {A : Type 0} (g : Grammar) (source : Argument A) (pattern : Ops) (spots : List Outline)

@@ -13,6 +13,7 @@ ghost use Rattle.mbe_matcher.specs.Matched.{IsAtStart, Binds};
 use crate::report::Report;
 use crate::settle::{Settled, State, settle};
 use crate::skipping::dots_of;
+use crate::steps::step_alone;
 use mbe_log::log::BindingLog;
 use mbe_ops::ops::MetaTemplate;
 use mbe_places::position::{Position, Todo};
@@ -78,7 +79,14 @@ pub(crate) fn follow<'a, A: Allocator + Copy, G: FragmentGrammar>(
     todo.push(position)?;
     let mut settled = Settled::new(&alloc);
     let mut source = Source::new(alloc, argument);
-    loop {
+    'places: loop {
+        let alone = step_alone(grammar, &source, log, &mut state.outers, todo.as_slice())?;
+        if let Some(next) = alone {
+            source = after_step(source, &next)?;
+            todo.clear();
+            todo.push(next.after)?;
+            continue;
+        }
         settle(grammar, &source, log, &mut state, &mut todo, &mut settled)?;
         if let Some(stop) = stopped(&source, &settled.waiting, &settled.ends) {
             return Ok(Reached {

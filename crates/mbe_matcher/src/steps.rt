@@ -1,12 +1,18 @@
 // The steps of a position at one place.
-ghost use Rattle.std.specs.Prelude.{◌≡◌, ◌≤◌, ◌+◌, ◌++◌, IfOk, OnOk, Some, None, option_map, option_to_list};
-ghost use Rattle.mbe_semantics.specs.Bindings.Account.{Account, IsAccount, HasEntriesOf};
+ghost use Rattle.std.specs.Prelude.{ℕ, ◌≡◌, ◌≤◌, ◌<◌, ◌+◌, ◌++◌, List, IfOk, OnOk, IsSome, IfSome, Some, None, option_map, option_to_list};
+ghost use Rattle.mbe_tt.specs.Trees.Tree.{flat_len};
+ghost use Rattle.mbe_tt.specs.Views.View.{trees};
+ghost use Rattle.mbe_semantics.specs.Bindings.Account.{Log, Account, IsAccount, HasEntriesOf};
 ghost use Rattle.mbe_semantics.specs.Syntax.Op.{op as op_then, group, variable, repetition, no_ops};
 ghost use Rattle.mbe_semantics.specs.Matching.Dots.{dots};
 ghost use Rattle.mbe_tt.specs.declared.span.Span.{Span};
 ghost use Rattle.mbe_tt.specs.Fragments.Grammar.{Grammar};
 ghost use Rattle.mbe_ops.specs.Views.{op_of, ops_of, separator_seen};
-ghost use Rattle.mbe_matcher.specs.Positions.{IsPosition, IsPlain, GivesSteps, GivesStepsIn, GivesStepsOver, GivesStepsFor, GivesRoundSteps, AreStepsOf, IsSkip, over_steps};
+ghost use Rattle.mbe_places.specs.declared.position.Outer.{Outer};
+ghost use Rattle.mbe_matcher.specs.Matched.{IsStackOf};
+ghost use Rattle.mbe_matcher.specs.Reports.{GoesAlone};
+ghost use Rattle.mbe_matcher.specs.Positions.{IsPosition, IsPlain, Keeps, GivesSteps, GivesStepsIn, GivesStepsOver, GivesStepsFor, GivesRoundSteps, GivesClosingSteps, GivesAlone, AreStepsOf, IsAtMostOver, IsSkip, over_steps};
+ghost use Rattle.mbe_matcher.specs.Reports.{StepsAlone};
 
 use crate::eat::eat_fragment;
 use crate::fronts::{between_width, opens, token_width};
@@ -150,7 +156,8 @@ fn plain_steps<'a, A: Allocator>(
     requires plain { IsPlain (op_of op.now) }
     requires dot { ops_of position.dot.now ≡ op_then (op_of op.now) (ops_of rest.now) }
     requires number { 1 ≤ position.number }
-    ensures { AreStepsOf source.now position.entry result }
+    ensures steps { AreStepsOf source.now position.entry result }
+    ensures over { IsAtMostOver result }
 {
     let Some(width) = token_width(op, &source.here()) else {
         return no_steps();
@@ -162,6 +169,90 @@ fn plain_steps<'a, A: Allocator>(
         handle: position.handle,
     };
     over(width, None, after)
+}
+
+// The step of an only position, if that is one over some tokens: nothing else comes of the place
+// then, and nothing is to be noted there.
+#[inline(always)]
+pub(crate) fn step_alone<'a, A: Allocator + Copy, G: FragmentGrammar>(
+    grammar: &G,
+    source: &Source<'a, A>,
+    log: &mut BindingLog<'a, A>,
+    outers: &mut Vec<Outer<'a, A>, A>,
+    todo: &[Position<'a, A>],
+) -> Result<Option<Waiting<'a, A>>, AllocError>
+    requires stack { (size : ℕ) × IsStackOf (G.grammar grammar.now) source.now size
+        log.old outers.old.items todo.now }
+    ensures within { IfOk result (λ n. IsSome n
+        → source.now.place < flat_len (trees source.now.whole)) }
+    ensures alone { IfOk result (λ n. IfSome n (StepsAlone (G.grammar grammar.now) source.now
+        log.old log.new outers.old.items outers.new.items todo.now)) }
+    ensures kept { OnOk result (Keeps log.old log.new outers.old.items outers.new.items) }
+{
+    let [position] = todo else {
+        return Ok(None);
+    };
+    if source.is_at_end() {
+        return Ok(None);
+    }
+    match position.dot {
+        [] => Ok(end_alone(source, outers, position.again())),
+        [op, rest @ ..] => op_alone(grammar, source, log, outers, op, rest, position.again()),
+    }
+}
+
+// Over an op. A `vis` may take no token, and is left to the other steps.
+#[tactic(auto, using(mbe_ops::proofs::OpViews::views))]
+#[inline(always)]
+fn op_alone<'a, A: Allocator + Copy, G: FragmentGrammar>(
+    grammar: &G,
+    source: &Source<'a, A>,
+    log: &mut BindingLog<'a, A>,
+    outers: &mut Vec<Outer<'a, A>, A>,
+    op: &'a Op<A>,
+    rest: &'a [Op<A>],
+    position: Position<'a, A>,
+) -> Result<Option<Waiting<'a, A>>, AllocError>
+    requires placed { IsPosition log.old outers.old.items position }
+    requires dot { ops_of position.dot.now ≡ op_then (op_of op.now) (ops_of rest.now) }
+    ensures { GivesAlone (G.grammar grammar.now) source.now log.old log.new
+        outers.old.items outers.new.items position.entry result }
+{
+    match op {
+        Op::Literal(_) | Op::Ident(_) | Op::Punct(_) => {
+            Ok(plain_steps(source, op, rest, position).next)
+        }
+        Op::Var { kind: Some(MetaVarKind::Vis), .. } => Ok(None),
+        Op::Var { name, kind, .. } => {
+            Ok(variable_steps(grammar, source, log, name, *kind, rest, position)?.next)
+        }
+        Op::Subtree { tokens, delimiter } => {
+            Ok(group_steps(source, outers, *delimiter, &tokens.0, rest, position)?.next)
+        }
+        Op::Repeat { .. } | Op::Expression(_) => Ok(None),
+    }
+}
+
+// Out of a group.
+#[inline(always)]
+fn end_alone<'a, A: Allocator>(
+    source: &Source<'a, A>,
+    outers: &[Outer<'a, A>],
+    position: Position<'a, A>,
+) -> Option<Waiting<'a, A>>
+    requires placed { (log : Log) × IsPosition log outers.now position }
+    requires dot { ops_of position.dot.now ≡ no_ops }
+    ensures { (g : Grammar) (log : Log) → GivesAlone g source.now log log
+        outers.now outers.now position.entry (Ok result) }
+{
+    let Some(open) = position.up else {
+        return None;
+    };
+    let outer = &outers[open];
+    if outer.rounds.is_some() {
+        return None;
+    }
+    closing_steps(source, outer, position).next
 }
 
 // Into a group.
@@ -177,7 +268,9 @@ fn group_steps<'a, A: Allocator + Copy>(
     requires dot { ops_of position.dot.now
         ≡ op_then (group delimiter (ops_of body.now)) (ops_of rest.now) }
     requires number { 1 ≤ position.number }
-    ensures { GivesStepsOver source.now outers.old.items outers.new.items position.entry result }
+    ensures steps { GivesStepsOver source.now
+        outers.old.items outers.new.items position.entry result }
+    ensures over { IfOk result IsAtMostOver }
 {
     if !opens(delimiter.kind, &source.here()) {
         return Ok(no_steps());
@@ -212,8 +305,9 @@ fn variable_steps<'a, A: Allocator + Copy, G: FragmentGrammar>(
     requires dot { (span : Span) × (ops_of position.dot.now
         ≡ op_then (variable name.now kind span) (ops_of rest.now)) }
     requires number { 1 ≤ position.number }
-    ensures { GivesStepsIn (G.grammar grammar.now) source.now
+    ensures steps { GivesStepsIn (G.grammar grammar.now) source.now
         log.old log.new position.entry result }
+    ensures over { IfOk result IsAtMostOver }
 {
     let mut beyond = source.here();
     let Some(tree) = eat_fragment(grammar, kind, &mut beyond)? else {
@@ -324,8 +418,24 @@ fn end_steps<'a, A: Allocator + Copy>(
     if let Some(rounds) = &outer.rounds {
         return round_steps(source, log, outer, rounds, position);
     }
+    Ok(closing_steps(source, outer, position))
+}
+
+// Out of a group, where the argument's group ends too.
+#[inline(always)]
+fn closing_steps<'a, A: Allocator>(
+    source: &Source<'a, A>,
+    outer: &Outer<'a, A>,
+    position: Position<'a, A>,
+) -> Steps<'a, A>
+    requires group { outer.now.rounds ≡ None }
+    requires dot { ops_of position.dot.now ≡ no_ops }
+    requires number { 1 ≤ position.number }
+    ensures steps { GivesClosingSteps source.now outer.now position.entry result }
+    ensures over { IsAtMostOver result }
+{
     if !source.closes() {
-        return Ok(no_steps());
+        return no_steps();
     }
     let after = Position {
         dot: outer.rest,
@@ -333,7 +443,7 @@ fn end_steps<'a, A: Allocator + Copy>(
         up: outer.up,
         handle: position.handle,
     };
-    Ok(over(1, None, after))
+    over(1, None, after)
 }
 
 // Out of a repetition, and into another round.

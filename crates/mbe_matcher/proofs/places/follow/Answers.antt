@@ -1,5 +1,5 @@
-use Rattle.std.proofs.Common.{◌≡◌, ◌∙◌, ◌++◌, ◌∷◌, ℕ, false, Some, None, List, [], map, get_or, reverse, refl, sym, ap, subst, arith}
-use Rattle.std.specs.Prelude.{IfSome}
+use Rattle.std.proofs.Common.{◌≡◌, ◌<◌, ◌∙◌, ◌++◌, ◌∷◌, ℕ, false, Some, None, List, [], map, get_or, reverse, refl, sym, ap, subst, arith}
+use Rattle.std.specs.Prelude.{IfSome, IsSome}
 use Rattle.mbe_tt.specs.Views.View.{trees}
 use Rattle.mbe_tt.specs.Trees.Tree.{flat_len, tree_count, rest_at}
 use Rattle.mbe_semantics.specs.Readings.Input.{input_of}
@@ -12,18 +12,22 @@ use Rattle.mbe_semantics.specs.Matching.Outline.{outline, erase}
 use Rattle.mbe_semantics.specs.Matching.Settled.{after_of}
 use Rattle.mbe_semantics.proofs.InputLemmas.{lawful_input}
 use Rattle.mbe_ops.specs.Views.{ops_of, template_of}
+use Rattle.mbe_log.specs.Shared.{IsKept}
 use Rattle.mbe_log.proofs.ClientLemmas.{kept-on}
 use Rattle.mbe_bounds.specs.Loop.Kept.{kept, kept_moves}
 use Rattle.mbe_matcher.specs.declared.places.Reached.{Reached}
+use Rattle.mbe_matcher.specs.declared.settle.State.{State}
 use Rattle.mbe_places.specs.declared.position.Waiting.{Waiting}
 use Rattle.mbe_matcher.specs.Failures.{Notes, no_notes, noted_at, AreNotes}
-use Rattle.mbe_matcher.specs.Reports.{IsReportOf, IsReportIn, Settles}
-use Rattle.mbe_matcher.specs.Matched.{Binds}
+use Rattle.mbe_matcher.specs.Reports.{IsReportOf, IsReportIn, Settles, GoesAlone, StepsAlone}
+use Rattle.mbe_matcher.specs.Matched.{Binds, IsStackOf, dots_in}
 use Rattle.mbe_places.specs.Stops.{position_after, stop_at, verdict_in, reading_in}
-use Rattle.mbe_matcher.proofs.Arriving.{came_first, came_stack, came_next, SettledAt, Onward, stop_seen, settled_verdict, settled_place, settled_binds, settled_some, settled_onward}
+use Rattle.mbe_matcher.proofs.Arriving.{came_first, came_stack, came_on, came_next, SettledAt, Onward, stop_seen, settled_verdict, settled_place, settled_binds, settled_some, settled_onward}
+use Rattle.mbe_matcher.proofs.Alone.{waits_on}
+use Rattle.mbe_matcher.proofs.Reporting.{notes_keep}
 use Rattle.mbe_matcher.proofs.Whole.{WholeWith, whole_first, whole_sound, whole_notes, whole_after}
 use Rattle.mbe_matcher.proofs.places.follow.Goals as goal
-use Rattle.mbe_matcher.proofs.places.follow.Goals.{In_ok-dots, In_ok-settle, In-Some, In_default}
+use Rattle.mbe_matcher.proofs.places.follow.Goals.{In_ok-dots, In_ok-settle, In-Some, In-Some-stopped, In_default-stopped}
 
 -- the dots are counted
 counted : (g : _) (c : In_ok-dots g) → c.in_ok-dots.dots ≡ dots (template_of c.args.pattern.now)
@@ -34,8 +38,8 @@ counted g c =
 pub at_start-requires : goal.at_start-requires
 at_start-requires g c = counted g (goal.at.at_start-requires g c).In_ok-dots
 
-pub loop-source-init : goal.loop-source-init
-loop-source-init g c =
+pub places-init : goal.places-init
+places-init g c =
     let h = g.G.FragmentGrammar.grammar c.args.grammar.now in
     let s = c.new-source.result in
     let pat = template_of c.args.pattern.now in
@@ -52,128 +56,261 @@ loop-source-init g c =
       );
       whole = c.new-source.ensures.whole;
       blank = λ q l. c.in_ok-state.ensures.blank q (omega arith);
-      size = c.in_ok-state.ensures.size ∙ counted g (goal.at.loop-source-init g c).In_ok-dots;
+      size = c.in_ok-state.ensures.size ∙ counted g (goal.at.places-init g c).In_ok-dots;
       kept = c.in_ok-position.ensures.kept;
     }
 
-pub settle-requires : goal.settle-requires
-settle-requires g c =
-    let inv = c.loop-source.invariant in
-    let stack = came_stack (g.met.G.FragmentGrammar.lawful c.args.grammar.now) c.requires inv.comes.0 inv.size in
-    (omega arith, (omega arith, (stack, inv.blank)))
+-- ---- where an only position goes on
+
+pub step_alone-requires : goal.step_alone-requires
+step_alone-requires g c =
+    let h = g.G.FragmentGrammar.grammar c.args.grammar.now in
+    let inv = c.places.invariant in
+    let size = dots_in c.places.state in
+    record {
+      stack = (
+        size,
+        subst (IsStackOf h c.places.source size c.places.log c.places.state.outers.items) (sym c.as_slice.ensures)
+            (came_stack (g.met.G.FragmentGrammar.lawful c.args.grammar.now) c.requires inv.comes.0 inv.size),
+      );
+    }
+
+module _ (g : _) (c : In-Some g) where
+  goes : GoesAlone (g.G.FragmentGrammar.grammar c.args.grammar.now) c.places.source
+      (template_of c.args.pattern.now) c.places.invariant.comes.0.spots c.step_alone.new.log
+      c.step_alone.new.outers.items c.in-Some.next
+  goes =
+      let h = g.G.FragmentGrammar.grammar c.args.grammar.now in
+      let size = dots_in c.places.state in
+      let steps = subst (λ n. IfSome n (StepsAlone h c.places.source c.places.log c.step_alone.new.log
+      c.places.state.outers.items c.step_alone.new.outers.items c.as_slice.result.now)) c.in-Some.is
+      c.in_ok-alone.ensures.alone in
+      subst (λ l. (s : IsStackOf h c.places.source size c.places.log c.places.state.outers.items l)
+      → GoesAlone h c.places.source s.pattern s.spots c.step_alone.new.log c.step_alone.new.outers.items c.in-Some.next)
+      c.as_slice.ensures (steps size)
+      (came_stack (g.met.G.FragmentGrammar.lawful c.args.grammar.now) c.requires c.places.invariant.comes.0
+      c.places.invariant.size)
+
+  gone : SettledAt (g.G.FragmentGrammar.grammar c.args.grammar.now) (template_of c.args.pattern.now)
+      (trees c.places.source.whole) c.places.source.place c.places.invariant.comes.0.spots
+      c.step_alone.new.log c.step_alone.new.outers.items (c.in-Some.next ∷ []) []
+  gone = record {
+    lawful = g.met.G.FragmentGrammar.lawful c.args.grammar.now;
+    checked = c.requires;
+    comes = c.places.invariant.comes.0.comes;
+    within = c.places.source.within;
+    steps = goes.steps;
+  }
+
+  on : Onward (g.G.FragmentGrammar.grammar c.args.grammar.now) (template_of c.args.pattern.now)
+      (trees c.places.source.whole) c.places.source.place c.places.invariant.comes.0.spots
+      (c.in-Some.next ∷ []) c.in-Some.next
+  on = settled_onward gone (waits_on c.places.source.place (flat_len (trees c.places.source.whole))
+      c.in-Some.next (subst (λ n. IsSome n → c.places.source.place < flat_len (trees c.places.source.whole)) c.in-Some.is
+      c.in_ok-alone.ensures.within refl)) c.in-Some.next (c.in-Some.next ∷ []) refl refl
+
+pub after_step-requires-clause-fits : goal.after_step-requires-clause-fits
+after_step-requires-clause-fits g c =
+    let n = on g (goal.at.after_step-requires-clause-fits g c).In-Some in
+    let fits = n.fits in
+    omega (arith, fits)
+
+pub after_step-requires-clause-left : goal.after_step-requires-clause-left
+after_step-requires-clause-left g c = (on g (goal.at.after_step-requires-clause-left g c).In-Some).left
+
+pub places-smaller-in-Some : goal.places-smaller-in-Some
+places-smaller-in-Some g c =
+    let n = on g (goal.at.places-smaller-in-Some g c).In-Some in
+    let fits = n.fits in
+    let some = n.some in
+    let at = c.in_ok-source.ensures.place in
+    let same = ap (λ x. flat_len (trees x)) c.in_ok-source.ensures.whole in
+    omega (arith, fits, some, at, same)
+
+pub places-preserved-in-Some : goal.places-preserved-in-Some
+places-preserved-in-Some g c =
+    let here = (goal.at.places-preserved-in-Some g c).In-Some in
+    let h = g.G.FragmentGrammar.grammar c.args.grammar.now in
+    let s = c.places.source in
+    let i = input_of h (trees s.whole) in
+    let pat = template_of c.args.pattern.now in
+    let inv = c.places.invariant in
+    let spots = inv.comes.0.spots in
+    let next = c.in-Some.next in
+    let n = on g here in
+    let some = n.some in
+    let at = c.in_ok-source.ensures.place in
+    let right = g.met.G.FragmentGrammar.lawful c.args.grammar.now in
+    let lawful = lawful_input h (trees s.whole) right in
+    let after = map after_of (kept_moves i (dots pat) s.place (reverse spots)) in
+    let arrived : c.push-in-Some.new.self.items ≡ next.after ∷ [] =
+    c.in_ok-push-2.ensures.ok ∙ ap (λ l. l ++ next.after ∷ []) c.clear.ensures.items in
+    record {
+      comes = (
+        came_next (gone g here) next n (trees c.in_ok-source.source.whole)
+            (ap (λ x. trees x) c.in_ok-source.ensures.whole) c.in_ok-source.source.place at
+            c.push-in-Some.new.self.items arrived,
+        inv.comes.1,
+        subst (λ x. IsReportOf c.step_alone.new.log (trees x) c.places.state.report [] inv.comes.1)
+            (sym c.in_ok-source.ensures.whole)
+            (notes_keep c.places.log c.step_alone.new.log (trees s.whole) c.places.state.report [] inv.comes.1
+            c.in_ok-alone.ensures.kept.log inv.comes.2),
+        λ clean.
+            let was = inv.comes.3 clean in
+            let all = (goes g here).all right c.requires was.xs
+            (whole_sound _ _ _ lawful c.requires _ _ _ was) was.same in
+            subst (λ x. WholeWith (input_of h (trees x)) pat c.in_ok-source.source.place after inv.comes.1)
+            (sym c.in_ok-source.ensures.whole)
+            (subst (WholeWith i pat c.in_ok-source.source.place after) ((goes g here).notes inv.comes.1)
+            (whole_after i pat (flat_len (trees s.whole)) lawful c.requires s.place spots inv.comes.1 was all
+            c.in_ok-source.source.place next.width n.goes_over n.agrees at)),
+      );
+      whole = c.in_ok-source.ensures.whole ∙ inv.whole;
+      blank = λ q l. inv.blank q (omega (arith, l, at, some));
+      size = inv.size;
+      kept = kept-on c.args.log.now c.places.log c.step_alone.new.log inv.kept c.in_ok-alone.ensures.kept.log;
+    }
 
 -- ---- at a place
 
+pub settle-requires : goal.settle-requires
+settle-requires g c =
+    let inv = c.places.invariant in
+    let stack = came_stack (g.met.G.FragmentGrammar.lawful c.args.grammar.now) c.requires
+    (came_on c.in_ok-alone.ensures.kept inv.comes.0) inv.size in
+    (omega arith, (omega arith, (stack, inv.blank)))
+
+-- the state where no position goes on alone
+abbrev passed : (g : _) (c : In_ok-settle g) → State g.row.A.Denot
+passed g c = record {
+  outers = c.step_alone.new.outers;
+  counts = c.places.state.counts;
+  report = c.places.state.report;
+  has_dropped = c.places.state.has_dropped;
+}
+
 module _ (g : _) (c : In_ok-settle g) where
   -- what is known of the positions, and of what they report
-  settles : Settles (g.G.FragmentGrammar.grammar c.args.grammar.now) c.loop-source.source
-      (template_of c.args.pattern.now) c.loop-source.invariant.comes.0.spots c.loop-source.log c.settle.new.log
-      c.loop-source.state c.settle.new.state c.settle.new.settled
+  settles : Settles (g.G.FragmentGrammar.grammar c.args.grammar.now) c.places.source
+      (template_of c.args.pattern.now) c.places.invariant.comes.0.spots c.step_alone.new.log c.settle.new.log
+      (passed g c) c.settle.new.state c.settle.new.settled
   settles = c.in_ok-settle.ensures.settled
-      (came_stack (g.met.G.FragmentGrammar.lawful c.args.grammar.now) c.requires c.loop-source.invariant.comes.0
-      c.loop-source.invariant.size)
+      (came_stack (g.met.G.FragmentGrammar.lawful c.args.grammar.now) c.requires
+      (came_on c.in_ok-alone.ensures.kept c.places.invariant.comes.0) c.places.invariant.size)
 
   settled : SettledAt (g.G.FragmentGrammar.grammar c.args.grammar.now) (template_of c.args.pattern.now)
-      (trees c.loop-source.source.whole) c.loop-source.source.place c.loop-source.invariant.comes.0.spots
+      (trees c.places.source.whole) c.places.source.place c.places.invariant.comes.0.spots
       c.settle.new.log c.settle.new.state.outers.items c.settle.new.settled.waiting.items
       c.settle.new.settled.ends.items
   settled = record {
     lawful = g.met.G.FragmentGrammar.lawful c.args.grammar.now;
     checked = c.requires;
-    comes = c.loop-source.invariant.comes.0.comes;
-    within = c.loop-source.source.within;
+    comes = c.places.invariant.comes.0.comes;
+    within = c.places.source.within;
     steps = settles.steps;
   }
 
   -- what is noted at the place and before it
   abbrev noted : Notes
-  noted = noted_at (input_of (g.G.FragmentGrammar.grammar c.args.grammar.now) (trees c.loop-source.source.whole))
-      c.loop-source.source.place
-      (kept (input_of (g.G.FragmentGrammar.grammar c.args.grammar.now) (trees c.loop-source.source.whole))
-      (dots (template_of c.args.pattern.now)) c.loop-source.source.place
-      (reverse c.loop-source.invariant.comes.0.spots)) c.loop-source.invariant.comes.1
+  noted = noted_at (input_of (g.G.FragmentGrammar.grammar c.args.grammar.now) (trees c.places.source.whole))
+      c.places.source.place
+      (kept (input_of (g.G.FragmentGrammar.grammar c.args.grammar.now) (trees c.places.source.whole))
+      (dots (template_of c.args.pattern.now)) c.places.source.place
+      (reverse c.places.invariant.comes.0.spots)) c.places.invariant.comes.1
 
-  lawful : Lawful (input_of (g.G.FragmentGrammar.grammar c.args.grammar.now) (trees c.loop-source.source.whole))
-      (flat_len (trees c.loop-source.source.whole))
-  lawful = lawful_input (g.G.FragmentGrammar.grammar c.args.grammar.now) (trees c.loop-source.source.whole)
+  lawful : Lawful (input_of (g.G.FragmentGrammar.grammar c.args.grammar.now) (trees c.places.source.whole))
+      (flat_len (trees c.places.source.whole))
+  lawful = lawful_input (g.G.FragmentGrammar.grammar c.args.grammar.now) (trees c.places.source.whole)
       (g.met.G.FragmentGrammar.lawful c.args.grammar.now)
 
   -- as long as none was dropped, all that is held is followed
   whole : c.settle.new.state.has_dropped ≡ false
-      → (was : WholeWith (input_of (g.G.FragmentGrammar.grammar c.args.grammar.now) (trees c.loop-source.source.whole))
-      (template_of c.args.pattern.now) c.loop-source.source.place c.loop-source.invariant.comes.0.spots
-      c.loop-source.invariant.comes.1)
-      × (kept (input_of (g.G.FragmentGrammar.grammar c.args.grammar.now) (trees c.loop-source.source.whole))
-      (dots (template_of c.args.pattern.now)) c.loop-source.source.place
-      (reverse c.loop-source.invariant.comes.0.spots)
+      → (was : WholeWith (input_of (g.G.FragmentGrammar.grammar c.args.grammar.now) (trees c.places.source.whole))
+      (template_of c.args.pattern.now) c.places.source.place c.places.invariant.comes.0.spots
+      c.places.invariant.comes.1)
+      × (kept (input_of (g.G.FragmentGrammar.grammar c.args.grammar.now) (trees c.places.source.whole))
+      (dots (template_of c.args.pattern.now)) c.places.source.place
+      (reverse c.places.invariant.comes.0.spots)
       ≡ map erase (held (input_of (g.G.FragmentGrammar.grammar c.args.grammar.now)
-      (trees c.loop-source.source.whole)) c.loop-source.source.place was.xs))
+      (trees c.places.source.whole)) c.places.source.place was.xs))
   whole clean =
       let follows = settles.all clean in
-      let was = c.loop-source.invariant.comes.3 follows.0 in (
+      let was = c.places.invariant.comes.3 follows.0 in (
         was,
         follows.1 c.requires was.xs (whole_sound _ _ _ lawful c.requires _ _ _ was) was.same,
       )
 
+  -- nothing is lost
+  kept_here : IsKept c.args.log.now c.settle.new.log
+  kept_here = kept-on c.args.log.now c.step_alone.new.log c.settle.new.log
+      (kept-on c.args.log.now c.places.log c.step_alone.new.log c.places.invariant.kept c.in_ok-alone.ensures.kept.log)
+      c.in_ok-settle.ensures.kept.log
+
+  -- nor is what was reported
+  reported : IsReportOf c.step_alone.new.log (trees c.places.source.whole) c.places.state.report []
+      c.places.invariant.comes.1
+  reported = notes_keep c.places.log c.step_alone.new.log (trees c.places.source.whole) c.places.state.report []
+      c.places.invariant.comes.1 c.in_ok-alone.ensures.kept.log c.places.invariant.comes.2
+
 -- it stops there
-stops : (g : _) (c : In-Some g) → Some (verdict_in c.in-Some.stop)
-    ≡ stop_at c.loop-source.source.place (flat_len (trees c.loop-source.source.whole))
+stops : (g : _) (c : In-Some-stopped g) → Some (verdict_in c.in-Some-stopped.stop)
+    ≡ stop_at c.places.source.place (flat_len (trees c.places.source.whole))
     c.settle.new.settled.waiting.items c.settle.new.settled.ends.items
-stops g c = stop_seen (Some (verdict_in c.in-Some.stop)) c.loop-source.source.place
-    (flat_len (trees c.loop-source.source.whole)) c.deref-in-loop-source.result.now
-    c.settle.new.settled.waiting.items c.deref-in-loop-source-2.result.now c.settle.new.settled.ends.items
-    c.in-Some.ensures.stop c.deref-in-loop-source.ensures c.deref-in-loop-source-2.ensures
+stops g c = stop_seen (Some (verdict_in c.in-Some-stopped.stop)) c.places.source.place
+    (flat_len (trees c.places.source.whole)) c.deref-in-places.result.now
+    c.settle.new.settled.waiting.items c.deref-in-places-2.result.now c.settle.new.settled.ends.items
+    c.in-Some-stopped.ensures.stop c.deref-in-places.ensures c.deref-in-places-2.ensures
 
 -- or not
-stays : (g : _) (c : In_default g) → None
-    ≡ stop_at c.loop-source.source.place (flat_len (trees c.loop-source.source.whole))
+stays : (g : _) (c : In_default-stopped g) → None
+    ≡ stop_at c.places.source.place (flat_len (trees c.places.source.whole))
     c.settle.new.settled.waiting.items c.settle.new.settled.ends.items
-stays g c = stop_seen None c.loop-source.source.place (flat_len (trees c.loop-source.source.whole))
-    c.deref-in-loop-source.result.now c.settle.new.settled.waiting.items c.deref-in-loop-source-2.result.now
-    c.settle.new.settled.ends.items c.in_default.ensures.stop c.deref-in-loop-source.ensures
-    c.deref-in-loop-source-2.ensures
+stays g c = stop_seen None c.places.source.place (flat_len (trees c.places.source.whole))
+    c.deref-in-places.result.now c.settle.new.settled.waiting.items c.deref-in-places-2.result.now
+    c.settle.new.settled.ends.items c.in_default-stopped.ensures.stop c.deref-in-places.ensures
+    c.deref-in-places-2.ensures
 
-pub returns-in-Some-clause-verdict : goal.returns-in-Some-clause-verdict
-returns-in-Some-clause-verdict g c =
-    let here = goal.at.returns-in-Some-clause-verdict g c in
-    let v = verdict_in c.in-Some.stop in
+pub returns-in-Some-stopped-clause-verdict : goal.returns-in-Some-stopped-clause-verdict
+returns-in-Some-stopped-clause-verdict g c =
+    let here = goal.at.returns-in-Some-stopped-clause-verdict g c in
+    let v = verdict_in c.in-Some-stopped.stop in
     subst (λ x. IsVerdict (g.G.FragmentGrammar.grammar c.args.grammar.now) (template_of c.args.pattern.now) (trees x) v)
-    c.loop-source.invariant.whole (settled_verdict (settled g here.In_ok-settle) v (stops g here.In-Some))
+    c.places.invariant.whole (settled_verdict (settled g here.In_ok-settle) v (stops g here.In-Some-stopped))
 
-pub returns-in-Some-clause-unmatched : goal.returns-in-Some-clause-unmatched
-returns-in-Some-clause-unmatched g c =
-    let here = goal.at.returns-in-Some-clause-unmatched g c in
-    let v = verdict_in c.in-Some.stop in
-    subst (λ x. c.trees_left.result ≡ unmatched (trees x) v) c.loop-source.invariant.whole
-    (c.trees_left.ensures ∙ ap (λ (n : ℕ). tree_count (rest_at (trees c.loop-source.source.whole) n))
-    (sym (settled_place (settled g here.In_ok-settle) v (stops g here.In-Some))))
+pub returns-in-Some-stopped-clause-unmatched : goal.returns-in-Some-stopped-clause-unmatched
+returns-in-Some-stopped-clause-unmatched g c =
+    let here = goal.at.returns-in-Some-stopped-clause-unmatched g c in
+    let v = verdict_in c.in-Some-stopped.stop in
+    subst (λ x. c.trees_left.result ≡ unmatched (trees x) v) c.places.invariant.whole
+    (c.trees_left.ensures ∙ ap (λ (n : ℕ). tree_count (rest_at (trees c.places.source.whole) n))
+    (sym (settled_place (settled g here.In_ok-settle) v (stops g here.In-Some-stopped))))
 
-pub returns-in-Some-clause-binds : goal.returns-in-Some-clause-binds
-returns-in-Some-clause-binds g c =
-    let here = goal.at.returns-in-Some-clause-binds g c in
-    let only = subst (λ l. IfSome (reading_in c.in-Some.stop) (λ h. l ≡ h ∷ [])) c.deref-in-loop-source-2.ensures
-    c.in-Some.ensures.reading in
-    subst (λ x. IfSome (reading_in c.in-Some.stop)
+pub returns-in-Some-stopped-clause-binds : goal.returns-in-Some-stopped-clause-binds
+returns-in-Some-stopped-clause-binds g c =
+    let here = goal.at.returns-in-Some-stopped-clause-binds g c in
+    let only = subst (λ l. IfSome (reading_in c.in-Some-stopped.stop) (λ h. l ≡ h ∷ [])) c.deref-in-places-2.ensures
+    c.in-Some-stopped.ensures.reading in
+    subst (λ x. IfSome (reading_in c.in-Some-stopped.stop)
     (Binds (g.G.FragmentGrammar.grammar c.args.grammar.now) (template_of c.args.pattern.now) (trees x)
-    c.settle.new.log)) c.loop-source.invariant.whole
-    (settled_binds (settled g here.In_ok-settle) c.in-Some.stop (stops g here.In-Some) only)
+    c.settle.new.log)) c.places.invariant.whole
+    (settled_binds (settled g here.In_ok-settle) c.in-Some-stopped.stop (stops g here.In-Some-stopped) only)
 
-pub returns-in-Some-clause-kept : goal.returns-in-Some-clause-kept
-returns-in-Some-clause-kept g c = kept-on c.args.log.now c.loop-source.log c.settle.new.log c.loop-source.invariant.kept
-    c.in_ok-settle.ensures.kept.log
+pub returns-in-Some-stopped-clause-kept : goal.returns-in-Some-stopped-clause-kept
+returns-in-Some-stopped-clause-kept g c =
+    kept_here g (goal.at.returns-in-Some-stopped-clause-kept g c).In_ok-settle
 
-pub returns-in-Some-clause-notes : goal.returns-in-Some-clause-notes
-returns-in-Some-clause-notes g c =
-    let here = goal.at.returns-in-Some-clause-notes g c in
+pub returns-in-Some-stopped-clause-notes : goal.returns-in-Some-stopped-clause-notes
+returns-in-Some-stopped-clause-notes g c =
+    let here = goal.at.returns-in-Some-stopped-clause-notes g c in
     let h = g.G.FragmentGrammar.grammar c.args.grammar.now in
-    let s = c.loop-source.source in
+    let s = c.places.source in
     let pat = template_of c.args.pattern.now in
-    let inv = c.loop-source.invariant in
+    let inv = c.places.invariant in
     let at = here.In_ok-settle in
-    let stop = settled_place (settled g at) (verdict_in c.in-Some.stop) (stops g here.In-Some) in
+    let stop = settled_place (settled g at) (verdict_in c.in-Some-stopped.stop) (stops g here.In-Some-stopped) in
     let reached : Reached g.row.A.Denot =
     record {
-      stop = c.in-Some.stop;
+      stop = c.in-Some-stopped.stop;
       unmatched = c.trees_left.result;
       report = c.settle.new.state.report;
       has_dropped = c.settle.new.state.has_dropped;
@@ -184,84 +321,84 @@ returns-in-Some-clause-notes g c =
       subst (λ k. AreNotes (input_of h (trees s.whole)) pat k (noted g at)) (sym stop)
           (whole_notes (input_of h (trees s.whole)) pat (flat_len (trees s.whole)) (lawful g at) c.requires s.place
           inv.comes.0.spots inv.comes.1 all.0 all.1),
-      (settles g at).notes inv.comes.1 inv.comes.2,
+      (settles g at).notes inv.comes.1 (reported g at),
     ))
 
 pub bounds-deref-0 : goal.bounds-deref-0
 bounds-deref-0 g c =
     let here = goal.at.bounds-deref-0 g c in
-    settled_some (settled g here.In_ok-settle) (stays g here.In_default) c.deref-in-loop-source-3.result.now
-    c.deref-in-loop-source-3.ensures
+    settled_some (settled g here.In_ok-settle) (stays g here.In_default-stopped) c.deref-in-places-3.result.now
+    c.deref-in-places-3.ensures
 
 -- it goes on, with the step at the front of what was read
-onward : (g : _) (c : In_default g) (x : Waiting g.row.A.Denot) (seen : List (Waiting g.row.A.Denot))
+onward : (g : _) (c : In_default-stopped g) (x : Waiting g.row.A.Denot) (seen : List (Waiting g.row.A.Denot))
     → seen ≡ c.settle.new.settled.waiting.items → x ≡ get_or seen 0 x
     → Onward (g.G.FragmentGrammar.grammar c.args.grammar.now) (template_of c.args.pattern.now)
-    (trees c.loop-source.source.whole) c.loop-source.source.place c.loop-source.invariant.comes.0.spots
+    (trees c.places.source.whole) c.places.source.place c.places.invariant.comes.0.spots
     c.settle.new.settled.waiting.items x
 onward g c x seen same is =
-    settled_onward (settled g (goal.at.In_default g c).In_ok-settle) (stays g c) x seen same is
+    settled_onward (settled g (goal.at.In_default-stopped g c).In_ok-settle) (stays g c) x seen same is
 
-pub after_step-requires-clause-fits : goal.after_step-requires-clause-fits
-after_step-requires-clause-fits g c =
-    let n = onward g (goal.at.after_step-requires-clause-fits g c).In_default c.index-deref-0.result
-    c.deref-in-loop-source-3.result.now c.deref-in-loop-source-3.ensures c.index-deref-0.is in
+pub after_step-requires-in-places-clause-fits : goal.after_step-requires-in-places-clause-fits
+after_step-requires-in-places-clause-fits g c =
+    let n = onward g (goal.at.after_step-requires-in-places-clause-fits g c).In_default-stopped
+    c.index-deref-0.result c.deref-in-places-3.result.now c.deref-in-places-3.ensures c.index-deref-0.is in
     let fits = n.fits in
     omega (arith, fits)
 
-pub after_step-requires-clause-left : goal.after_step-requires-clause-left
-after_step-requires-clause-left g c =
-    (onward g (goal.at.after_step-requires-clause-left g c).In_default c.index-deref-0.result
-    c.deref-in-loop-source-3.result.now c.deref-in-loop-source-3.ensures c.index-deref-0.is).left
+pub after_step-requires-in-places-clause-left : goal.after_step-requires-in-places-clause-left
+after_step-requires-in-places-clause-left g c =
+    (onward g (goal.at.after_step-requires-in-places-clause-left g c).In_default-stopped c.index-deref-0.result
+    c.deref-in-places-3.result.now c.deref-in-places-3.ensures c.index-deref-0.is).left
 
-pub loop-source-smaller : goal.loop-source-smaller
-loop-source-smaller g c =
-    let n = onward g (goal.at.loop-source-smaller g c).In_default c.index-deref-0.result
-    c.deref-in-loop-source-3.result.now c.deref-in-loop-source-3.ensures c.index-deref-0.is in
+pub places-smaller : goal.places-smaller
+places-smaller g c =
+    let n = onward g (goal.at.places-smaller g c).In_default-stopped c.index-deref-0.result
+    c.deref-in-places-3.result.now c.deref-in-places-3.ensures c.index-deref-0.is in
     let fits = n.fits in
     let some = n.some in
-    let at = c.in_ok-source.ensures.place in
-    let same = ap (λ x. flat_len (trees x)) c.in_ok-source.ensures.whole in
+    let at = c.in_ok-source-2.ensures.place in
+    let same = ap (λ x. flat_len (trees x)) c.in_ok-source-2.ensures.whole in
     omega (arith, fits, some, at, same)
 
-pub loop-source-preserved : goal.loop-source-preserved
-loop-source-preserved g c =
-    let here = goal.at.loop-source-preserved g c in
+pub places-preserved : goal.places-preserved
+places-preserved g c =
+    let here = goal.at.places-preserved g c in
     let h = g.G.FragmentGrammar.grammar c.args.grammar.now in
-    let s = c.loop-source.source in
+    let s = c.places.source in
     let i = input_of h (trees s.whole) in
     let pat = template_of c.args.pattern.now in
-    let inv = c.loop-source.invariant in
+    let inv = c.places.invariant in
     let spots = inv.comes.0.spots in
     let ws = c.settle.new.settled.waiting.items in
     let log = c.settle.new.log in
     let step = c.index-deref-0.result in
-    let n = onward g here.In_default step c.deref-in-loop-source-3.result.now c.deref-in-loop-source-3.ensures
+    let n = onward g here.In_default-stopped step c.deref-in-places-3.result.now c.deref-in-places-3.ensures
     c.index-deref-0.is in
     let some = n.some in
-    let at = c.in_ok-source.ensures.place in
+    let at = c.in_ok-source-2.ensures.place in
     let place = here.In_ok-settle in
     let arrived : c.come.new.todo.items ≡ map position_after ws =
-    c.in_ok-come.ensures ∙ ap (λ l. c.settle.new.todo.items ++ map position_after l) c.deref-in-loop-source-4.ensures
+    c.in_ok-come.ensures ∙ ap (λ l. c.settle.new.todo.items ++ map position_after l) c.deref-in-places-4.ensures
     ∙ ap (λ l. l ++ map position_after ws) c.in_ok-settle.ensures.done in
     record {
       comes = (
-        came_next (settled g place) step n (trees c.in_ok-source.source.whole)
-            (ap (λ x. trees x) c.in_ok-source.ensures.whole) c.in_ok-source.source.place at
+        came_next (settled g place) step n (trees c.in_ok-source-2.source.whole)
+            (ap (λ x. trees x) c.in_ok-source-2.ensures.whole) c.in_ok-source-2.source.place at
             c.come.new.todo.items arrived,
         noted g place,
         subst (λ x. IsReportOf log (trees x) c.settle.new.state.report [] (noted g place))
-            (sym c.in_ok-source.ensures.whole) ((settles g place).notes inv.comes.1 inv.comes.2),
+            (sym c.in_ok-source-2.ensures.whole) ((settles g place).notes inv.comes.1 (reported g place)),
         λ clean.
             let all = whole g place clean in
-            subst (λ x. WholeWith (input_of h (trees x)) pat c.in_ok-source.source.place
+            subst (λ x. WholeWith (input_of h (trees x)) pat c.in_ok-source-2.source.place
             (map after_of (kept_moves i (dots pat) s.place (reverse spots))) (noted g place))
-            (sym c.in_ok-source.ensures.whole)
+            (sym c.in_ok-source-2.ensures.whole)
             (whole_after i pat (flat_len (trees s.whole)) (lawful g place) c.requires s.place spots inv.comes.1 all.0
-            all.1 c.in_ok-source.source.place step.width n.goes_over n.agrees at),
+            all.1 c.in_ok-source-2.source.place step.width n.goes_over n.agrees at),
       );
-      whole = c.in_ok-source.ensures.whole ∙ inv.whole;
+      whole = c.in_ok-source-2.ensures.whole ∙ inv.whole;
       blank = λ q l. c.in_ok-settle.ensures.blank q (omega (arith, l, at, some));
       size = c.in_ok-settle.ensures.size ∙ inv.size;
-      kept = kept-on c.args.log.now c.loop-source.log log inv.kept c.in_ok-settle.ensures.kept.log;
+      kept = kept_here g place;
     }

@@ -12,8 +12,8 @@ use Rattle.mbe_matcher.proofs.Whole.{WholeWith}
 use Rattle.mbe_matcher.proofs.Arriving.{CameTo}
 use Rattle.mbe_matcher.proofs.places.follow.Given as goal
 
-abbrev pub invariant-loop-source : goal.invariant-loop-source
-invariant-loop-source g l = record {
+abbrev pub invariant-places : goal.invariant-places
+invariant-places g l = record {
   comes : (came : CameTo (g.G.FragmentGrammar.grammar l.grammar) (template_of l.pattern) (trees l.source.whole)
       l.source.place l.log l.state.outers.items l.todo.items)
       × (before : Notes) × IsReportOf l.log (trees l.source.whole) l.state.report [] before
@@ -26,5 +26,5 @@ invariant-loop-source g l = record {
   kept : IsKept l.fn.log l.log;
 }
 
-abbrev pub decreases-loop-source : goal.decreases-loop-source
-decreases-loop-source g l = flat_len (trees l.source.whole) - l.source.place
+abbrev pub decreases-places : goal.decreases-places
+decreases-places g l = flat_len (trees l.source.whole) - l.source.place

@@ -1,4 +1,4 @@
-use Rattle.std.proofs.Common.{◌≡◌, [], false, option_to_list, refl, ap, subst}
+use Rattle.std.proofs.Common.{[], false, option_to_list, refl, ap, subst}
 use Rattle.mbe_tt.specs.Views.View.{trees}
 use Rattle.mbe_semantics.specs.Bindings.Account.{no_account}
 use Rattle.mbe_semantics.specs.Matching.Outline.{outline}

@@ -5,11 +5,11 @@ use Rattle.mbe_ops.specs.Views.{ops_of}
 use Rattle.mbe_places.specs.declared.position.Position.{Position}
 use Rattle.mbe_matcher.specs.Positions.{AreSteps, over_steps}
 use Rattle.mbe_matcher.proofs.Keeping.{keeps_not, keeps_more}
-use Rattle.mbe_matcher.proofs.StepLemmas.{as_outline, none_steps, group_none, group_over, group_entered}
+use Rattle.mbe_matcher.proofs.StepLemmas.{as_outline, none_steps, over_alone, group_none, group_over, group_entered}
 use Rattle.mbe_matcher.proofs.steps.group_steps.Goals as goal
 
-pub returns-then-not-opens : goal.returns-then-not-opens
-returns-then-not-opens g c = λ h log o s.
+pub returns-then-not-opens-clause-steps : goal.returns-then-not-opens-clause-steps
+returns-then-not-opens-clause-steps g c = λ h log o s.
     let src = c.args.source.now in
     let us = c.args.outers.now.items in
     let e = rw c.here.ensures at c.opens.ensures in
@@ -23,8 +23,8 @@ returns-then-not-opens g c = λ h log o s.
       kept = keeps_not log us;
     }))
 
-pub returns : goal.returns
-returns g c = λ h log o s.
+pub returns-clause-steps : goal.returns-clause-steps
+returns-clause-steps g c = λ h log o s.
     let src = c.args.source.now in
     let us = c.args.outers.now.items in
     let vs = c.push.new.self.items in
@@ -48,3 +48,6 @@ returns g c = λ h log o s.
           c.args.rest refl t c.in_ok-push.ensures.items);
       kept = keeps_more log us vs _ c.in_ok-push.ensures.items;
     }))
+
+pub returns-clause-over : goal.returns-clause-over
+returns-clause-over g c = rw c.over.ensures (over_alone 1 None _)

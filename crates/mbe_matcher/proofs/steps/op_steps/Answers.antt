@@ -58,19 +58,19 @@ repetition_steps-requires-clause-number g c =
     c.in-Repeat.kind) (sym c.deref-in-Repeat.ensures.value)))
 
 pub returns-in-Subtree : goal.returns-in-Subtree
-returns-in-Subtree g c = λ o s. c.group_steps.ensures (g.G.FragmentGrammar.grammar c.args.grammar.now) c.args.log.now o
+returns-in-Subtree g c = λ o s. c.group_steps.ensures.steps (g.G.FragmentGrammar.grammar c.args.grammar.now) c.args.log.now o
     s
 
 pub returns-in-Expression : goal.returns-in-Expression
 returns-in-Expression g c = λ o s. record {
-  now = c.plain_steps.ensures (g.G.FragmentGrammar.grammar c.args.grammar.now) c.args.log.now c.args.outers.now.items o
-      s;
+  now = c.plain_steps.ensures.steps (g.G.FragmentGrammar.grammar c.args.grammar.now) c.args.log.now
+      c.args.outers.now.items o s;
   kept = keeps_not c.args.log.now c.args.outers.now.items;
 }
 
 pub returns-in-Literal : goal.returns-in-Literal
 returns-in-Literal g c = λ o s. record {
-  now = c.plain_steps-in-Literal.ensures (g.G.FragmentGrammar.grammar c.args.grammar.now) c.args.log.now
+  now = c.plain_steps-in-Literal.ensures.steps (g.G.FragmentGrammar.grammar c.args.grammar.now) c.args.log.now
       c.args.outers.now.items o s;
   kept = keeps_not c.args.log.now c.args.outers.now.items;
 }

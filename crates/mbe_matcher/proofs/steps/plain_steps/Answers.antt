@@ -4,11 +4,11 @@ use Rattle.mbe_semantics.specs.Readings.Input.{input_of}
 use Rattle.mbe_ops.specs.Views.{op_of, ops_of}
 use Rattle.mbe_places.specs.declared.position.Position.{Position}
 use Rattle.mbe_matcher.specs.Positions.{AreStepsNow, over_steps}
-use Rattle.mbe_matcher.proofs.StepLemmas.{as_outline, none_steps, plain_none, plain_over, plain_past}
+use Rattle.mbe_matcher.proofs.StepLemmas.{as_outline, none_steps, over_alone, plain_none, plain_over, plain_past}
 use Rattle.mbe_matcher.proofs.steps.plain_steps.Goals as goal
 
-pub returns-in_default : goal.returns-in_default
-returns-in_default g c = λ h log outers o s.
+pub returns-in_default-clause-steps : goal.returns-in_default-clause-steps
+returns-in_default-clause-steps g c = λ h log outers o s.
     let src = c.args.source.now in
     let e = rw c.here.ensures at c.in_default.ensures in
     rw c.no_steps.ensures
@@ -18,8 +18,8 @@ returns-in_default g c = λ h log outers o s.
     (λ a up t. plain_none (trees src.whole) src.place log outers h (op_of c.args.op.now) (ops_of c.args.rest.now) a up
     c.requires.plain e))
 
-pub returns : goal.returns
-returns g c = λ h log outers o s.
+pub returns-clause-steps : goal.returns-clause-steps
+returns-clause-steps g c = λ h log outers o s.
     let src = c.args.source.now in
     let b = c.args.position in
     let p : Position g.row.A.Denot = record {
@@ -36,3 +36,14 @@ returns g c = λ h log outers o s.
     (λ a up t. plain_over (trees src.whole) src.place log outers h (op_of c.args.op.now) (ops_of c.args.rest.now) a up
     c.in-Some.width p c.requires.plain e
     (plain_past log outers b (op_of c.args.op.now) a up c.args.rest c.requires.plain t)))
+
+pub returns-clause-over : goal.returns-clause-over
+returns-clause-over g c =
+    let b = c.args.position in
+    let p : Position g.row.A.Denot = record {
+      dot = c.args.rest;
+      number = b.number - 1;
+      up = b.up;
+      handle = b.handle;
+    } in
+    rw c.over.ensures (over_alone c.in-Some.width None p)

@@ -9,11 +9,11 @@ use Rattle.mbe_ops.specs.Views.{ops_of}
 use Rattle.mbe_places.specs.declared.position.Position.{Position}
 use Rattle.mbe_matcher.specs.Positions.{AreSteps, over_steps}
 use Rattle.mbe_matcher.proofs.Keeping.{keeps_not, kept_only}
-use Rattle.mbe_matcher.proofs.StepLemmas.{as_outline, none_steps, not_taken, taken_is, variable_none, variable_over, variable_past}
+use Rattle.mbe_matcher.proofs.StepLemmas.{as_outline, none_steps, over_alone, not_taken, taken_is, variable_none, variable_over, variable_past}
 use Rattle.mbe_matcher.proofs.steps.variable_steps.Goals as goal
 
-pub returns-in_default : goal.returns-in_default
-returns-in_default g c = λ outers o s.
+pub returns-in_default-clause-steps : goal.returns-in_default-clause-steps
+returns-in_default-clause-steps g c = λ outers o s.
     let src = c.args.source.now in
     let h = g.G.FragmentGrammar.grammar c.args.grammar.now in
     let taken = rw (c.in_default.is, c.here-beyond.ensures) at c.in_ok-tree.ensures in
@@ -28,8 +28,8 @@ returns-in_default g c = λ outers o s.
       kept = keeps_not c.args.log.now outers;
     }))
 
-pub returns : goal.returns
-returns g c = λ outers o s.
+pub returns-clause-steps : goal.returns-clause-steps
+returns-clause-steps g c = λ outers o s.
     let src = c.args.source.now in
     let h = g.G.FragmentGrammar.grammar c.args.grammar.now in
     let b = c.args.position in
@@ -60,3 +60,6 @@ returns g c = λ outers o s.
           c.push_fragment.new.handle pushed t));
       kept = kept_only old new outers pushed.kept;
     }))
+
+pub returns-clause-over : goal.returns-clause-over
+returns-clause-over g c = rw c.over.ensures (over_alone c.flat_len.result _ _)
