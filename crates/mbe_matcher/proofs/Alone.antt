@@ -1,5 +1,5 @@
 -- An only position that goes on over a token of the pattern.
-use Rattle.std.proofs.Common.{ℕ, ◌≡◌, ◌<◌, ◌≤◌, ◌++◌, ◌∷◌, true, false, Option, Some, None, option_to_list, List, [], length, get_or, reverse, refl, sym, ap, subst, ◌∙◌, arith}
+use Rattle.std.proofs.Common.{ℕ, ◌≡◌, ◌<◌, ◌≤◌, ◌∷◌, true, false, Option, Some, None, List, [], length, get_or, reverse, refl, sym, ap, subst, ◌∙◌, arith}
 use Rattle.std.specs.Prelude.{IfSome, Result, Ok, Err, IfOk, OnOk, is_some}
 use Rattle.std.specs.declared.alloc.AllocError.{AllocError}
 use Rattle.std.specs.List.{filter_map}
@@ -23,7 +23,6 @@ use Rattle.mbe_matcher.specs.Positions.{Each, Shows, IsPosition, Holds, AreSteps
 use Rattle.mbe_matcher.specs.Matched.{IsStackOf}
 use Rattle.mbe_matcher.specs.Failures.{Notes, misfit, or_first, noted_with}
 use Rattle.mbe_matcher.specs.Reports.{GoesAlone, StepsAlone}
-use Rattle.mbe_matcher.proofs.Keeping.{keeps_not}
 use Rattle.mbe_matcher.proofs.Settling.{Walked, walked_start, walked_take, walked_done, walked_end, misfits_start, misfits_take, fills_begin, fills_next, fills_done, each_none}
 
 -- ---- what is noted of nothing

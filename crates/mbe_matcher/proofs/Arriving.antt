@@ -1,5 +1,5 @@
 -- The stack of positions, from place to place.
-use Rattle.std.proofs.Common.{ℕ, ◌+◌, ◌≡◌, ◌<◌, ◌≤◌, false, Option, Some, None, List, [], ◌∷◌, map, reverse, length, get_or, refl, sym, ap, subst, ◌∙◌, arith}
+use Rattle.std.proofs.Common.{ℕ, ◌+◌, ◌≡◌, ◌<◌, ◌≤◌, false, Option, Some, None, List, [], ◌∷◌, map, reverse, take, length, get_or, refl, sym, ap, subst, ◌∙◌, arith}
 use Rattle.std.specs.Prelude.{IfSome}
 use Rattle.mbe_tt.specs.Trees.Tree.{Forest, flat_len, rest_at}
 use Rattle.mbe_tt.specs.Fragments.Grammar.{Grammar, IsLawful}
@@ -21,9 +21,10 @@ use Rattle.mbe_places.specs.declared.position.Position.{Position}
 use Rattle.mbe_places.specs.declared.position.Waiting.{Waiting}
 use Rattle.mbe_places.specs.After.{IsLeft}
 use Rattle.mbe_places.specs.Stops.{position_after, stop_at, verdict_in, reading_in}
-use Rattle.mbe_matcher.specs.Positions.{Each, Shows, Keeps}
+use Rattle.mbe_matcher.specs.Positions.{Each, Shows, Keeps, IsBelow}
 use Rattle.mbe_matcher.specs.Matched.{IsStack, IsAtStart, AreSettled, Binds}
 use Rattle.mbe_matcher.proofs.Keeping.{each_weaker, shows_keep}
+use Rattle.mbe_matcher.proofs.StepLemmas.{only_cut}
 use Rattle.mbe_matcher.proofs.MatchEnds.{right_stop, stop_place, binds_stop, Next, next, shown_after}
 
 -- The stack at a place stands for what comes there.
@@ -70,6 +71,18 @@ came_on {old = old} {new = new} {before = before} {after = after} {todo = todo} 
   spots = came.spots;
   shown = each_weaker (Shows old before) (Shows new after) (shows_keep old new before after kept) todo came.spots
       came.shown;
+  comes = came.comes;
+}
+
+-- nor do open items count that no position comes to
+abbrev pub came_cut : {A : Type 0} {g : Grammar} {pattern : Ops} {argument : Forest} {q : ℕ} {log : Log}
+    {outers : List (Outer A)} {todo : List (Position A)} (n : ℕ) (after : List (Outer A)) → after ≡ take n outers
+    → (p : Position A) → todo ≡ p ∷ [] → IsBelow p.up n → CameTo g pattern argument q log outers todo
+    → CameTo g pattern argument q log after todo
+came_cut {log = log} {outers = outers} {todo = todo} n after cut p only below came = record {
+  spots = came.spots;
+  shown = subst (λ us. Each (Shows log us) todo came.spots) (sym cut)
+      (only_cut log outers n todo p came.spots only below came.shown);
   comes = came.comes;
 }
 

@@ -74,10 +74,11 @@ keeps_on old middle new before between after k l =
 module _ {A : Type 0} (old new : Log) (before after : List (Outer A)) (k : Keeps old new before after) where
   pub edges_keep : {u : Option ℕ} {es : List Edge} → AreEdges old before u es → AreEdges new after u es
   edges_keep none_open = none_open
-  edges_keep (group_open n o es at r up) = group_open n o es (still_got before after n o k.outers at) r (edges_keep up)
-  edges_keep (repetition_open n o r began a es at e rounds up) =
+  edges_keep (group_open n o es at r below up) =
+      group_open n o es (still_got before after n o k.outers at) r below (edges_keep up)
+  edges_keep (repetition_open n o r began a es at e rounds below up) =
       repetition_open n o r began a es (still_got before after n o k.outers at) e
-      (record { account = k.log.others r.outside a rounds.account; front = rounds.front }) (edges_keep up)
+      (record { account = k.log.others r.outside a rounds.account; front = rounds.front }) below (edges_keep up)
 
   pub shows_keep : (p : Position A) (o : Outline) → Shows old before p o → Shows new after p o
   shows_keep p (outline rest a up) s =

@@ -1,6 +1,6 @@
 -- The steps of a position are those of its outline.
 use Rattle.std.proofs.Common.{ℕ, zero, suc, ◌+◌, ◌-◌, ◌≡◌, ◌≤◌, ◌<◌, true, false, Option, Some, None, option_map, option_to_list, List, [], ◌∷◌, ◌++◌, length, get_or, take, drop, Bor, refl, sym, ap, subst, ◌∙◌, arith}
-use Rattle.std.specs.Prelude.{slice_get, is_some, IfSome}
+use Rattle.std.specs.Prelude.{slice_get, is_some}
 use Rattle.std.specs.Option.{option_copied}
 use Rattle.std.proofs.lemmas.Option.{none-some, same_Some, slice_get_within}
 use Rattle.mbe_semantics.specs.declared.kinds.MetaVarKind.{MetaVarKind}
@@ -23,7 +23,7 @@ use Rattle.mbe_semantics.proofs.InputLemmas.{length_from}
 use Rattle.mbe_semantics.proofs.MoveLemmas.{separator_moves}
 use Rattle.mbe_semantics.specs.Bindings.Account.{Account, no_account, Command, pushed, pushed_default, pushed_nested, Log, Handle, IsAccount, HasEntriesOf}
 use Rattle.mbe_semantics.specs.Matching.Dots.{op_dots, dots, edges_after}
-use Rattle.mbe_semantics.specs.Matching.Outline.{Edge, gate, edge, Outline, outline, advance, skipped, empty_by, over_advance, empty_bound, bound_advance, if_some_advance, round_advance, when_advance}
+use Rattle.mbe_semantics.specs.Matching.Outline.{Edge, gate, edge, Outline, outline, Advance, advance, skipped, empty_by, over_advance, empty_bound, bound_advance, if_some_advance, round_advance, when_advance}
 use Rattle.mbe_log.specs.Shared.{IsChanged}
 use Rattle.mbe_log.proofs.ClientLemmas as client
 use Rattle.mbe_ops.specs.declared.ops.Op as code
@@ -33,8 +33,9 @@ use Rattle.mbe_places.specs.declared.position.Position.{Position}
 use Rattle.mbe_places.specs.declared.position.Outer.{Outer}
 use Rattle.mbe_places.specs.declared.position.Rounds.{Rounds}
 use Rattle.mbe_places.specs.declared.position.Steps.{Steps}
+use Rattle.mbe_places.specs.declared.position.Waiting.{Waiting}
 use Rattle.mbe_matcher.specs.Fronts.{op_width, if_again}
-use Rattle.mbe_matcher.specs.Positions.{Each, Both, AreRounds, edge_in, AreEdges, none_open, group_open, repetition_open, Outlined, Shows, IsPosition, LeadsTo, Holds, idle_in, AreStepsNow, Keeps, AreSteps, IsPlain, IsAtMostOver, over_steps, IsSkip}
+use Rattle.mbe_matcher.specs.Positions.{Each, Both, AreRounds, edge_in, IsBelow, open_items, AreEdges, none_open, group_open, repetition_open, Outlined, Shows, IsPosition, LeadsTo, Holds, idle_in, AreStepsNow, Keeps, AreSteps, IsPlain, IsAtMostOver, over_steps, IsSkip}
 use Rattle.mbe_places.specs.After.{IsLeft}
 use Rattle.mbe_matcher.specs.Rewriting.{IsRewritten}
 use Rattle.mbe_matcher.proofs.Keeping.{kept_not, grows_not, each_weaker, shows_keep, edges_keep}
@@ -234,15 +235,34 @@ module _ {A : Type 0} (argument : Forest) (q : ℕ) (log : Log) (outers : List (
 module _ {A : Type 0} (log : Log) (outers : List (Outer A)) where
   pub none_around : (u : Option ℕ) (es : List Edge) → AreEdges log outers u es → u ≡ None → es ≡ []
   none_around u es none_open e = refl
-  none_around u es (group_open n o up at r around) e = absurd (none-some n (sym e))
-  none_around u es (repetition_open n o r began a up at e rounds around) k = absurd (none-some n (sym k))
+  none_around u es (group_open n o up at r below around) e = absurd (none-some n (sym e))
+  none_around u es (repetition_open n o r began a up at e rounds below around) k = absurd (none-some n (sym k))
 
   pub is_within : (u : Option ℕ) (es : List Edge) (n : ℕ) → AreEdges log outers u es → u ≡ Some n → n < length outers
   is_within u es n none_open e = absurd (none-some n e)
-  is_within u es n (group_open m o up at r around) e =
+  is_within u es n (group_open m o up at r below around) e =
       subst (λ k. k < length outers) (same_Some m n e) (slice_get_within outers m o at)
-  is_within u es n (repetition_open m o r began a up at k rounds around) e =
+  is_within u es n (repetition_open m o r began a up at k rounds below around) e =
       subst (λ k. k < length outers) (same_Some m n e) (slice_get_within outers m o at)
+
+  same_outer : (m n : ℕ) (o p : Outer A) → m ≡ n → slice_get outers m ≡ Some o → slice_get outers n ≡ Some p → o ≡ p
+  same_outer m n o p e f h = same_Some o p (sym f ∙ ap (slice_get outers) e ∙ h)
+
+  pub around_within : (u : Option ℕ) (es : List Edge) → AreEdges log outers u es → IsBelow u (length outers)
+  around_within u es none_open = tt
+  around_within u es (group_open n o up at r below around) = slice_get_within outers n o at
+  around_within u es (repetition_open n o r began a up at e rounds below around) = slice_get_within outers n o at
+
+  -- the one around it is before it
+  pub up_below : (u : Option ℕ) (es : List Edge) (n : ℕ) (o : Outer A) → AreEdges log outers u es → u ≡ Some n
+      → slice_get outers n ≡ Some o → IsBelow o.up n
+  up_below u es n o none_open e at = absurd (none-some n e)
+  up_below u es n o (group_open m p up got r below around) e at =
+      subst (IsBelow o.up) (same_Some m n e)
+      (subst (λ (x : Outer A). IsBelow x.up m) (same_outer m n p o (same_Some m n e) got at) below)
+  up_below u es n o (repetition_open m p r began a up got f rounds below around) e at =
+      subst (IsBelow o.up) (same_Some m n e)
+      (subst (λ (x : Outer A). IsBelow x.up m) (same_outer m n p o (same_Some m n e) got at) below)
 
   -- the innermost open item is a group
   pub record InGroup (o : Outer A) (es : List Edge) : Type 0 where
@@ -259,16 +279,13 @@ module _ {A : Type 0} (log : Log) (outers : List (Outer A)) where
     pub rounds : AreRounds log r (ops_of o.rest.now) outside up
     pub around : AreEdges log outers o.up up
 
-  same_outer : (m n : ℕ) (o p : Outer A) → m ≡ n → slice_get outers m ≡ Some o → slice_get outers n ≡ Some p → o ≡ p
-  same_outer m n o p e f h = same_Some o p (sym f ∙ ap (slice_get outers) e ∙ h)
-
   pub in_group : (u : Option ℕ) (es : List Edge) (n : ℕ) (o : Outer A) → AreEdges log outers u es → u ≡ Some n
       → slice_get outers n ≡ Some o → o.rounds ≡ None → InGroup o es
   in_group u es n o none_open e at k = absurd (none-some n e)
-  in_group u es n o (group_open m p up at r around) e h k =
+  in_group u es n o (group_open m p up at r below around) e h k =
       subst (λ x. InGroup x (gate (ops_of p.rest.now) ∷ up)) (same_outer m n p o (same_Some m n e) at h)
       (record { up = up; is = refl; around = around })
-  in_group u es n o (repetition_open m p r began a up at f rounds around) e h k =
+  in_group u es n o (repetition_open m p r began a up at f rounds below around) e h k =
       absurd (none-some r (sym k ∙ ap (λ (x : Outer A). x.rounds) (sym (same_outer m n p o (same_Some m n e) at h))
       ∙ f))
 
@@ -276,9 +293,9 @@ module _ {A : Type 0} (log : Log) (outers : List (Outer A)) where
       → u ≡ Some n → slice_get outers n ≡ Some o → o.rounds ≡ Some r →
       InRounds o r es
   in_rounds u es n o r none_open e at k = absurd (none-some n e)
-  in_rounds u es n o r (group_open m p up at f around) e h k =
+  in_rounds u es n o r (group_open m p up at f below around) e h k =
       absurd (none-some r (sym f ∙ ap (λ (x : Outer A). x.rounds) (same_outer m n p o (same_Some m n e) at h) ∙ k))
-  in_rounds u es n o r (repetition_open m p s began a up at f rounds around) e h k =
+  in_rounds u es n o r (repetition_open m p s began a up at f rounds below around) e h k =
       let same = same_outer m n p o (same_Some m n e) at h in
       let one = same_Some s r (sym f ∙ ap (λ (x : Outer A). x.rounds) same ∙ k) in
       subst (λ x. InRounds x r (edge_in s (ops_of p.rest.now) began a ∷ up)) same
@@ -292,6 +309,58 @@ module _ {A : Type 0} (log : Log) (outers : List (Outer A)) where
       → p.up ≡ Some n → slice_get outers n ≡ Some o → o.rounds ≡ Some r → HasEntriesOf log r.outside
   outside_has_entries p n o r (outline rest a up, s) e at is =
       let w = in_rounds p.up up n o r s.around e at is in client.has_entries log r.outside w.outside w.rounds.account
+
+-- ---- open items that are given back
+
+got_cut : {X : Type 0} (xs : List X) (n m : ℕ) (x : X) → m < n → slice_get xs m ≡ Some x
+    → slice_get (take n xs) m ≡ Some x
+got_cut [] n m x l e = absurd (none-some x e)
+got_cut (y ∷ xs) zero m x l e = absurd (omega (arith, l))
+got_cut (y ∷ xs) (suc n) zero x l e = e
+got_cut (y ∷ xs) (suc n) (suc m) x l e = got_cut xs n m x (omega (arith, l)) e
+
+below_on : (u : Option ℕ) (m n : ℕ) → IsBelow u m → m < n → IsBelow u n
+below_on None m n b l = tt
+below_on (Some k) m n b l = omega (arith, b, l)
+
+-- those that are left go around what is below them
+pub edges_cut : {A : Type 0} (log : Log) (outers : List (Outer A)) (n : ℕ) (u : Option ℕ) (es : List Edge)
+    → AreEdges log outers u es → IsBelow u n → AreEdges log (take n outers) u es
+edges_cut log outers n u es none_open b = none_open
+edges_cut log outers n u es (group_open m o up at r below around) b =
+    group_open m o up (got_cut outers n m o b at) r below
+    (edges_cut log outers n o.up up around (below_on o.up m n below b))
+edges_cut log outers n u es (repetition_open m o r began a up at e rounds below around) b =
+    repetition_open m o r began a up (got_cut outers n m o b at) e rounds below
+    (edges_cut log outers n o.up up around (below_on o.up m n below b))
+
+pub shows_cut : {A : Type 0} (log : Log) (outers : List (Outer A)) (n : ℕ) (p : Position A) (o : Outline)
+    → Shows log outers p o → IsBelow p.up n → Shows log (take n outers) p o
+shows_cut log outers n p (outline rest a up) s b =
+    record { dot = s.dot; number = s.number; account = s.account; around = edges_cut log outers n p.up up s.around b }
+
+pub only_cut : {A : Type 0} (log : Log) (outers : List (Outer A)) (n : ℕ) (todo : List (Position A)) (p : Position A)
+    (os : List Outline) → todo ≡ p ∷ [] → IsBelow p.up n → Each (Shows log outers) todo os
+    → Each (Shows log (take n outers)) todo os
+only_cut {A} log outers n todo p os only below h =
+    subst (λ l. Each (Shows log (take n outers)) l os) (sym only)
+    (go os (subst (λ l. Each (Shows log outers) l os) only h))
+  where
+    go : (os : List Outline) → Each (Shows log outers) (p ∷ []) os → Each (Shows log (take n outers)) (p ∷ []) os
+    go [] h = h
+    go (o ∷ []) h = (shows_cut log outers n p o h.0 below, tt)
+    go (o ∷ x ∷ os) h = absurd h.1
+
+pub below_open : (u : Option ℕ) → IsBelow u (open_items u)
+below_open None = tt
+below_open (Some n) = omega arith
+
+-- what waits alone has its open items among the outer ones
+pub leads_within : {A : Type 0} (log : Log) (outers : List (Outer A)) (here : Forest) (w : Waiting A)
+    (moves : List Advance) → Each (LeadsTo log outers here) (w ∷ []) moves → IsBelow w.after.up (length outers)
+leads_within log outers here w [] h = absurd h
+leads_within log outers here w (advance n b (outline rest a up) ∷ moves) h =
+    around_within log outers w.after.up up h.0.after.around
 
 -- one outer item more
 pub last_outer : {A : Type 0} (outers all : List (Outer A)) (o : Outer A) (n : ℕ) → all ≡ outers ++ o ∷ []
@@ -320,6 +389,7 @@ module _ {A : Type 0} (outers all : List (Outer A)) (n : ℕ) (at : n ≡ length
         account = s.account;
         around = subst (λ x. AreEdges log all (Some n) (gate x ∷ up)) r
             (group_open n o up (last_outer outers all o n e at) refl
+            (subst (IsBelow p.up) (sym at) (around_within log outers p.up up s.around))
             (edges_keep log log outers all (record { log = kept_not log; outers = (o ∷ [], e) }) s.around));
       }
 
@@ -357,6 +427,7 @@ module _ {A : Type 0} (outers all : List (Outer A)) (n : ℕ) (at : n ≡ length
         account = keeps.log.others p.handle a s.account;
         front = (let m = ap dots r in omega (arith, number, m));
       })
+      (subst (IsBelow p.up) (sym at) (around_within old outers p.up up s.around))
       (edges_keep old new outers all keeps s.around) in
       let first : Position A = record { dot = body; number = p.number - 1; up = Some n; handle = h } in
       let into : Outlined new all first (ops_of body.now) no_account (edge_in round rest q a ∷ up) =
@@ -606,6 +677,7 @@ module _ {A : Type 0} (g : Grammar) (argument : Forest) (q : ℕ) (old mid : Log
         around = subst (λ x. AreEdges new outers x (edge_in r (ops_of outer.rest.now) began w.outside ∷ w.up)) (sym u)
             (repetition_open m outer r began w.outside w.up at is
             (record { account = all.log.others r.outside w.outside w.rounds.account; front = w.rounds.front })
+            (up_below old outers p.up es m outer s.around u at)
             (edges_keep old new outers outers all w.around));
       } in
       record {

@@ -1,5 +1,5 @@
 -- What the matcher's positions stand for.
-use Rattle.std.specs.Prelude.{ℕ, zero, suc, ◌+◌, ◌≡◌, Bool, Option, Some, None, option_map, is_some, option_to_list, List, [], ◌∷◌, ◌++◌, slice_get, Result, Ok, IfOk, IfSome}
+use Rattle.std.specs.Prelude.{ℕ, zero, suc, ◌+◌, ◌<◌, ◌≡◌, Bool, Option, Some, None, option_map, is_some, option_to_list, List, [], ◌∷◌, ◌++◌, slice_get, Result, Ok, IfOk, IfSome}
 use Rattle.std.specs.declared.alloc.AllocError.{AllocError}
 use Rattle.mbe_semantics.specs.declared.kinds.RepeatKind.{RepeatKind}
 use Rattle.mbe_tt.specs.Trees.Tree.{Forest, rest_at}
@@ -54,16 +54,25 @@ pub record AreRounds {A : Type 0} (log : Log) (r : Rounds A) (rest : Ops) (outsi
   pub account : IsAccount log r.outside outside
   pub front : r.front ≡ dots (ops_of r.body.now) + (dots rest + edges_after up)
 
+-- it is before this place of a list, if it is in it
+abbrev pub IsBelow : Option ℕ → ℕ → Type 0
+IsBelow u n = IfSome u (λ m. m < n)
+
+-- how many outer items may be open around a position that has this one
+abbrev pub open_items : Option ℕ → ℕ
+open_items None = 0
+open_items (Some n) = n + 1
+
 module _ {A : Type 0} (log : Log) (outers : List (Outer A)) where
-  -- The open items from an outer one on, innermost first. Where a round began isn't kept.
+  -- The open items from an outer one on, innermost first, each after the one around it. Where a round began isn't kept.
   pub data AreEdges : Option ℕ → List Edge → Type 0 where
     none_open : AreEdges None []
     group_open : (n : ℕ) (o : Outer A) (es : List Edge) → slice_get outers n ≡ Some o → o.rounds ≡ None
-        → AreEdges o.up es →
+        → IsBelow o.up n → AreEdges o.up es →
         AreEdges (Some n) (gate (ops_of o.rest.now) ∷ es)
     repetition_open : (n : ℕ) (o : Outer A) (r : Rounds A) (began : ℕ) (outside : Account) (es : List Edge) →
         slice_get outers n ≡ Some o → o.rounds ≡ Some r → AreRounds log r (ops_of o.rest.now) outside es
-        → AreEdges o.up es →
+        → IsBelow o.up n → AreEdges o.up es →
         AreEdges (Some n) (edge_in r (ops_of o.rest.now) began outside ∷ es)
 
   -- the position has these ops left, this account, and these open items

@@ -1,5 +1,6 @@
 // The places of an argument that the positions of a pattern come to.
-ghost use Rattle.std.specs.Prelude.{◌≡◌, IfOk, OnOk, IfSome};
+ghost use Rattle.std.specs.Prelude.{◌≡◌, IfOk, OnOk, IfSome, length, take};
+ghost use Rattle.mbe_tt.specs.Trees.Tree.{tree_count, rest_at};
 ghost use Rattle.mbe_tt.specs.Views.View.{trees};
 ghost use Rattle.mbe_semantics.specs.Syntax.Nullable.{Checked};
 ghost use Rattle.mbe_semantics.specs.Readings.Verdict.{IsVerdict, unmatched};
@@ -9,6 +10,7 @@ ghost use Rattle.mbe_ops.specs.Views.{template_of};
 ghost use Rattle.mbe_places.specs.Stops.{verdict_in, reading_in};
 ghost use Rattle.mbe_matcher.specs.Reports.{IsReportIn};
 ghost use Rattle.mbe_matcher.specs.Matched.{IsAtStart, Binds};
+ghost use Rattle.mbe_matcher.specs.Positions.{IsBelow, open_items};
 
 use crate::report::Report;
 use crate::settle::{Settled, State, settle};
@@ -16,7 +18,7 @@ use crate::skipping::dots_of;
 use crate::steps::step_alone;
 use mbe_log::log::BindingLog;
 use mbe_ops::ops::MetaTemplate;
-use mbe_places::position::{Position, Todo};
+use mbe_places::position::{Outer, Position, Todo};
 use mbe_places::source::Source;
 use mbe_places::stops::{Stop, after_step, come, stopped};
 use mbe_tt::grammar::FragmentGrammar;
@@ -53,6 +55,40 @@ pub(crate) fn at_start<'a, A: Allocator + Copy>(
     })
 }
 
+// Gives back the open items that no position comes to any more, where this is the only one.
+#[inline(always)]
+fn leave<'a, A: Allocator>(outers: &mut Vec<Outer<'a, A>, A>, only: &Position<'a, A>)
+    requires within { IsBelow only.now.up (length outers.old.items) }
+    ensures { outers.new.items ≡ take (open_items only.now.up) outers.old.items }
+{
+    let open = match only.up {
+        None => 0,
+        Some(open) => open + 1,
+    };
+    if open < outers.len() {
+        outers.truncate(open);
+    }
+}
+
+// What is returned where the positions stop.
+#[inline(always)]
+fn at_stop<'a, A: Allocator>(
+    stop: Stop,
+    source: &Source<'a, A>,
+    state: State<'a, A>,
+) -> Reached<'a, A>
+    ensures { result ≡ record { stop = stop; unmatched = tree_count
+        (rest_at (trees source.now.whole) source.now.place);
+        report = state.entry.report; has_dropped = state.entry.has_dropped } }
+{
+    Reached {
+        stop,
+        unmatched: source.trees_left(),
+        report: state.report,
+        has_dropped: state.has_dropped,
+    }
+}
+
 // Follows the pattern's positions from place to place, as far as they go.
 pub(crate) fn follow<'a, A: Allocator + Copy, G: FragmentGrammar>(
     alloc: A,
@@ -83,18 +119,14 @@ pub(crate) fn follow<'a, A: Allocator + Copy, G: FragmentGrammar>(
         let alone = step_alone(grammar, &source, log, &mut state.outers, todo.as_slice())?;
         if let Some(next) = alone {
             source = after_step(source, &next)?;
+            leave(&mut state.outers, &next.after);
             todo.clear();
             todo.push(next.after)?;
             continue;
         }
         settle(grammar, &source, log, &mut state, &mut todo, &mut settled)?;
         if let Some(stop) = stopped(&source, &settled.waiting, &settled.ends) {
-            return Ok(Reached {
-                stop,
-                unmatched: source.trees_left(),
-                report: state.report,
-                has_dropped: state.has_dropped,
-            });
+            return Ok(at_stop(stop, &source, state));
         }
         source = after_step(source, &settled.waiting[0])?;
         come(&settled.waiting, &mut todo)?;

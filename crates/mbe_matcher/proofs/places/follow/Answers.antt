@@ -18,12 +18,14 @@ use Rattle.mbe_bounds.specs.Loop.Kept.{kept, kept_moves}
 use Rattle.mbe_matcher.specs.declared.places.Reached.{Reached}
 use Rattle.mbe_matcher.specs.declared.settle.State.{State}
 use Rattle.mbe_places.specs.declared.position.Waiting.{Waiting}
+use Rattle.mbe_matcher.specs.Positions.{open_items}
 use Rattle.mbe_matcher.specs.Failures.{Notes, no_notes, noted_at, AreNotes}
 use Rattle.mbe_matcher.specs.Reports.{IsReportOf, IsReportIn, Settles, GoesAlone, StepsAlone}
 use Rattle.mbe_matcher.specs.Matched.{Binds, IsStackOf, dots_in}
 use Rattle.mbe_places.specs.Stops.{position_after, stop_at, verdict_in, reading_in}
-use Rattle.mbe_matcher.proofs.Arriving.{came_first, came_stack, came_on, came_next, SettledAt, Onward, stop_seen, settled_verdict, settled_place, settled_binds, settled_some, settled_onward}
+use Rattle.mbe_matcher.proofs.Arriving.{came_first, came_stack, came_on, came_cut, came_next, SettledAt, Onward, stop_seen, settled_verdict, settled_place, settled_binds, settled_some, settled_onward}
 use Rattle.mbe_matcher.proofs.Alone.{waits_on}
+use Rattle.mbe_matcher.proofs.StepLemmas.{below_open, leads_within}
 use Rattle.mbe_matcher.proofs.Reporting.{notes_keep}
 use Rattle.mbe_matcher.proofs.Whole.{WholeWith, whole_first, whole_sound, whole_notes, whole_after}
 use Rattle.mbe_matcher.proofs.places.follow.Goals as goal
@@ -118,6 +120,13 @@ after_step-requires-clause-fits g c =
 pub after_step-requires-clause-left : goal.after_step-requires-clause-left
 after_step-requires-clause-left g c = (on g (goal.at.after_step-requires-clause-left g c).In-Some).left
 
+pub leave-requires : goal.leave-requires
+leave-requires g c = record {
+  within = leads_within c.step_alone.new.log c.step_alone.new.outers.items
+      (rest_at (trees c.places.source.whole) c.places.source.place) c.in-Some.next _
+      (goes g (goal.at.leave-requires g c).In-Some).steps.goes_on;
+}
+
 pub places-smaller-in-Some : goal.places-smaller-in-Some
 places-smaller-in-Some g c =
     let n = on g (goal.at.places-smaller-in-Some g c).In-Some in
@@ -147,9 +156,11 @@ places-preserved-in-Some g c =
     c.in_ok-push-2.ensures.ok ∙ ap (λ l. l ++ next.after ∷ []) c.clear.ensures.items in
     record {
       comes = (
-        came_next (gone g here) next n (trees c.in_ok-source.source.whole)
+        came_cut (open_items next.after.up) c.leave.new.outers.items c.leave.ensures next.after arrived
+            (below_open next.after.up)
+            (came_next (gone g here) next n (trees c.in_ok-source.source.whole)
             (ap (λ x. trees x) c.in_ok-source.ensures.whole) c.in_ok-source.source.place at
-            c.push-in-Some.new.self.items arrived,
+            c.push-in-Some.new.self.items arrived),
         inv.comes.1,
         subst (λ x. IsReportOf c.step_alone.new.log (trees x) c.places.state.report [] inv.comes.1)
             (sym c.in_ok-source.ensures.whole)
@@ -274,26 +285,34 @@ pub returns-in-Some-stopped-clause-verdict : goal.returns-in-Some-stopped-clause
 returns-in-Some-stopped-clause-verdict g c =
     let here = goal.at.returns-in-Some-stopped-clause-verdict g c in
     let v = verdict_in c.in-Some-stopped.stop in
-    subst (λ x. IsVerdict (g.G.FragmentGrammar.grammar c.args.grammar.now) (template_of c.args.pattern.now) (trees x) v)
-    c.places.invariant.whole (settled_verdict (settled g here.In_ok-settle) v (stops g here.In-Some-stopped))
+    subst (λ (r : Reached g.row.A.Denot). IsVerdict (g.G.FragmentGrammar.grammar c.args.grammar.now)
+    (template_of c.args.pattern.now) (trees c.args.argument) (verdict_in r.stop)) (sym c.at_stop.ensures)
+    (subst (λ x. IsVerdict (g.G.FragmentGrammar.grammar c.args.grammar.now) (template_of c.args.pattern.now) (trees x) v)
+    c.places.invariant.whole (settled_verdict (settled g here.In_ok-settle) v (stops g here.In-Some-stopped)))
 
 pub returns-in-Some-stopped-clause-unmatched : goal.returns-in-Some-stopped-clause-unmatched
 returns-in-Some-stopped-clause-unmatched g c =
     let here = goal.at.returns-in-Some-stopped-clause-unmatched g c in
     let v = verdict_in c.in-Some-stopped.stop in
-    subst (λ x. c.trees_left.result ≡ unmatched (trees x) v) c.places.invariant.whole
-    (c.trees_left.ensures ∙ ap (λ (n : ℕ). tree_count (rest_at (trees c.places.source.whole) n))
-    (sym (settled_place (settled g here.In_ok-settle) v (stops g here.In-Some-stopped))))
+    subst (λ (r : Reached g.row.A.Denot). r.unmatched ≡ unmatched (trees c.args.argument) (verdict_in r.stop))
+    (sym c.at_stop.ensures)
+    (subst (λ x. tree_count (rest_at (trees c.places.source.whole) c.places.source.place) ≡ unmatched (trees x) v)
+    c.places.invariant.whole
+    (ap (λ (n : ℕ). tree_count (rest_at (trees c.places.source.whole) n))
+    (sym (settled_place (settled g here.In_ok-settle) v (stops g here.In-Some-stopped)))))
 
 pub returns-in-Some-stopped-clause-binds : goal.returns-in-Some-stopped-clause-binds
 returns-in-Some-stopped-clause-binds g c =
     let here = goal.at.returns-in-Some-stopped-clause-binds g c in
     let only = subst (λ l. IfSome (reading_in c.in-Some-stopped.stop) (λ h. l ≡ h ∷ [])) c.deref-in-places-2.ensures
     c.in-Some-stopped.ensures.reading in
-    subst (λ x. IfSome (reading_in c.in-Some-stopped.stop)
+    subst (λ (r : Reached g.row.A.Denot). IfSome (reading_in r.stop)
+    (Binds (g.G.FragmentGrammar.grammar c.args.grammar.now) (template_of c.args.pattern.now) (trees c.args.argument)
+    c.settle.new.log)) (sym c.at_stop.ensures)
+    (subst (λ x. IfSome (reading_in c.in-Some-stopped.stop)
     (Binds (g.G.FragmentGrammar.grammar c.args.grammar.now) (template_of c.args.pattern.now) (trees x)
     c.settle.new.log)) c.places.invariant.whole
-    (settled_binds (settled g here.In_ok-settle) c.in-Some-stopped.stop (stops g here.In-Some-stopped) only)
+    (settled_binds (settled g here.In_ok-settle) c.in-Some-stopped.stop (stops g here.In-Some-stopped) only))
 
 pub returns-in-Some-stopped-clause-kept : goal.returns-in-Some-stopped-clause-kept
 returns-in-Some-stopped-clause-kept g c =
@@ -308,21 +327,22 @@ returns-in-Some-stopped-clause-notes g c =
     let inv = c.places.invariant in
     let at = here.In_ok-settle in
     let stop = settled_place (settled g at) (verdict_in c.in-Some-stopped.stop) (stops g here.In-Some-stopped) in
-    let reached : Reached g.row.A.Denot =
+    let said : Reached g.row.A.Denot =
     record {
       stop = c.in-Some-stopped.stop;
-      unmatched = c.trees_left.result;
+      unmatched = tree_count (rest_at (trees s.whole) s.place);
       report = c.settle.new.state.report;
       has_dropped = c.settle.new.state.has_dropped;
     } in
-    subst (λ x. IsReportIn h pat (trees x) c.settle.new.log reached) inv.whole (λ clean.
+    subst (IsReportIn h pat (trees c.args.argument) c.settle.new.log) (sym c.at_stop.ensures)
+    (subst (λ x. IsReportIn h pat (trees x) c.settle.new.log said) inv.whole (λ clean.
     let all = whole g at clean in (
       noted g at,
       subst (λ k. AreNotes (input_of h (trees s.whole)) pat k (noted g at)) (sym stop)
           (whole_notes (input_of h (trees s.whole)) pat (flat_len (trees s.whole)) (lawful g at) c.requires s.place
           inv.comes.0.spots inv.comes.1 all.0 all.1),
       (settles g at).notes inv.comes.1 (reported g at),
-    ))
+    )))
 
 pub bounds-deref-0 : goal.bounds-deref-0
 bounds-deref-0 g c =
