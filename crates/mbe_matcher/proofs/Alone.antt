@@ -1,4 +1,4 @@
--- An only position that goes on over a token of the pattern.
+-- An only position that goes on over some tokens.
 use Rattle.std.proofs.Common.{ℕ, ◌≡◌, ◌<◌, ◌≤◌, ◌∷◌, true, false, Option, Some, None, List, [], length, get_or, reverse, refl, sym, ap, subst, ◌∙◌, arith}
 use Rattle.std.specs.Prelude.{IfSome, Result, Ok, Err, IfOk, OnOk, is_some}
 use Rattle.std.specs.declared.alloc.AllocError.{AllocError}

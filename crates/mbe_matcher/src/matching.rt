@@ -16,7 +16,8 @@
 //   began to wait.
 //
 // At the argument's end, the positions at the pattern's end are its readings: one, several, or
-// none. An only position before a token that fits goes on at once (`step_alone`), as most do.
+// none. An only position goes on at once where its only step is over some tokens (`step_alone`), as
+// most do.
 //
 // What a position can still do depends on its dot alone, so at each place two of a dot are looked
 // at and any more are dropped: one shows that the dot is reached, a second that there are two

@@ -1,5 +1,5 @@
 // The places of an argument that the positions of a pattern come to.
-ghost use Rattle.std.specs.Prelude.{◌≡◌, IfOk, OnOk, IfSome, length, take};
+ghost use Rattle.std.specs.Prelude.{◌≡◌, ◌∷◌, [], IfOk, OnOk, IfSome, length, take};
 ghost use Rattle.mbe_tt.specs.Trees.Tree.{tree_count, rest_at};
 ghost use Rattle.mbe_tt.specs.Views.View.{trees};
 ghost use Rattle.mbe_semantics.specs.Syntax.Nullable.{Checked};
@@ -55,19 +55,26 @@ pub(crate) fn at_start<'a, A: Allocator + Copy>(
     })
 }
 
-// Gives back the open items that no position comes to any more, where this is the only one.
+// An only position after its step. The open items that it can't come to any more are given back.
 #[inline(always)]
-fn leave<'a, A: Allocator>(outers: &mut Vec<Outer<'a, A>, A>, only: &Position<'a, A>)
-    requires within { IsBelow only.now.up (length outers.old.items) }
-    ensures { outers.new.items ≡ take (open_items only.now.up) outers.old.items }
+fn come_alone<'a, A: Allocator + Copy>(
+    after: Position<'a, A>,
+    outers: &mut Vec<Outer<'a, A>, A>,
+    todo: &mut Todo<'a, '_, A>,
+) -> Result<(), AllocError>
+    requires within { IsBelow after.up (length outers.old.items) }
+    ensures outers { OnOk result
+        (outers.new.items ≡ take (open_items after.entry.up) outers.old.items) }
+    ensures todo { OnOk result (todo.new.items ≡ after.entry ∷ []) }
 {
-    let open = match only.up {
+    let open = match after.up {
         None => 0,
         Some(open) => open + 1,
     };
-    if open < outers.len() {
-        outers.truncate(open);
-    }
+    outers.truncate(open);
+    todo.clear();
+    todo.push(after)?;
+    Ok(())
 }
 
 // What is returned where the positions stop.
@@ -77,9 +84,13 @@ fn at_stop<'a, A: Allocator>(
     source: &Source<'a, A>,
     state: State<'a, A>,
 ) -> Reached<'a, A>
-    ensures { result ≡ record { stop = stop; unmatched = tree_count
-        (rest_at (trees source.now.whole) source.now.place);
-        report = state.entry.report; has_dropped = state.entry.has_dropped } }
+    ensures { result ≡ record {
+      stop = stop;
+      unmatched = tree_count
+          (rest_at (trees source.now.whole) source.now.place);
+      report = state.entry.report;
+      has_dropped = state.entry.has_dropped;
+    } }
 {
     Reached {
         stop,
@@ -119,9 +130,7 @@ pub(crate) fn follow<'a, A: Allocator + Copy, G: FragmentGrammar>(
         let alone = step_alone(grammar, &source, log, &mut state.outers, todo.as_slice())?;
         if let Some(next) = alone {
             source = after_step(source, &next)?;
-            leave(&mut state.outers, &next.after);
-            todo.clear();
-            todo.push(next.after)?;
+            come_alone(next.after, &mut state.outers, &mut todo)?;
             continue;
         }
         settle(grammar, &source, log, &mut state, &mut todo, &mut settled)?;

@@ -222,7 +222,10 @@ fn op_alone<'a, A: Allocator + Copy, G: FragmentGrammar>(
         Op::Literal(_) | Op::Ident(_) | Op::Punct(_) => {
             Ok(plain_steps(source, op, rest, position).next)
         }
-        Op::Var { kind: Some(MetaVarKind::Vis), .. } => Ok(None),
+        Op::Var {
+            kind: Some(MetaVarKind::Vis),
+            ..
+        } => Ok(None),
         Op::Var { name, kind, .. } => {
             Ok(variable_steps(grammar, source, log, name, *kind, rest, position)?.next)
         }

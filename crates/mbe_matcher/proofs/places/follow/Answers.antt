@@ -108,8 +108,8 @@ module _ (g : _) (c : In-Some g) where
       (trees c.places.source.whole) c.places.source.place c.places.invariant.comes.0.spots
       (c.in-Some.next ∷ []) c.in-Some.next
   on = settled_onward gone (waits_on c.places.source.place (flat_len (trees c.places.source.whole))
-      c.in-Some.next (subst (λ n. IsSome n → c.places.source.place < flat_len (trees c.places.source.whole)) c.in-Some.is
-      c.in_ok-alone.ensures.within refl)) c.in-Some.next (c.in-Some.next ∷ []) refl refl
+      c.in-Some.next (subst (λ n. IsSome n → c.places.source.place < flat_len (trees c.places.source.whole))
+      c.in-Some.is c.in_ok-alone.ensures.within refl)) c.in-Some.next (c.in-Some.next ∷ []) refl refl
 
 pub after_step-requires-clause-fits : goal.after_step-requires-clause-fits
 after_step-requires-clause-fits g c =
@@ -120,12 +120,13 @@ after_step-requires-clause-fits g c =
 pub after_step-requires-clause-left : goal.after_step-requires-clause-left
 after_step-requires-clause-left g c = (on g (goal.at.after_step-requires-clause-left g c).In-Some).left
 
-pub leave-requires : goal.leave-requires
-leave-requires g c = record {
-  within = leads_within c.step_alone.new.log c.step_alone.new.outers.items
+pub come_alone-requires : goal.come_alone-requires
+come_alone-requires g c = (
+  omega arith,
+  leads_within c.step_alone.new.log c.step_alone.new.outers.items
       (rest_at (trees c.places.source.whole) c.places.source.place) c.in-Some.next _
-      (goes g (goal.at.leave-requires g c).In-Some).steps.goes_on;
-}
+      (goes g (goal.at.come_alone-requires g c).In-Some).steps.goes_on,
+)
 
 pub places-smaller-in-Some : goal.places-smaller-in-Some
 places-smaller-in-Some g c =
@@ -152,15 +153,14 @@ places-preserved-in-Some g c =
     let right = g.met.G.FragmentGrammar.lawful c.args.grammar.now in
     let lawful = lawful_input h (trees s.whole) right in
     let after = map after_of (kept_moves i (dots pat) s.place (reverse spots)) in
-    let arrived : c.push-in-Some.new.self.items ≡ next.after ∷ [] =
-    c.in_ok-push-2.ensures.ok ∙ ap (λ l. l ++ next.after ∷ []) c.clear.ensures.items in
+    let arrived = c.in_ok-come_alone.ensures.todo in
     record {
       comes = (
-        came_cut (open_items next.after.up) c.leave.new.outers.items c.leave.ensures next.after arrived
-            (below_open next.after.up)
+        came_cut (open_items next.after.up) c.come_alone.new.outers.items c.in_ok-come_alone.ensures.outers next.after
+            arrived (below_open next.after.up)
             (came_next (gone g here) next n (trees c.in_ok-source.source.whole)
             (ap (λ x. trees x) c.in_ok-source.ensures.whole) c.in_ok-source.source.place at
-            c.push-in-Some.new.self.items arrived),
+            c.come_alone.new.todo.items arrived),
         inv.comes.1,
         subst (λ x. IsReportOf c.step_alone.new.log (trees x) c.places.state.report [] inv.comes.1)
             (sym c.in_ok-source.ensures.whole)
@@ -287,8 +287,8 @@ returns-in-Some-stopped-clause-verdict g c =
     let v = verdict_in c.in-Some-stopped.stop in
     subst (λ (r : Reached g.row.A.Denot). IsVerdict (g.G.FragmentGrammar.grammar c.args.grammar.now)
     (template_of c.args.pattern.now) (trees c.args.argument) (verdict_in r.stop)) (sym c.at_stop.ensures)
-    (subst (λ x. IsVerdict (g.G.FragmentGrammar.grammar c.args.grammar.now) (template_of c.args.pattern.now) (trees x) v)
-    c.places.invariant.whole (settled_verdict (settled g here.In_ok-settle) v (stops g here.In-Some-stopped)))
+    (subst (λ x. IsVerdict (g.G.FragmentGrammar.grammar c.args.grammar.now) (template_of c.args.pattern.now) (trees x)
+    v) c.places.invariant.whole (settled_verdict (settled g here.In_ok-settle) v (stops g here.In-Some-stopped)))
 
 pub returns-in-Some-stopped-clause-unmatched : goal.returns-in-Some-stopped-clause-unmatched
 returns-in-Some-stopped-clause-unmatched g c =

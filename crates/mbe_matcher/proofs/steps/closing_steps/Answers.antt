@@ -17,7 +17,8 @@ returns-then-not-closes-clause-steps g c = λ h log outers n is at o s.
     c.args.position no_ops o s c.requires.dot
     (λ a up t. record {
       now = not_closed (input_of h (trees src.whole)) (trees src.whole) src.place log outers c.args.position a up t
-          c.args.outer.now (in_group log outers c.args.position.up up n c.args.outer.now t.around is at c.requires.group)
+          c.args.outer.now
+          (in_group log outers c.args.position.up up n c.args.outer.now t.around is at c.requires.group)
           (sym c.closes.ensures ∙ c.if-not-closes.true);
       kept = keeps_not log outers;
     }))

@@ -58,8 +58,8 @@ repetition_steps-requires-clause-number g c =
     c.in-Repeat.kind) (sym c.deref-in-Repeat.ensures.value)))
 
 pub returns-in-Subtree : goal.returns-in-Subtree
-returns-in-Subtree g c = λ o s. c.group_steps.ensures.steps (g.G.FragmentGrammar.grammar c.args.grammar.now) c.args.log.now o
-    s
+returns-in-Subtree g c = λ o s.
+    c.group_steps.ensures.steps (g.G.FragmentGrammar.grammar c.args.grammar.now) c.args.log.now o s
 
 pub returns-in-Expression : goal.returns-in-Expression
 returns-in-Expression g c = λ o s. record {

@@ -28,7 +28,8 @@ end_alone-requires-clause-placed g c =
     let here = goal.at.end_alone-requires-clause-placed g c in (
       c.args.log.now,
       subst (λ l. IsPosition c.args.log.now l c.again.result) (sym c.deref.ensures.value)
-          (subst (IsPosition c.args.log.now c.args.outers.now.items) (sym c.again.ensures) (shown g here.Else-is_at_end)),
+          (subst (IsPosition c.args.log.now c.args.outers.now.items) (sym c.again.ensures)
+          (shown g here.Else-is_at_end)),
     )
 
 pub end_alone-requires-clause-dot : goal.end_alone-requires-clause-dot
