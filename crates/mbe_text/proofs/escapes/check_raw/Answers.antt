@@ -16,3 +16,10 @@ chars-preserved-in_ok-past_plain c = record {
   exact = search rules;
   end = end_after _ _ _ c.chars.invariant.end c.in-Some.ensures.shorter c.in-Some.ensures.end;
 }
+
+pub chars-preserved : goal.chars-preserved
+chars-preserved c = record {
+  utf8 = search rules;
+  exact = search rules;
+  end = end_after _ _ _ c.chars.invariant.end c.in-Some.ensures.shorter c.in-Some.ensures.end;
+}
