@@ -1,11 +1,15 @@
 -- The walk along links.
 use Rattle.std.proofs.Common.{◌≡◌, ◌<◌, ◌≤◌, ◌-◌, ℕ, zero, suc, List, [], ◌∷◌, ◌++◌, length, map, take, reverse, Option, Some, None, refl, sym, ◌∙◌, ap, subst, arith, append_assoc, get_or}
-use Rattle.std.specs.Prelude.{slice_get}
+use Rattle.std.specs.Prelude.{slice_get, ◌↔◌, IsTrue, nat_le, nat_lt}
+use Rattle.std.proofs.Common.{set, inl, inr}
+use Rattle.std.proofs.lemmas.Bool.Decides.{nat_tests}
+use Rattle.std.proofs.lemmas.List.{get_or-set_same}
+use Rattle.std.proofs.lemmas.Option.{slice_get-get_or}
 use Rattle.indexmap.proofs.ReorderLemmas.{map-reverse}
 use Rattle.std.proofs.lemmas.List.{map-append}
 use Rattle.std.proofs.lemmas.List.{reverse-append, reverse-reverse}
 use Rattle.mbe_semantics.specs.declared.log.Part.{Part}
-use Rattle.mbe_log.specs.Chain.{Chain, chain_len, IsWithin, IsChained, Flat, ends, goes_on, link_in, own_in, own_of, entry_at, ArePlaces, places_down}
+use Rattle.mbe_log.specs.Chain.{Chain, chain_len, link_to, longer, forked, IsExtended, IsWithin, IsChained, Flat, ends, goes_on, link_in, own_in, own_of, entry_at, ArePlaces, places_down}
 use Rattle.mbe_log.specs.Collected.{Collected, PlacesCollected, left_of}
 
 pub got : {X : Type 0} (xs : List X) (i : ℕ) (x d : X) → slice_get xs i ≡ Some x → get_or xs i d ≡ x
@@ -151,6 +155,82 @@ pub down-one : (at n : ℕ) → 0 < n → places_down at n ≡ record { list = a
 down-one at zero h = absurd (omega (arith, h))
 down-one at (suc n) h = let m : n ≡ suc n - 1 =
     omega arith in ap (λ j. record { list = at; first = j } ∷ places_down at j) m
+
+-- ---- a part of a list that is found
+
+module _ {T : Type 0} (lists : List (Chain T)) where
+  -- where a part's list is found twice it is the same
+  same_found : (part : Part) (a b : Chain T) → IsWithin lists part → a ≡ get_or lists part.list a
+      → b ≡ get_or lists part.list b → a ≡ b
+  same_found part a b w e f = (e ∙ got lists part.list w.0 a w.1) ∙ sym (f ∙ got lists part.list w.0 b w.1)
+
+  -- the part is within its list by that list's length
+  pub within_if : (part : Part) (l : Chain T) (n : ℕ) → part.list < length lists → l ≡ get_or lists part.list l
+      → n ≡ chain_len l → IsTrue (nat_le part.first n) ↔ IsWithin lists part
+  within_if part l n h e len =
+      let there : slice_get lists part.list ≡ Some l =
+      slice_get-get_or lists part.list l h ∙ ap Some (sym e) in (
+        λ t. let f : part.first ≤ n = grind (arith, nat_tests) in (l, there, subst (λ k. part.first ≤ k) len f),
+        λ w. let same : w.0 ≡ l = sym (e ∙ got lists part.list w.0 l w.1) in
+            let f : part.first ≤ n =
+            subst (λ k. part.first ≤ k) (sym len) (subst (λ x. part.first ≤ chain_len x) same w.2) in
+            grind (arith, nat_tests),
+      )
+
+  -- a list that isn't there has no part
+  pub within_unless : (part : Part) → length lists ≤ part.list
+      → IsTrue (nat_lt part.list (length lists)) ↔ IsWithin lists part
+  within_unless part h = (
+    λ t. absurd (let f : part.list < length lists = grind (arith, nat_tests) in omega (arith, f, h)),
+    λ w. absurd (let k = part_there lists part w in omega (arith, k, h)),
+  )
+
+  -- one entry more in place: the list is found to be no longer than the part, then for writing, and then for its length
+  pub extended_here : (part : Part) (short at after new : Chain T) (x : T) (len first : ℕ) → IsWithin lists part
+      → short ≡ get_or lists part.list short → len ≡ chain_len short → len ≤ part.first
+      → at ≡ get_or lists part.list at → new ≡ longer at x
+      → after ≡ get_or (set lists part.list new) part.list after → first ≡ chain_len after
+      → IsExtended lists (set lists part.list new) part (record { list = part.list; first = first }) x
+  extended_here part short at after new x len first w e l le f n g k =
+      let there = same_list lists part at w f in
+      let same : w.0 ≡ at = sym (f ∙ got lists part.list w.0 at w.1) in
+      let within : part.first ≤ chain_len at = subst (λ c. part.first ≤ chain_len c) same w.2 in
+      let long : len ≡ chain_len at = l ∙ ap chain_len (same_found part short at w e f) in
+      let written : after ≡ new = g ∙ get_or-set_same lists part.list new after (part_there lists part w) in
+      let full : first ≡ chain_len (longer at x) = k ∙ ap chain_len (written ∙ n) in (
+        at,
+        there,
+        inl (
+          omega (arith, within, long, le),
+          ap (set lists part.list) n,
+          ap (λ m. record { list = part.list; first = m }) full,
+        ),
+      )
+
+  -- the list with that link and that entry goes on from the part
+  pub forked_by : (part : Part) (at empty list : Chain T) (x : T) (link : Option Part) → link ≡ link_to part at
+      → empty ≡ record { link = link; own = [] } → list ≡ longer empty x → list ≡ forked part at x
+  forked_by part at empty list x link k e n =
+      let with : Option Part → Chain T = λ it. record { link = it; own = x ∷ [] } in
+      n ∙ (ap (λ c. longer c x) e ∙ ap with k)
+
+  -- one entry more in a new list: the list is found to be longer than the part, and then for its link
+  pub extended_apart : (part : Part) (long at list : Chain T) (new : List (Chain T)) (x : T) (len count first : ℕ)
+      → IsWithin lists part → long ≡ get_or lists part.list long → len ≡ chain_len long → part.first < len
+      → at ≡ get_or lists part.list at → list ≡ forked part at x → new ≡ lists ++ list ∷ []
+      → count ≡ length lists → first ≡ chain_len list
+      → IsExtended lists new part (record { list = count; first = first }) x
+  extended_apart part long at list new x len count first w e l lt f n g k m =
+      let more : len ≡ chain_len at = l ∙ ap chain_len (same_found part long at w e f) in (
+        at,
+        same_list lists part at w f,
+        inr (
+          omega (arith, more, lt),
+          g ∙ ap (λ c. lists ++ c ∷ []) n,
+          ap (λ c. record { list = c; first = first }) k
+              ∙ ap (λ c. record { list = length lists; first = c }) (m ∙ ap chain_len n),
+        ),
+      )
 
 -- ---- a part of one entry
 

@@ -64,10 +64,19 @@ impl<A: Allocator> fmt::Debug for Bindings<'_, A> {
     fn fmt<W: fmt::Write>(&self, f: &mut fmt::Formatter<W>) -> fmt::Result {
         f.write_str("{")?;
         for (name, binding) in &self.inner {
-            write!(f, "{name:?}: {binding:?}, ")?;
+            fmt_bound(name, binding, f)?;
         }
         f.write_str("}")
     }
+}
+
+// One name and what it is bound to.
+fn fmt_bound<A: Allocator, W: fmt::Write>(
+    name: &Symbol<A>,
+    binding: &Binding<'_, A>,
+    f: &mut fmt::Formatter<W>,
+) -> fmt::Result {
+    write!(f, "{name:?}: {binding:?}, ")
 }
 
 impl<'a, A: Allocator> Bindings<'a, A> {

@@ -10,7 +10,6 @@ use Rattle.mbe_tt.specs.declared.tt.DelimiterKind.TheVariants.{Invisible}
 use Rattle.mbe_text.specs.declared.scanner.Token.{Token}
 use Rattle.mbe_text.specs.declared.scanner.Lexeme.{Lexeme}
 use Rattle.mbe_text.specs.declared.scanner.Lexeme.TheVariants.{Ident, Literal, Punct, Open, Close, Lifetime, Doc}
-use Rattle.mbe_text.specs.declared.lexer.LexError.TheVariants as errors
 use Rattle.mbe_text.specs.Tokens.{Item, item_span, item_text, token_item, lexeme_item, Adds, Makes, ended, AreInOrder, AreSpelled, bytes_of, whole, IsMade}
 
 makes_more : (a b c : Levels) (xs : List Item) (x : Item) → Makes a xs b → Adds x b c → Makes a (xs ++ x ∷ []) c

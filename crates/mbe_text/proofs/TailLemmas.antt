@@ -1,6 +1,6 @@
 -- What the readers leave is what is left of the text after some characters.
 use Rattle.std.proofs.Common.{◌≡◌, ℕ, zero, suc, ◌==◌, ◌+◌, ◌-◌, ◌<◌, ◌≤◌, not, ◌&&◌, ◌||◌, nat_lt, Bool, true, false, List, [], ◌∷◌, ◌++◌, length, take, drop, refl, sym, ap, ◌∙◌, arith, subst, if◌then◌else◌, Ok, Err, chars, encode_utf8_all, IsUtf8, Bor, IfOk, codes}
-use Rattle.std.proofs.Common.{length-append, append_assoc, drop-drop, length-drop, Option, Some, None}
+use Rattle.std.proofs.Common.{length-append, append_assoc, drop-drop, length-drop, Option, Some, None, IfSome}
 use Rattle.std.specs.Prelude.{unwrap_or}
 use Rattle.std.specs.Str.{IsCharBoundary}
 use Rattle.std.specs.Str.Pattern.{GetsRange}
@@ -8,7 +8,7 @@ use Rattle.mbe_text.proofs.Reading.{before_rest}
 use Rattle.std.proofs.lemmas.Str.{chars-append, encode_ascii, IsUtf8-append, IsCharBoundary-from_drop, IsCharBoundary-end}
 use Rattle.std.proofs.lemmas.Bool.Decides.{nat_tests}
 use Rattle.std.proofs.Math.Seq.{take-append_seam, drop-append_seam, take-length}
-use Rattle.mbe_text.specs.Ends.{IsEnd}
+use Rattle.mbe_text.specs.Ends.{IsEnd, IsRest}
 use Rattle.mbe_text.specs.Extents.{front}
 use Rattle.std.specs.Char.{digit_value, char_set_contains}
 use Rattle.mbe_text.specs.declared.characters.Class.{Class}
@@ -64,6 +64,21 @@ end_on a b c p q =
       q.1 ∙ (ap (λ (l : List ℕ). drop (length b - length c) l) p.1
           ∙ (drop-drop (length b - length c) (length a - length b) a ∙ ap (λ (m : ℕ). drop m a) n)),
     )
+
+-- an end of an end, after its first character
+pub end_after : (a b c : List ℕ) → IsEnd a b → length c < length b → IsRest b c → IsEnd a c
+end_after a b c p n q = end_on a b c p (omega arith, q)
+
+-- an end of what is left of a whole text, of so many bytes
+pub end_of_rest : (text rest end : List ℕ) (total : ℕ) → length rest ≤ total → total ≡ length text → IsRest text rest
+    → IsEnd rest end → IsEnd text end
+end_of_rest text rest end total n w r e = end_on text rest end (omega arith, r) e
+
+-- what is passed may not be there
+pub end_or : (text : List ℕ) (r : Option (Bor (List ℕ))) (other got : Bor (List ℕ))
+    → IfSome r (λ end. IsEnd text end.now) → IsEnd text other.now → got ≡ unwrap_or r other → IsEnd text got.now
+end_or text (Some end) other got h e g = subst (λ (b : Bor (List ℕ)). IsEnd text b.now) (sym g) h
+end_or text None other got h e g = subst (λ (b : Bor (List ℕ)). IsEnd text b.now) (sym g) e
 
 -- ---- escapes
 

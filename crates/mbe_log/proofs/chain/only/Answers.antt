@@ -18,3 +18,7 @@ returns-in-None-eq1 g c =
     only_entry c.args.lists.now c.args.part c.index-lists-part.result c.own_at.result.now
     (same_list c.args.lists.now c.args.part c.index-lists-part.result c.requires c.index-lists-part.is)
     (sym c.cut.ensures.link ∙ c.in-None-eq1.is-0) one c.own_at.ensures
+
+pub offset_bounds-lists-part : goal.offset_bounds-lists-part
+offset_bounds-lists-part g c =
+    let k = part_there c.args.lists.now c.args.part c.requires in omega (arith, k)

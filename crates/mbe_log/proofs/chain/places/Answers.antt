@@ -1,3 +1,4 @@
+use Rattle.std.proofs.Common.{arith}
 use Rattle.mbe_log.proofs.ChainLemmas.{collected_there, places-step, left-falls-at, places-end}
 use Rattle.mbe_log.proofs.chain.places.Goals as goal
 
@@ -19,3 +20,9 @@ pub bounds-lists-part : goal.bounds-lists-part
 bounds-lists-part g c =
     collected_there c.args.lists.now c.args.part c.in-Some.part c.loop-next.places.items c.loop-next.next c.in-Some.is
     c.loop-next.invariant
+
+pub offset_bounds-lists-part : goal.offset_bounds-lists-part
+offset_bounds-lists-part g c =
+    let k = collected_there c.args.lists.now c.args.part c.in-Some.part c.loop-next.places.items c.loop-next.next
+    c.in-Some.is c.loop-next.invariant in
+    omega (arith, k)

@@ -25,3 +25,7 @@ returns-in-None-eq2 g c =
     c.own_at-first.result.now c.own_at-second.result.now
     (same_list c.args.lists.now c.args.part c.index-lists-part.result c.requires c.index-lists-part.is)
     (sym c.cut.ensures.link ∙ c.in-None-eq2.is-0) two c.own_at-first.ensures c.own_at-second.ensures
+
+pub offset_bounds-lists-part : goal.offset_bounds-lists-part
+offset_bounds-lists-part g c =
+    let k = part_there c.args.lists.now c.args.part c.requires in omega (arith, k)

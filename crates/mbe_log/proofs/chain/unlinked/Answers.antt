@@ -1,6 +1,6 @@
-use Rattle.std.proofs.Common.{◌∙◌, ap, sym, take}
+use Rattle.std.proofs.Common.{◌∙◌, ap, arith, sym, take}
 use Rattle.mbe_log.specs.Chain.{ends}
-use Rattle.mbe_log.proofs.ChainLemmas.{same_list, own_room}
+use Rattle.mbe_log.proofs.ChainLemmas.{same_list, own_room, part_there}
 use Rattle.mbe_log.proofs.chain.unlinked.Goals as goal
 
 pub returns-in-None-default : goal.returns-in-None-default
@@ -11,3 +11,10 @@ returns-in-None-default g c =
           (same_list c.args.lists.now c.args.part l c.requires c.index-lists-part.is)
           (sym c.cut.ensures.link ∙ c.in-None-default.is-0) (ap (λ n. take n l.own) c.cut.ensures.own),
     )
+
+pub bounds-lists-part : goal.bounds-lists-part
+bounds-lists-part g c = part_there c.args.lists.now c.args.part c.requires
+
+pub offset_bounds-lists-part : goal.offset_bounds-lists-part
+offset_bounds-lists-part g c =
+    let k = part_there c.args.lists.now c.args.part c.requires in omega (arith, k)

@@ -33,3 +33,6 @@ binding_counts-returns g t c =
     let ended = counts_end xs c.loop-value.value-index c.loop-value-test.false in
     sym (c.loop-value.invariant.counted ∙ ap (λ n. min (count + n) most) ended
     ∙ (ap (λ n. min n most) (omega arith) ∙ min-eq_left c.loop-value.invariant.most))
+
+pub binding_counts-offset_bounds-values-value-index : goal.binding_counts-offset_bounds-values-value-index
+binding_counts-offset_bounds-values-value-index g t c = let k = c.loop-value-test.true in omega (arith, k)

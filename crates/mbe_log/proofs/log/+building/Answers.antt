@@ -237,3 +237,6 @@ bind_command-returns-in-Nested g t c =
     nested_returns c.args.commands.now c.args.rounds.now c.args.command.now c.in-Nested.finished c.in-Nested.current
     c.in-Nested.is c.bind_rounds.result (bound_by c.args.bindings.now) (bound_by c.bind_rounds.new.bindings)
     c.bind_rounds.ensures
+
+pub build_part-offset_bounds-place-items-place-index : goal.build_part-offset_bounds-place-items-place-index
+build_part-offset_bounds-place-items-place-index g t c = let k = c.loop-place-test.true in omega (arith, k)

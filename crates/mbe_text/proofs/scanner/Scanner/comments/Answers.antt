@@ -1,8 +1,9 @@
-use Rattle.std.proofs.Common.{sym, ap, ◌∙◌, rules, chars, ℕ, Err}
+use Rattle.std.proofs.Common.{sym, ap, ◌∙◌, arith, rules, chars, ℕ, Err}
 use Rattle.std.proofs.lemmas.Result.{err_from_is_err_and}
 use Rattle.mbe_text.specs.Faults.{fault_at}
 use Rattle.mbe_text.specs.declared.wrong.Wrong.TheVariants as wrong
 use Rattle.mbe_text.proofs.BlankLemmas.{blank_there, doc_there, passes_end, passes_blank, passes_other, passes_doc, passes_line, passes_block, passes_last, passes_fault}
+use Rattle.mbe_text.proofs.TailLemmas.{end_of_rest}
 use Rattle.mbe_text.proofs.scanner.Scanner.comments.Goals as goal
 
 pub returns-in_default-clause-exact : goal.returns-in_default-clause-exact
@@ -65,3 +66,10 @@ returns-else-begins_with-2-clause-exact c =
     (doc_there _ _ _ _ _ c.parts.invariant.on.4 c.is_at_doc.ensures c.if-is_at_doc.false) (search rules)
     (sym c.begins_with.ensures.exact ∙ c.if-begins_with.false)
     (sym c.begins_with-else-begins_with.ensures.exact ∙ c.if-begins_with-2.false)
+
+pub invariant_of-self : goal.invariant_of-self
+invariant_of-self c =
+    let old = c.parts.self in
+    let step = c.in-Some.ensures in
+    let end = end_of_rest _ _ _ old.total old.within old.whole old.left (omega (arith, step.shorter), step.end) in
+    record { within = omega (arith, end.0, old.whole); whole = old.whole; small = old.small; left = end.1 }

@@ -1,4 +1,4 @@
-use Rattle.std.proofs.Common.{◌∙◌, sym, ap, arith, chars}
+use Rattle.std.proofs.Common.{◌∙◌, ap, arith, chars}
 use Rattle.mbe_text.specs.Dialect.{read_shape}
 use Rattle.mbe_text.specs.Tokens.{lexeme_text}
 use Rattle.mbe_text.specs.declared.dialect.Dialect.{Dialect}
@@ -6,7 +6,7 @@ use Rattle.mbe_text.proofs.BlanksFirst.{passes_only}
 use Rattle.mbe_text.proofs.CommonLemmas.{begins_other}
 use Rattle.mbe_text.proofs.DivisionLemmas.{is_next}
 use Rattle.mbe_text.proofs.Reading.{spelled_at, text_of_lexeme}
-use Rattle.mbe_text.proofs.TailLemmas.{end_on}
+use Rattle.mbe_text.proofs.TailLemmas.{end_of_rest, end_on}
 use Rattle.mbe_text.proofs.scanner.Scanner.common.Goals as goal
 
 pub returns-clause-spelled : goal.returns-clause-spelled
@@ -38,3 +38,11 @@ returns-clause-exact c =
     first.2
     (ap (λ (d : Dialect). read_shape d old.total left) c.in-Sample.is ∙ c.in_ok-lexeme.ensures.exact old.total)
     c.file_span-span.ensures.whole c.offset-start.ensures.exact c.offset-end.ensures.exact
+
+pub invariant_of-self : goal.invariant_of-self
+invariant_of-self c =
+    let old = c.args.self.now in
+    let end = end_on _ _ _
+    (end_of_rest _ _ _ old.total old.within old.whole old.left c.after_blanks-text.ensures.end)
+    c.in_ok-lexeme.ensures.end in
+    record { within = omega (arith, end.0, old.whole); whole = old.whole; small = old.small; left = end.1 }
