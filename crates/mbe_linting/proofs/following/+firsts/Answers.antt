@@ -72,9 +72,13 @@ push_firsts_of_op-returns-in_err-body-in-Repeat-clause-next g t c =
 pub push_firsts_of_op-returns-in_err-push_separator_if-in-Repeat-clause-empty :
     goal.push_firsts_of_op-returns-in_err-push_separator_if-in-Repeat-clause-empty
 push_firsts_of_op-returns-in_err-push_separator_if-in-Repeat-clause-empty g t c =
-    let p = err_from_is_err_and c.from_residual-in_err-push_separator_if-in-Repeat.result c.from_residual-in_err-push_separator_if-in-Repeat.ensures.1 in rw p.1 tt
+    let step = c.from_residual-in_err-push_separator_if-in-Repeat in
+    let p = err_from_is_err_and step.result step.ensures.1 in
+    rw p.1 tt
 
 pub push_firsts_of_op-returns-in_err-push_separator_if-in-Repeat-clause-next :
     goal.push_firsts_of_op-returns-in_err-push_separator_if-in-Repeat-clause-next
 push_firsts_of_op-returns-in_err-push_separator_if-in-Repeat-clause-next g t c =
-    let p = err_from_is_err_and c.from_residual-in_err-push_separator_if-in-Repeat.result c.from_residual-in_err-push_separator_if-in-Repeat.ensures.1 in rw p.1 tt
+    let step = c.from_residual-in_err-push_separator_if-in-Repeat in
+    let p = err_from_is_err_and step.result step.ensures.1 in
+    rw p.1 tt

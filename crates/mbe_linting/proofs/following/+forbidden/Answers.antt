@@ -45,7 +45,9 @@ push_forbidden-returns-in_err-next g t c =
 
 pub push_forbidden-returns-in_err-push_forbidden_in_op : goal.push_forbidden-returns-in_err-push_forbidden_in_op
 push_forbidden-returns-in_err-push_forbidden_in_op g t c =
-    let p = err_from_is_err_and c.from_residual-in_err-push_forbidden_in_op.result c.from_residual-in_err-push_forbidden_in_op.ensures.1 in rw p.1 tt
+    let step = c.from_residual-in_err-push_forbidden_in_op in
+    let p = err_from_is_err_and step.result step.ensures.1 in
+    rw p.1 tt
 
 pub push_forbidden_in_op-returns-in_err-after-in-Repeat : goal.push_forbidden_in_op-returns-in_err-after-in-Repeat
 push_forbidden_in_op-returns-in_err-after-in-Repeat g t c =
