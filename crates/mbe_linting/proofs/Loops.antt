@@ -1,8 +1,8 @@
 -- Loops that add what each op of a list has.
-use Rattle.std.proofs.Common.{ℕ, ◌≡◌, ◌≤◌, Bool, Option, List, [], ◌∷◌, ◌++◌, length, refl, ap, sym, ◌∙◌, append_assoc, arith}
+use Rattle.std.proofs.Common.{ℕ, ◌≡◌, ◌≤◌, Bool, Option, List, [], ◌∷◌, ◌++◌, length, refl, ap, sym, ◌∙◌, append_assoc, append-nil, arith}
 use Rattle.mbe_semantics.specs.declared.kinds.RepeatKind.{RepeatKind}
 use Rattle.mbe_semantics.specs.Syntax.Nullable.{may_skip}
-use Rattle.mbe_semantics.specs.Syntax.Op.{Separator, Op, Ops, op, repetition}
+use Rattle.mbe_semantics.specs.Syntax.Op.{Separator, Op, Ops, no_ops, op, repetition}
 use Rattle.mbe_ops.specs.Views.{op_of, ops_of}
 use Rattle.mbe_ops.specs.declared.ops.Op as code
 use Rattle.mbe_ops.proofs.EqualityLemmas.{op_weight, ops_weight}
@@ -23,6 +23,13 @@ one_op_more f g step before after all rest others x e a h =
 pub nothing : {X : Type 0} (xs : List X) → length xs ≡ 0 → xs ≡ []
 nothing [] e = refl
 nothing (x ∷ xs) e = absurd (omega (arith, e))
+
+-- no op is left, and what they have is added
+pub all_added : {A : Type 0} {Y : Type 0} (f : Ops → List Y) → f no_ops ≡ []
+    → (found all : List Y) (rest : List (code.Op A)) → rest ≡ [] → found ++ f (ops_of rest) ≡ all → found ≡ all
+all_added f none found all rest e h =
+    let left : f (ops_of rest) ≡ [] = ap (λ l. f (ops_of l)) e ∙ none in
+    sym (append-nil found) ∙ (ap (λ l. found ++ l) (sym left) ∙ h)
 
 -- what is first is no heavier than all, nor is what is left
 pub first_lighter : {A : Type 0} (rest others : List (code.Op A)) (x : code.Op A) (w : ℕ)

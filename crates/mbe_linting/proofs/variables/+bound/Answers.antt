@@ -1,9 +1,10 @@
-use Rattle.std.proofs.Common.{◌∙◌, ap, refl, arith}
+use Rattle.std.proofs.Common.{◌∙◌, ap, length, refl, arith}
+use Rattle.std.proofs.lemmas.Result.{err_from_is_err_and}
 use Rattle.mbe_ops.specs.Views.{op_of, ops_of}
 use Rattle.mbe_ops.proofs.EqualityLemmas.{op_weight, ops_weight}
 use Rattle.mbe_ops.proofs.OpViews.{view-open, view-open_repeat, view-subtree, view-repeat}
 use Rattle.mbe_linting.specs.Variables.{bound_in, bound_in_op}
-use Rattle.mbe_linting.proofs.Loops.{one_op_more, first_lighter, rest_lighter}
+use Rattle.mbe_linting.proofs.Loops.{one_op_more, all_added, nothing, first_lighter, rest_lighter}
 use Rattle.mbe_linting.proofs.variables.+bound.Goals as goal
 
 pub push_bound-push_bound_op-requires : goal.push_bound-push_bound_op-requires
@@ -45,3 +46,15 @@ pub push_bound_op-returns-in_ok-deeper-in-Repeat : goal.push_bound_op-returns-in
 push_bound_op-returns-in_ok-deeper-in-Repeat g t c =
     rw (c.in-Repeat.is, view-repeat)
     (rw (c.deref-in-Repeat.ensures.value, c.in_ok-deeper-in-Repeat.ensures) at c.push_bound-in-Repeat.ensures)
+
+pub push_bound-ops-smaller : goal.push_bound-ops-smaller
+push_bound-ops-smaller g t c = let fewer = ap (λ xs. length xs) c.in-Some.ensures.cases.0 in omega (arith, fewer)
+
+pub push_bound-returns-in_err-push_bound_op : goal.push_bound-returns-in_err-push_bound_op
+push_bound-returns-in_err-push_bound_op g t c =
+    let p = err_from_is_err_and c.from_residual.result c.from_residual.ensures.1 in rw p.1 tt
+
+pub push_bound-returns : goal.push_bound-returns
+push_bound-returns g t c =
+    all_added (bound_in c.args.depth) refl _ _ c.ops.rest.now (nothing _ c.in_default.ensures.cases)
+    c.ops.invariant.added

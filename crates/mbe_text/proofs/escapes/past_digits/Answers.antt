@@ -4,7 +4,8 @@ use Rattle.mbe_text.proofs.escapes.past_digits.Goals as goal
 
 pub returns-then-char-eq125-clause-end : goal.returns-then-char-eq125-clause-end
 returns-then-char-eq125-clause-end c = λ h.
-    c.past_value.ensures.end (end_after _ _ _ (c.digits.invariant.end h) c.in-Some.ensures.shorter c.in-Some.ensures.end)
+    let step = c.in-Some.ensures in
+    c.past_value.ensures.end (end_after _ _ _ (c.digits.invariant.end h) step.shorter step.end)
 
 pub digits-preserved-in-Some-hex_value : goal.digits-preserved-in-Some-hex_value
 digits-preserved-in-Some-hex_value c = record {

@@ -8,10 +8,13 @@ pub returns-in-0-2-clause-end : goal.returns-in-0-2-clause-end
 returns-in-0-2-clause-end c = λ h. end_after _ _ _ h c.in-Some.ensures.shorter c.in-Some.ensures.end
 
 pub returns-in-x-clause-end : goal.returns-in-x-clause-end
-returns-in-x-clause-end c = λ h. c.past_hex.ensures.end (end_after _ _ _ h c.in-Some.ensures.shorter c.in-Some.ensures.end)
+returns-in-x-clause-end c = λ h.
+    c.past_hex.ensures.end (end_after _ _ _ h c.in-Some.ensures.shorter c.in-Some.ensures.end)
 
 pub returns-in-u-clause-end : goal.returns-in-u-clause-end
-returns-in-u-clause-end c = λ h. c.past_unicode.ensures.end (end_after _ _ _ h c.in-Some.ensures.shorter c.in-Some.ensures.end)
+returns-in-u-clause-end c = λ h.
+    c.past_unicode.ensures.end (end_after _ _ _ h c.in-Some.ensures.shorter c.in-Some.ensures.end)
 
 pub returns-in-10-clause-end : goal.returns-in-10-clause-end
-returns-in-10-clause-end c = λ h. end_on _ _ _ (end_after _ _ _ h c.in-Some.ensures.shorter c.in-Some.ensures.end) c.past.ensures.end
+returns-in-10-clause-end c = λ h.
+    end_on _ _ _ (end_after _ _ _ h c.in-Some.ensures.shorter c.in-Some.ensures.end) c.past.ensures.end

@@ -12,4 +12,5 @@ returns-in-Ok-None-clause-end c = c.integer.ensures.end c.base_of-base.ensures.e
 
 pub returns-in-Err-clause-end : goal.returns-in-Err-clause-end
 returns-in-Err-clause-end c =
-    c.in-Err.ensures.end (end_on _ _ _ (end_on _ _ _ c.base_of-base.ensures.end c.tail.ensures.end) c.past-rest.ensures.end)
+    let digits = end_on _ _ _ c.base_of-base.ensures.end c.tail.ensures.end in
+    c.in-Err.ensures.end (end_on _ _ _ digits c.past-rest.ensures.end)
