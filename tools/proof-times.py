@@ -1,0 +1,53 @@
+#!/usr/bin/env python3
+"""Says what each function's proof cost, from the work that a check kept. From the top of the repository:
+
+    (cd crates/CRATE && rm -rf out/incremental && rt check --jobs 1)
+    python3 tools/proof-times.py CRATE [COUNT]
+
+With one job the files of crates/CRATE/out/incremental are written in the order of the proof, so the time between two is what the second took. It
+prints the seconds of each part over all functions (`Lts` and `Tie` grow with the code; `Proof` and `Answers` have what `search` took), and then the COUNT
+functions (by default 25) that took most, with the seconds of these parts. A pause of a minute or more between two files is another check, and doesn't count.
+"""
+import collections
+import os
+import re
+import sys
+
+PARTS = ("Lts", "Tie", "Proof", "Answers")
+NAMED = re.compile(r"Rattle-\w+-proofs\.(?P<function>.+?)\.(?:Code\.)?(?P<part>[A-Z]\w*)(?:\.decls)?\.oantt")
+PAUSE = 60
+
+
+def written(folder):
+    """The files of a folder and when they were written, the first of them first."""
+    found = []
+    for top, _, names in os.walk(folder):
+        found += [(os.stat(os.path.join(top, name)).st_mtime_ns, name) for name in names if name.endswith(".oantt")]
+    return sorted(found)
+
+
+def times(files):
+    """Seconds by function and part."""
+    took = collections.defaultdict(collections.Counter)
+    for (before, _), (at, name) in zip(files, files[1:]):
+        it = NAMED.match(name)
+        seconds = (at - before) / 1e9
+        if it and seconds < PAUSE:
+            took[it["function"]][it["part"]] += seconds
+    return took
+
+
+def line(name, parts):
+    return " ".join([f"{sum(parts.values()):8.1f}", *[f"{parts[part]:8.1f}" for part in PARTS], f" {name}"])
+
+
+def main():
+    crate, count = sys.argv[1], int(sys.argv[2]) if len(sys.argv) > 2 else 25
+    took = times(written(f"crates/{crate}/out/incremental"))
+    print(" ".join(["     all", *[f"{part:>8}" for part in PARTS]]))
+    print(line("(all functions)", sum(took.values(), collections.Counter())))
+    for name, parts in sorted(took.items(), key=lambda it: -sum(it[1].values()))[:count]:
+        print(line(name, parts))
+
+
+main()
