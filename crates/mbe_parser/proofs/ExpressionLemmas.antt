@@ -1,8 +1,9 @@
 -- What comes first, as a part of a metavariable expression; and std reads the depths that the definition says.
-use Rattle.std.specs.Prelude.{◌≡◌, ◌≤◌, ◌-◌, ◌^◌, ◌==◌, ℕ, Bool, true, false, if◌then◌else◌, nat_lt, List, length, Some, None, Result, Ok, Err, refl}
-use Rattle.std.proofs.Common.{ap, sym, ◌∙◌, arith, length-drop}
+use Rattle.std.specs.Prelude.{◌≡◌, ◌≤◌, ◌-◌, ◌^◌, ◌==◌, ℕ, Bool, true, false, if◌then◌else◌, nat_lt, List, [], ◌∷◌, ◌++◌, length, map, Option, Some, None, option_map, Result, Ok, Err, refl}
+use Rattle.std.proofs.Common.{ap, sym, ◌∙◌, append_assoc, append-nil, arith, length-drop}
 use Rattle.std.proofs.lemmas.Option.{none-some, same_Some}
 use Rattle.std.proofs.lemmas.Bool.{eq-eqb, eqb-true, false≢true}
+use Rattle.std.proofs.lemmas.List.{map-append}
 use Rattle.std.proofs.lemmas.Bool.Decides.{Decides-and, Decides-ltb}
 use Rattle.std.proofs.lemmas.Str.Parse.{IsNumeralModel, numerals_by_value, tells_all_ascii_digits}
 use Rattle.std.specs.Bool.{Decides}
@@ -14,7 +15,11 @@ use Rattle.mbe_tt.specs.Trees.Literals.{is_cut, text_len, is_plain, literal_text
 use Rattle.mbe_tt.specs.Trees.Tree.{Forest, none, leaf, group, rest_of, front_char, front_ident, front_group, any_ident}
 use Rattle.mbe_tt.specs.declared.tt.Delimiter.{Delimiter}
 use Rattle.mbe_tt.specs.declared.tt.DelimiterKind.TheVariants.{Parenthesis}
-use Rattle.mbe_semantics.specs.Syntax.Op.{ident_element, literal_element, variable_element}
+use Rattle.mbe_semantics.specs.Syntax.Op.{Element, ident_element, literal_element, variable_element}
+use Rattle.mbe_errors.specs.declared.error.ReadError as why
+use Rattle.mbe_ops.specs.Expressions.{element_seen}
+use Rattle.mbe_ops.specs.declared.expression.ConcatMetaVarExprElem as part
+use Rattle.mbe_parser.specs.Reader.{NotExpression}
 use Rattle.mbe_parser.proofs.ReaderLemmas.{some_if}
 use Rattle.mbe_semantics.specs.Syntax.Template.{expression_of, arguments_of, elements_of, elements_after_comma, element_before}
 
@@ -129,3 +134,50 @@ pub variable_in_front : (f following left : Forest) (i : Ident) → front_char f
     → elements_of f ≡ element_before (variable_element i) (elements_after_comma left)
 variable_in_front f following left i c b e l =
     after_dollar f left i c (sym b ∙ (any_front following i e ∙ ap (leaf (ident i)) (sym l)))
+
+-- ---- all elements of `concat`
+
+added_before : {A : Type 0} (xs : List (part.ConcatMetaVarExprElem A)) (x : part.ConcatMetaVarExprElem A)
+    (o : Option (List Element))
+    → option_map (λ es. map element_seen xs ++ es) (element_before (element_seen x) o)
+    ≡ option_map (λ es. map element_seen (xs ++ x ∷ []) ++ es) o
+added_before xs x None = refl
+added_before xs x (Some es) =
+    ap Some (sym (append_assoc (map element_seen xs) (element_seen x ∷ []) es)
+    ∙ ap (λ ys. ys ++ es) (sym (map-append element_seen xs (x ∷ []))))
+
+unchanged : (o : Option (List Element)) → o ≡ option_map (λ es. es) o
+unchanged None = refl
+unchanged (Some es) = refl
+
+-- the elements were read of all trees, and these trees are left
+abbrev AreRead : {A : Type 0} → List (part.ConcatMetaVarExprElem A) → Forest → Forest → Type 0
+AreRead xs whole left = elements_of whole ≡ option_map (λ es. map element_seen xs ++ es) (elements_of left)
+
+pub no_element : {A : Type 0} (xs : List (part.ConcatMetaVarExprElem A)) (f : Forest) → xs ≡ [] → AreRead xs f f
+no_element xs f e =
+    unchanged (elements_of f) ∙ ap (λ ys. option_map (λ es. map element_seen ys ++ es) (elements_of f)) (sym e)
+
+pub one_element : {A : Type 0} (xs ys : List (part.ConcatMetaVarExprElem A)) (x : part.ConcatMetaVarExprElem A)
+    (whole left rest : Forest) → AreRead xs whole left
+    → elements_of left ≡ element_before (element_seen x) (elements_of rest) → ys ≡ xs ++ x ∷ []
+    → AreRead ys whole rest
+one_element xs ys x whole left rest read here pushed =
+    read
+    ∙ (ap (option_map (λ es. map element_seen xs ++ es)) here
+    ∙ (added_before xs x (elements_of rest)
+    ∙ ap (λ zs. option_map (λ es. map element_seen zs ++ es) (elements_of rest)) (sym pushed)))
+
+pub all_elements : {A : Type 0} (xs : List (part.ConcatMetaVarExprElem A)) (whole left : Forest)
+    → AreRead xs whole left → left ≡ none → elements_of whole ≡ Some (map element_seen xs)
+all_elements xs whole left read e =
+    read
+    ∙ (ap (λ f. option_map (λ es. map element_seen xs ++ es) (elements_of f)) e
+    ∙ ap Some (append-nil (map element_seen xs)))
+
+-- what is no element makes all no elements
+pub no_elements : {A : Type 0} (e : why.ReadError) (xs : List (part.ConcatMetaVarExprElem A)) (whole left : Forest)
+    → AreRead xs whole left → NotExpression e (elements_of left) → NotExpression e (elements_of whole)
+no_elements why.TheVariants.Memory xs whole left read h = tt
+no_elements (why.TheVariants.Fault f) xs whole left read h =
+    (h.0, read ∙ ap (option_map (λ es. map element_seen xs ++ es)) h.1)

@@ -1,3 +1,5 @@
+pub mod Fronts
+pub mod Returns
 pub mod ReaderLemmas
 pub mod SuffixLemmas
 pub mod RuleTreeLemmas

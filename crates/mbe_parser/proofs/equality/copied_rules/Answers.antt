@@ -1,3 +1,4 @@
+use Rattle.std.proofs.Common.{arith}
 use Rattle.mbe_ops.proofs.EqualityLemmas.{one_copied}
 use Rattle.mbe_parser.specs.RuleViews.{rule_of}
 use Rattle.mbe_parser.proofs.equality.copied_rules.Goals as goal
@@ -7,3 +8,6 @@ loop-rule-preserved g c =
     one_copied rule_of c.loop-rule.copy.items c.push.new.self.items c.args.rules.now c.loop-rule.rule-index
     c.rule-item.result c.in_ok-rule.rule
     c.loop-rule-test.true c.rule-item.is c.in_ok-push.ensures.items c.in_ok-rule.ensures c.loop-rule.invariant
+
+pub offset_bounds-rules-rule-index : goal.offset_bounds-rules-rule-index
+offset_bounds-rules-rule-index g c = let k = c.loop-rule-test.true in omega (arith, k)

@@ -1,4 +1,4 @@
-use Rattle.std.proofs.Common.{◌≡◌}
+use Rattle.std.proofs.Common.{◌≡◌, arith}
 use Rattle.mbe_ops.specs.Equality.{AreSameOps, AreSameRules}
 use Rattle.mbe_ops.specs.Views.{template_of}
 use Rattle.mbe_ops.proofs.EqualityLemmas.{IsOneByOne, other_differs, one_more, at_the_end, empty_tells}
@@ -43,3 +43,6 @@ returns g c =
     c.args.one.now c.loop-rule.rule-index
     c.loop-rule.rest.now c.is_empty.result c.loop-rule-test.false
     (empty_tells c.loop-rule.rest.now c.is_empty.result c.is_empty.ensures) c.loop-rule.invariant
+
+pub offset_bounds-one-rule-index : goal.offset_bounds-one-rule-index
+offset_bounds-one-rule-index g c = let k = c.loop-rule-test.true in omega (arith, k)

@@ -1,4 +1,4 @@
-use Rattle.std.proofs.Common.{◌≡◌, sym, ap, arith, refl, Some, rules}
+use Rattle.std.proofs.Common.{ℕ, ◌≡◌, sym, ap, arith, refl, rules, Some}
 use Rattle.std.proofs.lemmas.Result.{err_from_is_err_and}
 use Rattle.mbe_tt.specs.Trees.Leaf as leaves
 use Rattle.mbe_tt.specs.Trees.Tree.{none, Leaf_tree, Group_tree, first, flat_len}
@@ -11,40 +11,59 @@ use Rattle.mbe_ops.specs.Views.{op_of, template_of}
 use Rattle.mbe_ops.proofs.Fragments.{first_tree}
 use Rattle.mbe_ops.proofs.OpViews.{view-template, view-subtree, view-repeat}
 use Rattle.mbe_ops.proofs.Fragments.{puncts_longer}
+use Rattle.mbe_parser.proofs.Fronts.{element_in_front}
 use Rattle.mbe_parser.proofs.ReaderLemmas as lemmas
+use Rattle.mbe_parser.proofs.Returns.{no_answer, no_fault}
 use Rattle.mbe_parser.proofs.parser.+template.Goals as goal
+use Rattle.mbe_parser.proofs.parser.+template.Goals.{template_within-In-Leaf-Ident, template_within-In-Leaf-Literal}
 
-pub template_within-trees-preserved-in_ok-push_ident-in-Leaf-Ident : goal.template_within-trees-preserved-in_ok-push_ident-in-Leaf-Ident
+-- the identifier in front
+ident_in_front : (g : _) (t : ℕ) (c : template_within-In-Leaf-Ident g t)
+    → Some (Leaf_tree (leaves.ident (ident_of c.in-Leaf-Ident.ident))) ≡ first c.trees.src
+ident_in_front g t c = search rules
+
+-- the literal in front
+literal_in_front : (g : _) (t : ℕ) (c : template_within-In-Leaf-Literal g t)
+    → Some (Leaf_tree (leaves.literal (literal_of c.in-Leaf-Literal.literal))) ≡ first c.trees.src
+literal_in_front g t c = search rules
+
+pub template_within-trees-preserved-in_ok-push_ident-in-Leaf-Ident :
+    goal.template_within-trees-preserved-in_ok-push_ident-in-Leaf-Ident
 template_within-trees-preserved-in_ok-push_ident-in-Leaf-Ident g t c =
     let l = c.trees in
     let left = c.push_ident.new.src in
-    let front : Some (Leaf_tree (leaves.ident (ident_of c.in-Leaf-Ident.ident))) ≡ first l.src = search rules in
+    let front = ident_in_front g t
+    (goal.at.template_within-trees-preserved-in_ok-push_ident-in-Leaf-Ident g t c).In-Leaf-Ident in
     let at = first_tree l.src left _ front c.push_ident.ensures.rest in
     let goes = lemmas.token_goes _ (mode_of c.args.mode) _ l.src left l.ops.items _ _ _ _ l.invariant.more
     l.invariant.fault c.in_ok-reserve.ensures.items c.in_ok-push_ident-in-Leaf-Ident.ensures.op at refl in
     record { more = goes.0; fault = goes.1; smaller = omega (arith, ap flat_len at, l.invariant.smaller) }
 
-pub template_within-trees-smaller-in_ok-push_ident-in-Leaf-Ident : goal.template_within-trees-smaller-in_ok-push_ident-in-Leaf-Ident
+pub template_within-trees-smaller-in_ok-push_ident-in-Leaf-Ident :
+    goal.template_within-trees-smaller-in_ok-push_ident-in-Leaf-Ident
 template_within-trees-smaller-in_ok-push_ident-in-Leaf-Ident g t c =
-    let front : Some (Leaf_tree (leaves.ident (ident_of c.in-Leaf-Ident.ident))) ≡ first c.trees.src =
-    search rules in
+    let front = ident_in_front g t
+    (goal.at.template_within-trees-smaller-in_ok-push_ident-in-Leaf-Ident g t c).In-Leaf-Ident in
     let at = first_tree c.trees.src c.push_ident.new.src _ front c.push_ident.ensures.rest in
     omega (arith, ap flat_len at)
 
-pub template_within-trees-preserved-in_ok-push_literal-in-Leaf-Literal : goal.template_within-trees-preserved-in_ok-push_literal-in-Leaf-Literal
+pub template_within-trees-preserved-in_ok-push_literal-in-Leaf-Literal :
+    goal.template_within-trees-preserved-in_ok-push_literal-in-Leaf-Literal
 template_within-trees-preserved-in_ok-push_literal-in-Leaf-Literal g t c =
     let l = c.trees in
     let left = c.push_literal.new.src in
-    let front : Some (Leaf_tree (leaves.literal (literal_of c.in-Leaf-Literal.literal))) ≡ first l.src = search rules in
+    let front = literal_in_front g t
+    (goal.at.template_within-trees-preserved-in_ok-push_literal-in-Leaf-Literal g t c).In-Leaf-Literal in
     let at = first_tree l.src left _ front c.push_literal.ensures.rest in
     let goes = lemmas.token_goes _ (mode_of c.args.mode) _ l.src left l.ops.items _ _ _ _ l.invariant.more
     l.invariant.fault c.in_ok-reserve.ensures.items c.in_ok-push_literal-in-Leaf-Literal.ensures.op at refl in
     record { more = goes.0; fault = goes.1; smaller = omega (arith, ap flat_len at, l.invariant.smaller) }
 
-pub template_within-trees-smaller-in_ok-push_literal-in-Leaf-Literal : goal.template_within-trees-smaller-in_ok-push_literal-in-Leaf-Literal
+pub template_within-trees-smaller-in_ok-push_literal-in-Leaf-Literal :
+    goal.template_within-trees-smaller-in_ok-push_literal-in-Leaf-Literal
 template_within-trees-smaller-in_ok-push_literal-in-Leaf-Literal g t c =
-    let front : Some (Leaf_tree (leaves.literal (literal_of c.in-Leaf-Literal.literal))) ≡ first c.trees.src =
-    search rules in
+    let front = literal_in_front g t
+    (goal.at.template_within-trees-smaller-in_ok-push_literal-in-Leaf-Literal g t c).In-Leaf-Literal in
     let at = first_tree c.trees.src c.push_literal.new.src _ front c.push_literal.ensures.rest in
     omega (arith, ap flat_len at)
 
@@ -54,7 +73,8 @@ template_within-returns-clause-ops g t c =
     let whole = c.trees.invariant.more no_ops (nothing c.trees.src (ap (head (mode_of c.args.mode)) empty)) in
     rw (view-template, c.in_ok-fitted.ensures, ← lemmas.with_front-all c.trees.ops.items) whole
 
-pub template_within-returns-in_err-push_at_punct-in-Leaf-Punct-clause-fault : goal.template_within-returns-in_err-push_at_punct-in-Leaf-Punct-clause-fault
+pub template_within-returns-in_err-push_at_punct-in-Leaf-Punct-clause-fault :
+    goal.template_within-returns-in_err-push_at_punct-in-Leaf-Punct-clause-fault
 template_within-returns-in_err-push_at_punct-in-Leaf-Punct-clause-fault g t c =
     let e = c.in_err-push_at_punct-in-Leaf-Punct in
     let p = err_from_is_err_and c.from_residual-in_err-push_at_punct-in-Leaf-Punct.result
@@ -62,7 +82,8 @@ template_within-returns-in_err-push_at_punct-in-Leaf-Punct-clause-fault g t c =
     rw (p.1, p.2) (lemmas.later_fault _ e.field-0.0 (mode_of c.args.mode) c.args.src c.trees.src c.trees.invariant.fault
     e.ensures.fault)
 
-pub template_within-trees-preserved-in_ok-push_at_punct-in-Leaf-Punct : goal.template_within-trees-preserved-in_ok-push_at_punct-in-Leaf-Punct
+pub template_within-trees-preserved-in_ok-push_at_punct-in-Leaf-Punct :
+    goal.template_within-trees-preserved-in_ok-push_at_punct-in-Leaf-Punct
 template_within-trees-preserved-in_ok-push_at_punct-in-Leaf-Punct g t c =
     let l = c.trees in
     let read = c.in_ok-push_at_punct-in-Leaf-Punct.ensures in
@@ -76,17 +97,18 @@ template_within-trees-preserved-in_ok-push_at_punct-in-Leaf-Punct g t c =
 pub template_within-template_within-requires : goal.template_within-template_within-requires
 template_within-template_within-requires g t c κs within =
     let front : Some (Group_tree c.in-Subtree.subtree.now.delimiter c.in-Subtree.inside) ≡ first c.trees.src =
-    search rules in
+    element_in_front c.in-Some.first _ c.trees.src c.in-Some.ensures c.in-Subtree.is in
     let longer = ap flat_len (first_tree c.trees.src c.next-group.new.self _ front c.next-group.ensures.rest) in
     (omega (arith, longer, c.trees.invariant.smaller, c.decreases), (within.0, (within.1, c.requires)))
 
-pub template_within-returns-in_err-tokens-in-Subtree-clause-fault : goal.template_within-returns-in_err-tokens-in-Subtree-clause-fault
+pub template_within-returns-in_err-tokens-in-Subtree-clause-fault :
+    goal.template_within-returns-in_err-tokens-in-Subtree-clause-fault
 template_within-returns-in_err-tokens-in-Subtree-clause-fault g t c =
     let e = c.in_err-tokens-in-Subtree in
     let p = err_from_is_err_and c.from_residual-in_err-tokens-in-Subtree.result
     c.from_residual-in_err-tokens-in-Subtree.ensures.1 in
     let front : Some (Group_tree c.in-Subtree.subtree.now.delimiter c.in-Subtree.inside) ≡ first c.trees.src =
-    search rules in
+    element_in_front c.in-Some.first _ c.trees.src c.in-Some.ensures c.in-Subtree.is in
     let at = first_tree c.trees.src c.next-group.new.self _ front c.next-group.ensures.rest in
     let here = lemmas.group_fault _ e.field-0.0 (mode_of c.args.mode) c.trees.src c.in-Subtree.inside
     c.next-group.new.self c.in-Subtree.subtree.now.delimiter at e.ensures.fault in
@@ -96,7 +118,7 @@ template_within-returns-in_err-tokens-in-Subtree-clause-fault g t c =
 pub template_within-trees-smaller : goal.template_within-trees-smaller
 template_within-trees-smaller g t c =
     let front : Some (Group_tree c.in-Subtree.subtree.now.delimiter c.in-Subtree.inside) ≡ first c.trees.src =
-    search rules in
+    element_in_front c.in-Some.first _ c.trees.src c.in-Some.ensures c.in-Subtree.is in
     let longer = ap flat_len (first_tree c.trees.src c.next-group.new.self _ front c.next-group.ensures.rest) in
     omega (arith, longer)
 
@@ -105,7 +127,8 @@ template_within-trees-preserved g t c =
     let l = c.trees in
     let mode = mode_of c.args.mode in
     let left = c.next-group.new.self in
-    let front : Some (Group_tree c.in-Subtree.subtree.now.delimiter c.in-Subtree.inside) ≡ first l.src = search rules in
+    let front : Some (Group_tree c.in-Subtree.subtree.now.delimiter c.in-Subtree.inside) ≡ first l.src =
+    element_in_front c.in-Some.first _ l.src c.in-Some.ensures c.in-Subtree.is in
     let at = first_tree l.src left _ front c.next-group.ensures.rest in
     let o = ops.Subtree c.in_ok-tokens-in-Subtree.tokens c.in-Subtree.subtree.now.delimiter in
     let reads : ReadsOp (λ ctx e. g.E.Fn.post c.args.edition (ctx, tt) e) mode l.src (op_of o) left =
@@ -137,7 +160,7 @@ pub push_at_punct-returns-clause-op : goal.push_at_punct-returns-clause-op
 push_at_punct-returns-clause-op g t c =
     let f = c.args.src.now in
     let at = first_tree f _ _ (sym c.requires.peeked) (sym (lemmas.following f)) in
-    let no_dollar : c.args.punct.char ≡ 36 → ⊥ = search rules in
+    let no_dollar : c.args.punct.char ≡ 36 → ⊥ = c.if-punct-eq36.false in
     lemmas.puncts_pushed _ (mode_of c.args.mode) f c.push_puncts.new.src _ _
     (lemmas.puncts_head (mode_of c.args.mode) f _ c.args.punct at no_dollar) c.in_ok-push_puncts.ensures.rest
     c.in_ok-push_puncts.ensures.op
@@ -150,14 +173,16 @@ push_at_punct-returns-clause-shorter g t c =
 
 pub push_after_dollar-returns-in-Leaf-clause-op : goal.push_after_dollar-returns-in-Leaf-clause-op
 push_after_dollar-returns-in-Leaf-clause-op g t c =
-    let front : Some (Leaf_tree (leaf_of c.in-Leaf.leaf.now)) ≡ first c.args.src.now = search rules in
+    let front : Some (Leaf_tree (leaf_of c.in-Leaf.leaf.now)) ≡ first c.args.src.now =
+    element_in_front c.in-Some.second _ c.args.src.now c.in-Some.ensures.value c.in-Leaf.is in
     let at = first_tree c.args.src.now c.next.new.self _ front c.next.ensures.rest in
     lemmas.leaf_pushed _ (mode_of c.args.mode) c.push_leaf_after_dollar.result _ _ c.args.dollar c.args.src.now
     c.next.new.self _ (leaf_of c.in-Leaf.leaf.now) at c.push_leaf_after_dollar.ensures.op
 
 pub push_after_dollar-returns-in-Leaf-clause-fault : goal.push_after_dollar-returns-in-Leaf-clause-fault
 push_after_dollar-returns-in-Leaf-clause-fault g t c =
-    let front : Some (Leaf_tree (leaf_of c.in-Leaf.leaf.now)) ≡ first c.args.src.now = search rules in
+    let front : Some (Leaf_tree (leaf_of c.in-Leaf.leaf.now)) ≡ first c.args.src.now =
+    element_in_front c.in-Some.second _ c.args.src.now c.in-Some.ensures.value c.in-Leaf.is in
     let at = first_tree c.args.src.now c.next.new.self _ front c.next.ensures.rest in
     lemmas.leaf_fault _ (mode_of c.args.mode) c.push_leaf_after_dollar.result c.args.dollar c.args.src.now
     c.next.new.self (leaf_of c.in-Leaf.leaf.now) at c.push_leaf_after_dollar.ensures.fault
@@ -166,3 +191,137 @@ pub repetition-returns-clause-op : goal.repetition-returns-clause-op
 repetition-returns-clause-op g t c =
     rw (c.in_ok-separator.ensures.suffix c.args.body, c.in_ok-separator-2.ensures)
     (template_of c.in_ok-tokens.tokens, c.in_ok-tokens.ensures.ops, sym (view-repeat _ _ _), refl)
+
+pub push_at_punct-returns-in_err-push_puncts-clause-fault : goal.push_at_punct-returns-in_err-push_puncts-clause-fault
+push_at_punct-returns-in_err-push_puncts-clause-fault g t c =
+    no_fault c.from_residual.result _ c.from_residual.ensures.1
+
+pub push_at_punct-returns-in_err-push_puncts-clause-op : goal.push_at_punct-returns-in_err-push_puncts-clause-op
+push_at_punct-returns-in_err-push_puncts-clause-op g t c =
+    no_answer c.from_residual.result _ _ c.from_residual.ensures.1
+
+pub push_at_punct-returns-in_err-push_puncts-clause-shorter :
+    goal.push_at_punct-returns-in_err-push_puncts-clause-shorter
+push_at_punct-returns-in_err-push_puncts-clause-shorter g t c =
+    no_answer c.from_residual.result _ _ c.from_residual.ensures.1
+
+pub push_group_after_dollar-returns-in_err-op-in-Brace-clause-no_longer :
+    goal.push_group_after_dollar-returns-in_err-op-in-Brace-clause-no_longer
+push_group_after_dollar-returns-in_err-op-in-Brace-clause-no_longer g t c =
+    no_answer c.from_residual-in_err-op-in-Brace.result _ _ c.from_residual-in_err-op-in-Brace.ensures.1
+
+pub push_group_after_dollar-returns-in_err-op-in-Brace-clause-op :
+    goal.push_group_after_dollar-returns-in_err-op-in-Brace-clause-op
+push_group_after_dollar-returns-in_err-op-in-Brace-clause-op g t c =
+    no_answer c.from_residual-in_err-op-in-Brace.result _ _ c.from_residual-in_err-op-in-Brace.ensures.1
+
+pub push_group_after_dollar-returns-in_err-op-in-Parenthesis-clause-no_longer :
+    goal.push_group_after_dollar-returns-in_err-op-in-Parenthesis-clause-no_longer
+push_group_after_dollar-returns-in_err-op-in-Parenthesis-clause-no_longer g t c =
+    no_answer c.from_residual.result _ _ c.from_residual.ensures.1
+
+pub push_group_after_dollar-returns-in_err-op-in-Parenthesis-clause-op :
+    goal.push_group_after_dollar-returns-in_err-op-in-Parenthesis-clause-op
+push_group_after_dollar-returns-in_err-op-in-Parenthesis-clause-op g t c =
+    no_answer c.from_residual.result _ _ c.from_residual.ensures.1
+
+pub repetition-returns-in_err-entered-clause-fault : goal.repetition-returns-in_err-entered-clause-fault
+repetition-returns-in_err-entered-clause-fault g t c =
+    no_fault c.from_residual-in_err-entered.result _ c.from_residual-in_err-entered.ensures.1
+
+pub repetition-returns-in_err-entered-clause-no_longer : goal.repetition-returns-in_err-entered-clause-no_longer
+repetition-returns-in_err-entered-clause-no_longer g t c =
+    no_answer c.from_residual-in_err-entered.result _ _ c.from_residual-in_err-entered.ensures.1
+
+pub repetition-returns-in_err-entered-clause-op : goal.repetition-returns-in_err-entered-clause-op
+repetition-returns-in_err-entered-clause-op g t c =
+    no_answer c.from_residual-in_err-entered.result _ _ c.from_residual-in_err-entered.ensures.1
+
+pub repetition-returns-in_err-separator-2-clause-fault : goal.repetition-returns-in_err-separator-2-clause-fault
+repetition-returns-in_err-separator-2-clause-fault g t c =
+    no_fault c.from_residual-in_err-separator-2.result _ c.from_residual-in_err-separator-2.ensures.1
+
+pub repetition-returns-in_err-separator-2-clause-no_longer : goal.repetition-returns-in_err-separator-2-clause-no_longer
+repetition-returns-in_err-separator-2-clause-no_longer g t c =
+    no_answer c.from_residual-in_err-separator-2.result _ _ c.from_residual-in_err-separator-2.ensures.1
+
+pub repetition-returns-in_err-separator-2-clause-op : goal.repetition-returns-in_err-separator-2-clause-op
+repetition-returns-in_err-separator-2-clause-op g t c =
+    no_answer c.from_residual-in_err-separator-2.result _ _ c.from_residual-in_err-separator-2.ensures.1
+
+pub repetition-returns-in_err-separator-clause-no_longer : goal.repetition-returns-in_err-separator-clause-no_longer
+repetition-returns-in_err-separator-clause-no_longer g t c =
+    no_answer c.from_residual.result _ _ c.from_residual.ensures.1
+
+pub repetition-returns-in_err-separator-clause-op : goal.repetition-returns-in_err-separator-clause-op
+repetition-returns-in_err-separator-clause-op g t c = no_answer c.from_residual.result _ _ c.from_residual.ensures.1
+
+pub repetition-returns-in_err-tokens-clause-no_longer : goal.repetition-returns-in_err-tokens-clause-no_longer
+repetition-returns-in_err-tokens-clause-no_longer g t c =
+    no_answer c.from_residual-in_err-tokens.result _ _ c.from_residual-in_err-tokens.ensures.1
+
+pub repetition-returns-in_err-tokens-clause-op : goal.repetition-returns-in_err-tokens-clause-op
+repetition-returns-in_err-tokens-clause-op g t c =
+    no_answer c.from_residual-in_err-tokens.result _ _ c.from_residual-in_err-tokens.ensures.1
+
+pub template_within-returns-in_err-entered-in-Subtree-clause-fault :
+    goal.template_within-returns-in_err-entered-in-Subtree-clause-fault
+template_within-returns-in_err-entered-in-Subtree-clause-fault g t c =
+    no_fault c.from_residual-in_err-entered-in-Subtree.result _ c.from_residual-in_err-entered-in-Subtree.ensures.1
+
+pub template_within-returns-in_err-entered-in-Subtree-clause-ops :
+    goal.template_within-returns-in_err-entered-in-Subtree-clause-ops
+template_within-returns-in_err-entered-in-Subtree-clause-ops g t c =
+    no_answer c.from_residual-in_err-entered-in-Subtree.result _ _ c.from_residual-in_err-entered-in-Subtree.ensures.1
+
+pub template_within-returns-in_err-fitted-clause-fault : goal.template_within-returns-in_err-fitted-clause-fault
+template_within-returns-in_err-fitted-clause-fault g t c =
+    no_fault c.from_residual-in_err-fitted.result _ c.from_residual-in_err-fitted.ensures.1
+
+pub template_within-returns-in_err-fitted-clause-ops : goal.template_within-returns-in_err-fitted-clause-ops
+template_within-returns-in_err-fitted-clause-ops g t c =
+    no_answer c.from_residual-in_err-fitted.result _ _ c.from_residual-in_err-fitted.ensures.1
+
+pub template_within-returns-in_err-ops-clause-fault : goal.template_within-returns-in_err-ops-clause-fault
+template_within-returns-in_err-ops-clause-fault g t c = no_fault c.from_residual.result _ c.from_residual.ensures.1
+
+pub template_within-returns-in_err-ops-clause-ops : goal.template_within-returns-in_err-ops-clause-ops
+template_within-returns-in_err-ops-clause-ops g t c = no_answer c.from_residual.result _ _ c.from_residual.ensures.1
+
+pub template_within-returns-in_err-push_at_punct-in-Leaf-Punct-clause-ops :
+    goal.template_within-returns-in_err-push_at_punct-in-Leaf-Punct-clause-ops
+template_within-returns-in_err-push_at_punct-in-Leaf-Punct-clause-ops g t c =
+    let step = c.from_residual-in_err-push_at_punct-in-Leaf-Punct in no_answer step.result _ _ step.ensures.1
+
+pub template_within-returns-in_err-push_ident-in-Leaf-Ident-clause-fault :
+    goal.template_within-returns-in_err-push_ident-in-Leaf-Ident-clause-fault
+template_within-returns-in_err-push_ident-in-Leaf-Ident-clause-fault g t c =
+    let step = c.from_residual-in_err-push_ident-in-Leaf-Ident in no_fault step.result _ step.ensures.1
+
+pub template_within-returns-in_err-push_ident-in-Leaf-Ident-clause-ops :
+    goal.template_within-returns-in_err-push_ident-in-Leaf-Ident-clause-ops
+template_within-returns-in_err-push_ident-in-Leaf-Ident-clause-ops g t c =
+    let step = c.from_residual-in_err-push_ident-in-Leaf-Ident in no_answer step.result _ _ step.ensures.1
+
+pub template_within-returns-in_err-push_literal-in-Leaf-Literal-clause-fault :
+    goal.template_within-returns-in_err-push_literal-in-Leaf-Literal-clause-fault
+template_within-returns-in_err-push_literal-in-Leaf-Literal-clause-fault g t c =
+    let step = c.from_residual-in_err-push_literal-in-Leaf-Literal in no_fault step.result _ step.ensures.1
+
+pub template_within-returns-in_err-push_literal-in-Leaf-Literal-clause-ops :
+    goal.template_within-returns-in_err-push_literal-in-Leaf-Literal-clause-ops
+template_within-returns-in_err-push_literal-in-Leaf-Literal-clause-ops g t c =
+    let step = c.from_residual-in_err-push_literal-in-Leaf-Literal in no_answer step.result _ _ step.ensures.1
+
+pub template_within-returns-in_err-reserve-clause-fault : goal.template_within-returns-in_err-reserve-clause-fault
+template_within-returns-in_err-reserve-clause-fault g t c =
+    no_fault c.from_residual-in_err-reserve.result _ c.from_residual-in_err-reserve.ensures.1
+
+pub template_within-returns-in_err-reserve-clause-ops : goal.template_within-returns-in_err-reserve-clause-ops
+template_within-returns-in_err-reserve-clause-ops g t c =
+    no_answer c.from_residual-in_err-reserve.result _ _ c.from_residual-in_err-reserve.ensures.1
+
+pub template_within-returns-in_err-tokens-in-Subtree-clause-ops :
+    goal.template_within-returns-in_err-tokens-in-Subtree-clause-ops
+template_within-returns-in_err-tokens-in-Subtree-clause-ops g t c =
+    no_answer c.from_residual-in_err-tokens-in-Subtree.result _ _ c.from_residual-in_err-tokens-in-Subtree.ensures.1

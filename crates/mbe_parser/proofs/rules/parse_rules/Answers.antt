@@ -1,4 +1,5 @@
-use Rattle.std.proofs.Common.{◌≡◌, ◌∙◌, sym, refl, rules}
+use Rattle.std.proofs.Common.{◌≡◌, ◌∙◌, sym, refl}
+use Rattle.std.proofs.lemmas.Bool.{false≢true}
 use Rattle.mbe_tt.specs.Trees.Tree.{none}
 use Rattle.mbe_errors.specs.ErrorViews.{fault_of}
 use Rattle.mbe_parser.specs.RuleViews.{rule_of, rules_seen}
@@ -7,7 +8,7 @@ use Rattle.mbe_parser.proofs.rules.parse_rules.Goals as goal
 
 pub returns-in-Err : goal.returns-in-Err
 returns-in-Err g c =
-    let some_left : c.rules.src ≡ none → ⊥ = search rules in
+    let some_left : c.rules.src ≡ none → ⊥ = λ e. false≢true (sym c.rules-test.true ∙ c.is_empty.ensures.1 e) in
     let same = c.in_ok-fault-in-Err.ensures in
     let stops = rw same at c.in-Err.ensures.fault in
     at_fault _ c.args.separators.now (fault_of c.args.missing) c.in_ok-fault-in-Err.fault
@@ -24,7 +25,7 @@ rules-preserved g c = λ rs x h. rw (c.in_ok-push-in-Ok.ensures.items, rules-pus
 
 pub returns-then-is_empty : goal.returns-then-is_empty
 returns-then-is_empty g c =
-    let nothing_left : c.expect_any_char.new.self ≡ none = search rules in
+    let nothing_left = c.is_empty-in_default.ensures.0 c.if-is_empty.true in
     rw (c.in_ok-push-in-Ok.ensures.items, rules-push)
     (last_rule _ c.args.separators.now (fault_of c.args.missing) (rules_seen c.rules.rules.items) (rule_of c.in-Ok.rule)
     c.args.src c.rules.src
@@ -32,8 +33,10 @@ returns-then-is_empty g c =
 
 pub returns-in_default : goal.returns-in_default
 returns-in_default g c =
-    let some_left : c.expect_any_char.new.self ≡ none → ⊥ = search rules in
-    let none_in_front : IsSeparated c.args.separators.now c.parse.new.src → ⊥ = search rules in
+    let some_left : c.expect_any_char.new.self ≡ none → ⊥ =
+    λ e. false≢true (sym c.if-is_empty.false ∙ c.is_empty-in_default.ensures.1 e) in
+    let none_in_front : IsSeparated c.args.separators.now c.parse.new.src → ⊥ =
+    λ h. false≢true (c.in_default.ensures.value.1 h) in
     rw (c.in_ok-push-in-Ok.ensures.items, rules-push)
     (stray_rule _ c.args.separators.now (fault_of c.args.missing) (rules_seen c.rules.rules.items)
     (rule_of c.in-Ok.rule) c.args.src c.rules.src
@@ -42,6 +45,6 @@ returns-in_default g c =
 
 pub returns : goal.returns
 returns g c =
-    let empty : c.rules.src ≡ none = search rules in
+    let empty = c.is_empty.ensures.0 c.rules-test.false in
     at_end _ c.args.separators.now (fault_of c.args.missing) (rules_seen c.rules.rules.items) c.args.src c.rules.src
     c.rules.invariant empty

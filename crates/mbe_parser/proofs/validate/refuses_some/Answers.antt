@@ -1,4 +1,4 @@
-use Rattle.std.proofs.Common.{ap, sym, ◌∙◌}
+use Rattle.std.proofs.Common.{ap, sym, ◌∙◌, arith}
 use Rattle.std.specs.Prelude.{None}
 use Rattle.mbe_parser.specs.RuleViews.{rule_of}
 use Rattle.mbe_parser.specs.Refusal.{some_refused}
@@ -26,3 +26,6 @@ loop-rule-preserved g c =
 
 pub returns : goal.returns
 returns g c = sym (c.loop-rule.invariant ∙ no_rule_left c.args.rules.now c.loop-rule.rule-index c.loop-rule-test.false)
+
+pub offset_bounds-rules-rule-index : goal.offset_bounds-rules-rule-index
+offset_bounds-rules-rule-index g c = let k = c.loop-rule-test.true in omega (arith, k)
