@@ -1,6 +1,7 @@
 -- What is left to be written, as trees are followed one front after another.
 use Rattle.std.proofs.Common.{ℕ, suc, ◌-◌, ◌≡◌, ◌<◌, List, ◌∷◌, ◌++◌, length, None, refl, ap, sym, ◌∙◌, append_assoc, append-nil, arith}
-use Rattle.std.specs.Prelude.{Option, Result, Ok, Err, OnOk}
+use Rattle.std.specs.Prelude.{Option, Result, Ok, Err, IfOk, OnOk}
+use Rattle.std.specs.Result.{IsErrAnd}
 use Rattle.mbe_tt.specs.Buffers.Building.{Levels, put, closed}
 use Rattle.mbe_tt.specs.Trees.Leaf.{ident}
 use Rattle.mbe_tt.specs.Trees.Tree.{Forest, Tree, none, leaf, group, append, flat_len, one_leaf}
@@ -167,3 +168,10 @@ all_written files levels at f old noted most left now found e h = record {
   unfound = ended_unfound (followed files levels) files at (flat_len f) f old noted most left now found e h
       ∙ ap (λ y. noted ++ y.unfound) (followed_suc files levels at f);
 }
+
+-- ---- where memory is refused
+
+-- nothing is said of what a `?` returned
+pub no_answer : {T E : Type 0} (r : Result T E) (Q : E → Type 0) (P : T → Type 0) → IsErrAnd r Q → IfOk r P
+no_answer (Ok x) Q P h = absurd h
+no_answer (Err e) Q P h = tt

@@ -6,7 +6,7 @@ use Rattle.mbe_tt.specs.Views.Shown.{ident_of}
 use Rattle.mbe_tt.specs.Views.View.{trees}
 use Rattle.mbe_following.specs.Following.{followed}
 use Rattle.mbe_following.specs.Shown.{at_shown, file_shown, left_shown, module_shown, unfound_shown}
-use Rattle.mbe_following.proofs.FollowLemmas.{all_kept, all_written, file_written, front_on, module_written, not_closed, one_open}
+use Rattle.mbe_following.proofs.FollowLemmas.{all_kept, all_written, file_written, front_on, module_written, not_closed, no_answer, one_open}
 use Rattle.mbe_following.proofs.following.+following.Goals as goal
 
 pub follow_inside-returns-then-levels-eq0 : goal.follow_inside-returns-then-levels-eq0
@@ -59,3 +59,67 @@ follow_trees-returns g t c =
     c.args.builder.now (map unfound_shown c.args.unfound.now.items) c.fronts.most (left_shown c.fronts.left)
     c.fronts.builder (map unfound_shown c.fronts.unfound.items) (omega (arith, c.fronts-test.false))
     c.fronts.invariant
+
+pub follow_module-returns-in_err-clone : goal.follow_module-returns-in_err-clone
+follow_module-returns-in_err-clone g t c = no_answer c.from_residual.result _ _ c.from_residual.ensures.1
+
+pub follow_module-returns-in_err-push : goal.follow_module-returns-in_err-push
+follow_module-returns-in_err-push g t c =
+    no_answer c.from_residual-in_err-push.result _ _ c.from_residual-in_err-push.ensures.1
+
+pub follow_module-returns-in_err-clone-2 : goal.follow_module-returns-in_err-clone-2
+follow_module-returns-in_err-clone-2 g t c =
+    no_answer c.from_residual-in_err-clone-2.result _ _ c.from_residual-in_err-clone-2.ensures.1
+
+pub follow_module-returns-in_err-push-2 : goal.follow_module-returns-in_err-push-2
+follow_module-returns-in_err-push-2 g t c =
+    no_answer c.from_residual-in_err-push-2.result _ _ c.from_residual-in_err-push-2.ensures.1
+
+pub follow_module-returns-in_err-open : goal.follow_module-returns-in_err-open
+follow_module-returns-in_err-open g t c =
+    no_answer c.from_residual-in_err-open.result _ _ c.from_residual-in_err-open.ensures.1
+
+pub follow_module-returns-in_err-follow_inside : goal.follow_module-returns-in_err-follow_inside
+follow_module-returns-in_err-follow_inside g t c =
+    no_answer c.from_residual-in_err-follow_inside.result _ _ c.from_residual-in_err-follow_inside.ensures.1
+
+pub follow_file-returns-in_err-numbers : goal.follow_file-returns-in_err-numbers
+follow_file-returns-in_err-numbers g t c = no_answer c.from_residual.result _ _ c.from_residual.ensures.1
+
+pub follow_outside-returns-in_err-candidates : goal.follow_outside-returns-in_err-candidates
+follow_outside-returns-in_err-candidates g t c = no_answer c.from_residual.result _ _ c.from_residual.ensures.1
+
+pub follow_outside-returns-in_err-found : goal.follow_outside-returns-in_err-found
+follow_outside-returns-in_err-found g t c =
+    no_answer c.from_residual-in_err-found.result _ _ c.from_residual-in_err-found.ensures.1
+
+pub follow_outside-returns-in_err-note-in-Err : goal.follow_outside-returns-in_err-note-in-Err
+follow_outside-returns-in_err-note-in-Err g t c =
+    no_answer c.from_residual-in_err-note-in-Err.result _ _ c.from_residual-in_err-note-in-Err.ensures.1
+
+pub follow_taken-returns-in_err-numbers : goal.follow_taken-returns-in_err-numbers
+follow_taken-returns-in_err-numbers g t c = no_answer c.from_residual.result _ _ c.from_residual.ensures.1
+
+pub include_file-returns-in_err-next : goal.include_file-returns-in_err-next
+include_file-returns-in_err-next g t c = no_answer c.from_residual.result _ _ c.from_residual.ensures.1
+
+pub include_file-returns-in_err-follow_taken : goal.include_file-returns-in_err-follow_taken
+include_file-returns-in_err-follow_taken g t c =
+    no_answer c.from_residual-in_err-follow_taken.result _ _ c.from_residual-in_err-follow_taken.ensures.1
+
+pub follow_included-returns-in_err-candidates : goal.follow_included-returns-in_err-candidates
+follow_included-returns-in_err-candidates g t c = no_answer c.from_residual.result _ _ c.from_residual.ensures.1
+
+pub follow_included-returns-in_err-found : goal.follow_included-returns-in_err-found
+follow_included-returns-in_err-found g t c =
+    no_answer c.from_residual-in_err-found.result _ _ c.from_residual-in_err-found.ensures.1
+
+pub follow_included-returns-in_err-note-in-Err : goal.follow_included-returns-in_err-note-in-Err
+follow_included-returns-in_err-note-in-Err g t c =
+    no_answer c.from_residual-in_err-note-in-Err.result _ _ c.from_residual-in_err-note-in-Err.ensures.1
+
+pub follow_front-returns-in_err-place-in-Braces : goal.follow_front-returns-in_err-place-in-Braces
+follow_front-returns-in_err-place-in-Braces g t c = no_answer c.from_residual.result _ _ c.from_residual.ensures.1
+
+pub follow_trees-returns-in_err-left : goal.follow_trees-returns-in_err-left
+follow_trees-returns-in_err-left g t c = no_answer c.from_residual.result _ _ c.from_residual.ensures.1
