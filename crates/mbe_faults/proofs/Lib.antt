@@ -1,3 +1,4 @@
+pub mod Returns
 pub mod FrontLemmas
 pub mod PlaceLemmas
 pub mod PlaceLaws

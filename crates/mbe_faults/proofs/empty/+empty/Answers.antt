@@ -1,10 +1,11 @@
-use Rattle.std.proofs.Common.{◌≡◌, ℕ, ◌+◌, ◌-◌, ◌<◌, ◌≤◌, ◌∙◌, ap, sym, arith, refl, rules, subst}
+use Rattle.std.proofs.Common.{◌≡◌, ℕ, ◌+◌, ◌-◌, ◌<◌, ◌≤◌, ◌∙◌, ap, sym, arith, refl, subst}
 use Rattle.std.specs.Prelude.{◌||◌, false}
 use Rattle.mbe_tt.specs.Trees.Tree.{flat_len, passed}
 use Rattle.mbe_semantics.specs.Syntax.Nullable.{is_refused, is_refused_op}
 use Rattle.mbe_ops.specs.Views.{op_of, ops_of}
 use Rattle.mbe_faults.specs.Empty.{EmptyAt}
 use Rattle.mbe_faults.proofs.EmptyLemmas.{Opens, opens, not_closed, plain_past, plain_shorter, read_next, same_empty, further_at, each_place, further_place, further_some}
+use Rattle.mbe_faults.proofs.Returns.{no_answer}
 use Rattle.mbe_faults.proofs.empty.+empty.Goals as goal
 use Rattle.mbe_faults.proofs.empty.+empty.Goals.{empty_at_front-In-Some-inside}
 
@@ -25,7 +26,7 @@ first_empty-ops-init g t c = record {
       subst (EmptyAt (λ ctx e. g.E.Fn.post c.args.edition (ctx, tt) e) c.args.src) here h;
   none = refl;
   shorter = omega arith;
-  whole = search rules;
+  whole = omega (arith, c.flat_len-whole.ensures, ap flat_len c.remaining.ensures);
 }
 
 pub empty_at_front-returns-in_default-clause-past : goal.empty_at_front-returns-in_default-clause-past
@@ -141,3 +142,52 @@ first_empty-ops-preserved g t c =
       shorter = omega (arith, c.ops.invariant.shorter, c.in_ok-found.ensures.shorter);
       whole = c.ops.invariant.whole;
     }
+
+pub first_empty-returns-in_err-found-clause-place : goal.first_empty-returns-in_err-found-clause-place
+first_empty-returns-in_err-found-clause-place g t c = no_answer c.from_residual.result _ _ c.from_residual.ensures.1
+
+pub first_empty-returns-in_err-found-clause-refused : goal.first_empty-returns-in_err-found-clause-refused
+first_empty-returns-in_err-found-clause-refused g t c = no_answer c.from_residual.result _ _ c.from_residual.ensures.1
+
+pub first_empty-returns-in_err-found-clause-within : goal.first_empty-returns-in_err-found-clause-within
+first_empty-returns-in_err-found-clause-within g t c = no_answer c.from_residual.result _ _ c.from_residual.ensures.1
+
+pub empty_at_front-returns-in_err-front-clause-place : goal.empty_at_front-returns-in_err-front-clause-place
+empty_at_front-returns-in_err-front-clause-place g t c = no_answer c.from_residual.result _ _ c.from_residual.ensures.1
+
+pub empty_at_front-returns-in_err-front-clause-refused : goal.empty_at_front-returns-in_err-front-clause-refused
+empty_at_front-returns-in_err-front-clause-refused g t c =
+    no_answer c.from_residual.result _ _ c.from_residual.ensures.1
+
+pub empty_at_front-returns-in_err-front-clause-past : goal.empty_at_front-returns-in_err-front-clause-past
+empty_at_front-returns-in_err-front-clause-past g t c = no_answer c.from_residual.result _ _ c.from_residual.ensures.1
+
+pub empty_at_front-returns-in_err-front-clause-within : goal.empty_at_front-returns-in_err-front-clause-within
+empty_at_front-returns-in_err-front-clause-within g t c = no_answer c.from_residual.result _ _ c.from_residual.ensures.1
+
+pub empty_at_front-returns-in_err-front-clause-shorter : goal.empty_at_front-returns-in_err-front-clause-shorter
+empty_at_front-returns-in_err-front-clause-shorter g t c =
+    no_answer c.from_residual.result _ _ c.from_residual.ensures.1
+
+pub empty_at_front-returns-in_err-first_empty-clause-place : goal.empty_at_front-returns-in_err-first_empty-clause-place
+empty_at_front-returns-in_err-first_empty-clause-place g t c =
+    no_answer c.from_residual-in_err-first_empty.result _ _ c.from_residual-in_err-first_empty.ensures.1
+
+pub empty_at_front-returns-in_err-first_empty-clause-refused :
+    goal.empty_at_front-returns-in_err-first_empty-clause-refused
+empty_at_front-returns-in_err-first_empty-clause-refused g t c =
+    no_answer c.from_residual-in_err-first_empty.result _ _ c.from_residual-in_err-first_empty.ensures.1
+
+pub empty_at_front-returns-in_err-first_empty-clause-past : goal.empty_at_front-returns-in_err-first_empty-clause-past
+empty_at_front-returns-in_err-first_empty-clause-past g t c =
+    no_answer c.from_residual-in_err-first_empty.result _ _ c.from_residual-in_err-first_empty.ensures.1
+
+pub empty_at_front-returns-in_err-first_empty-clause-within :
+    goal.empty_at_front-returns-in_err-first_empty-clause-within
+empty_at_front-returns-in_err-first_empty-clause-within g t c =
+    no_answer c.from_residual-in_err-first_empty.result _ _ c.from_residual-in_err-first_empty.ensures.1
+
+pub empty_at_front-returns-in_err-first_empty-clause-shorter :
+    goal.empty_at_front-returns-in_err-first_empty-clause-shorter
+empty_at_front-returns-in_err-first_empty-clause-shorter g t c =
+    no_answer c.from_residual-in_err-first_empty.result _ _ c.from_residual-in_err-first_empty.ensures.1

@@ -1,6 +1,7 @@
-use Rattle.std.proofs.Common.{◌≡◌, Some, ◌∙◌, ap, rules}
+use Rattle.std.proofs.Common.{◌≡◌, Some, ◌∙◌, ap, sym}
 use Rattle.mbe_tt.specs.Trees.Leaf.{punct}
 use Rattle.mbe_tt.specs.Trees.Tree.{Leaf_tree, Group_tree, none, leaf, group, first}
+use Rattle.mbe_tt.specs.Views.Element.{element_tree}
 use Rattle.mbe_tt.specs.Views.Shown.{leaf_of}
 use Rattle.mbe_ops.proofs.Fragments.{first_tree}
 use Rattle.mbe_parser.specs.Reader.{mode_of}
@@ -10,7 +11,7 @@ use Rattle.mbe_faults.proofs.front.after_dollar.Goals as goal
 pub from_savepoint-requires : goal.from_savepoint-requires
 from_savepoint-requires g c =
     let front : Some (Group_tree c.in-Subtree.subtree.now.delimiter c.in-Subtree.inside) ≡ first c.args.src.now =
-    search rules in
+    ap (λ e. Some (element_tree e)) (sym c.in-Subtree.is) ∙ c.in-Some.ensures.value in
     let at = first_tree c.args.src.now c.next.new.self _ front c.next.ensures.rest in (
       leaf (punct c.args.dollar) (group c.in-Subtree.subtree.now.delimiter c.in-Subtree.inside none),
       c.requires.saved ∙ ap (leaf (punct c.args.dollar)) at,
@@ -19,7 +20,7 @@ from_savepoint-requires g c =
 pub returns-in-Brace-clause-front : goal.returns-in-Brace-clause-front
 returns-in-Brace-clause-front g c =
     let front : Some (Group_tree c.in-Subtree.subtree.now.delimiter c.in-Subtree.inside) ≡ first c.args.src.now =
-    search rules in
+    ap (λ e. Some (element_tree e)) (sym c.in-Subtree.is) ∙ c.in-Some.ensures.value in
     let at = first_tree c.args.src.now c.next.new.self _ front c.next.ensures.rest in
     let op = c.from_savepoint.ensures
     (leaf (punct c.args.dollar) (group c.in-Subtree.subtree.now.delimiter c.in-Subtree.inside none))
@@ -30,7 +31,8 @@ returns-in-Brace-clause-front g c =
 
 pub returns-in-Leaf-clause-front : goal.returns-in-Leaf-clause-front
 returns-in-Leaf-clause-front g c =
-    let front : Some (Leaf_tree (leaf_of c.in-Leaf.leaf.now)) ≡ first c.args.src.now = search rules in
+    let front : Some (Leaf_tree (leaf_of c.in-Leaf.leaf.now)) ≡ first c.args.src.now =
+    ap (λ e. Some (element_tree e)) (sym c.in-Leaf.is) ∙ c.in-Some.ensures.value in
     let at = first_tree c.args.src.now c.next.new.self _ front c.next.ensures.rest in
     leaf_front c.leaf_after_dollar.result (mode_of c.args.mode) c.args.dollar (leaf_of c.in-Leaf.leaf.now)
     c.args.src.now c.next.new.self c.leaf_after_dollar.new.src at c.leaf_after_dollar.ensures.front

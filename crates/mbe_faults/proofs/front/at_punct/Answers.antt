@@ -1,4 +1,4 @@
-use Rattle.std.proofs.Common.{◌≡◌, ap, sym, rules, arith}
+use Rattle.std.proofs.Common.{ap, sym, arith}
 use Rattle.mbe_tt.specs.Trees.Tree.{flat_len}
 use Rattle.mbe_ops.proofs.Fragments.{first_tree, puncts_longer}
 use Rattle.mbe_parser.specs.Reader.{mode_of}
@@ -23,7 +23,7 @@ pub returns-clause-front : goal.returns-clause-front
 returns-clause-front g c =
     let f = c.args.src.now in
     let at = first_tree f _ _ (sym c.requires.peeked) (sym (following f)) in
-    let no_dollar : c.args.punct.char ≡ 36 → ⊥ = search rules in
+    let no_dollar = c.if-punct-eq36.false in
     puncts_front _ (mode_of c.args.mode) f c.expect_glued_punct.new.self
     (puncts_head (mode_of c.args.mode) f _ c.args.punct at no_dollar) c.in-Ok.ensures.rest
 

@@ -1,4 +1,4 @@
-use Rattle.std.proofs.Common.{List, Option, ◌≡◌, ◌≤◌, ◌<◌, ◌+◌, ◌-◌, ◌∙◌, [], ◌∷◌, ◌++◌, ap, sym, refl, length, rules, arith}
+use Rattle.std.proofs.Common.{List, Option, ◌≡◌, ◌≤◌, ◌<◌, ◌+◌, ◌-◌, ◌∙◌, [], ◌∷◌, ◌++◌, ap, sym, refl, length, arith}
 use Rattle.std.proofs.lemmas.List.{length-map}
 use Rattle.mbe_tt.specs.declared.span.SyntaxContext.{SyntaxContext}
 use Rattle.mbe_tt.specs.declared.span.Edition.{Edition}
@@ -42,7 +42,7 @@ module _ (g : _) (c : In_ok-push-in-Ok g) where
 
   settled : Settled HasEdition c.args.separators.now c.args.src read first
   settled =
-      let many : c.len.result ≡ length c.rules.rules.items = search rules in
+      let many : c.len.result ≡ length c.rules.rules.items = omega (arith, c.len.ensures) in
       let far : c.flat_len-whole.result - c.flat_len.result ≡ passed c.args.src c.rules.src =
       omega (arith, c.rules.invariant.whole, c.flat_len.ensures, ap flat_len c.remaining-in-rules.ensures) in
       settled-more _ c.args.separators.now c.args.src c.rules.src c.read_rule.new.src
@@ -53,7 +53,7 @@ module _ (g : _) (c : In_ok-push-in-Ok g) where
 
 pub returns-in-Err-clause-rules : goal.returns-in-Err-clause-rules
 returns-in-Err-clause-rules g c =
-    let some_left : c.rules.src ≡ none → ⊥ = search rules in
+    let some_left : c.rules.src ≡ none → ⊥ = λ e. no_true (sym c.rules-test.true ∙ c.is_empty.ensures.1 e) in
     let w = rw c.in-Err.is at c.in_ok-rule.ensures.fault in
     rw c.refused.ensures
     (refused-by _ c.args.separators.now c.args.src (fault_of c.args.missing) (rules_seen c.rules.rules.items)
@@ -64,9 +64,10 @@ returns-in-Err-clause-rules g c =
 
 pub returns-in-Err-clause-place : goal.returns-in-Err-clause-place
 returns-in-Err-clause-place g c =
-    let some_left : c.rules.src ≡ none → ⊥ = search rules in
+    let some_left : c.rules.src ≡ none → ⊥ = λ e. no_true (sym c.rules-test.true ∙ c.is_empty.ensures.1 e) in
     let w = rw c.in-Err.is at c.in_ok-rule.ensures.fault in
-    let k : length c.rules.rules.items ≡ c.faulty-fault.result.rule = search rules in
+    let k : length c.rules.rules.items ≡ c.faulty-fault.result.rule =
+    omega (arith, c.len-in-Err.ensures, c.faulty-fault.ensures.rule) in
     let e : passed c.args.src c.rules.src + c.in-Err.found.place ≡ c.faulty-fault.result.place =
     omega (
       arith,
@@ -135,7 +136,7 @@ rules-preserved g c =
 pub returns-then-is_empty-clause-rules : goal.returns-then-is_empty-clause-rules
 returns-then-is_empty-clause-rules g c =
     let here = (goal.at.returns-then-is_empty-clause-rules g c).In_ok-push-in-Ok in
-    let nothing_left : c.expect_any_char.new.self ≡ none = search rules in
+    let nothing_left = c.is_empty-in_default.ensures.0 c.if-is_empty.true in
     rw (c.first_of-empty.ensures, c.in_ok-push-in-Ok.ensures.items, rules-push)
     (refused-or-none _ c.args.separators.now c.args.src (fault_of c.args.missing) (read g here)
     (first g here) (settled g here)
@@ -153,7 +154,8 @@ returns-then-is_empty-clause-place g c =
 pub returns-in_default-clause-rules : goal.returns-in_default-clause-rules
 returns-in_default-clause-rules g c =
     let here = (goal.at.returns-in_default-clause-rules g c).In_ok-push-in-Ok in
-    let some_left : c.expect_any_char.new.self ≡ none → ⊥ = search rules in
+    let some_left : c.expect_any_char.new.self ≡ none → ⊥ =
+    λ e. no_true (sym c.if-is_empty.false ∙ c.is_empty-in_default.ensures.1 e) in
     let none_in_front : IsSeparated c.args.separators.now c.read_rule.new.src → ⊥ =
     λ h. no_true (c.in_default.ensures.value.1 h) in
     rw (c.refused-in_default.ensures, c.first_of-empty.ensures, c.in_ok-push-in-Ok.ensures.items, rules-push)
@@ -168,10 +170,12 @@ pub returns-in_default-clause-place : goal.returns-in_default-clause-place
 returns-in_default-clause-place g c =
     let here = (goal.at.returns-in_default-clause-place g c).In_ok-push-in-Ok in
     let shorter = rw c.in-Ok.is at c.in_ok-rule.ensures.shorter in
-    let some_left : c.expect_any_char.new.self ≡ none → ⊥ = search rules in
+    let some_left : c.expect_any_char.new.self ≡ none → ⊥ =
+    λ e. no_true (sym c.if-is_empty.false ∙ c.is_empty-in_default.ensures.1 e) in
     let none_in_front : IsSeparated c.args.separators.now c.read_rule.new.src → ⊥ =
     λ h. no_true (c.in_default.ensures.value.1 h) in
-    let n : length c.push.new.self.items ≡ c.faulty-fault-in_default.result.rule = search rules in
+    let n : length c.push.new.self.items ≡ c.faulty-fault-in_default.result.rule =
+    omega (arith, c.len-in_default.ensures, c.faulty-fault-in_default.ensures.rule) in
     let e : passed c.args.src c.read_rule.new.src ≡ c.faulty-fault-in_default.result.place =
     omega (
       arith,
@@ -193,7 +197,7 @@ returns-in_default-clause-place g c =
 
 pub returns-clause-rules : goal.returns-clause-rules
 returns-clause-rules g c =
-    let empty : c.rules.src ≡ none = search rules in
+    let empty = c.is_empty.ensures.0 c.rules-test.false in
     refused-or-none _ c.args.separators.now c.args.src (fault_of c.args.missing) (rules_seen c.rules.rules.items)
     c.rules.empty c.rules.invariant.settled
     (at_end _ c.args.separators.now (fault_of c.args.missing) (rules_seen c.rules.rules.items) c.args.src c.rules.src

@@ -4,6 +4,7 @@ use Rattle.mbe_errors.specs.ErrorViews.{fault_of}
 use Rattle.mbe_parser.specs.Reader.{mode_of}
 use Rattle.mbe_ops.specs.Views.{template_of}
 use Rattle.mbe_faults.proofs.PlaceLemmas.{at_end, at_refused, past_whole, past_group, past_repetition, inside_group, inside_repetition, so_far-step, placed}
+use Rattle.mbe_faults.proofs.Returns.{no_answer}
 use Rattle.mbe_faults.proofs.templates.+faults.Goals as goal
 
 pub first_fault-returns-in-Ended-clause-nothing : goal.first_fault-returns-in-Ended-clause-nothing
@@ -99,3 +100,66 @@ read_part-unreachable-requires g t c =
 
 pub read_part-returns-in-Ok-clause-ops : goal.read_part-returns-in-Ok-clause-ops
 read_part-returns-in-Ok-clause-ops g t c = rw c.fork.ensures at c.in-Ok.ensures.ops
+
+pub read_part-returns-in_err-_fault-in-Err-clause-ops : goal.read_part-returns-in_err-_fault-in-Err-clause-ops
+read_part-returns-in_err-_fault-in-Err-clause-ops g t c = no_answer c.from_residual.result _ _ c.from_residual.ensures.1
+
+pub read_part-returns-in_err-_fault-in-Err-clause-fault : goal.read_part-returns-in_err-_fault-in-Err-clause-fault
+read_part-returns-in_err-_fault-in-Err-clause-fault g t c =
+    no_answer c.from_residual.result _ _ c.from_residual.ensures.1
+
+pub read_part-returns-in_err-_fault-in-Err-clause-within : goal.read_part-returns-in_err-_fault-in-Err-clause-within
+read_part-returns-in_err-_fault-in-Err-clause-within g t c =
+    no_answer c.from_residual.result _ _ c.from_residual.ensures.1
+
+pub read_part-returns-in_err-found-in-Err-clause-ops : goal.read_part-returns-in_err-found-in-Err-clause-ops
+read_part-returns-in_err-found-in-Err-clause-ops g t c =
+    no_answer c.from_residual-in_err-found-in-Err.result _ _ c.from_residual-in_err-found-in-Err.ensures.1
+
+pub read_part-returns-in_err-found-in-Err-clause-fault : goal.read_part-returns-in_err-found-in-Err-clause-fault
+read_part-returns-in_err-found-in-Err-clause-fault g t c =
+    no_answer c.from_residual-in_err-found-in-Err.result _ _ c.from_residual-in_err-found-in-Err.ensures.1
+
+pub read_part-returns-in_err-found-in-Err-clause-within : goal.read_part-returns-in_err-found-in-Err-clause-within
+read_part-returns-in_err-found-in-Err-clause-within g t c =
+    no_answer c.from_residual-in_err-found-in-Err.result _ _ c.from_residual-in_err-found-in-Err.ensures.1
+
+pub first_fault-returns-in_err-eat_front-clause-fault : goal.first_fault-returns-in_err-eat_front-clause-fault
+first_fault-returns-in_err-eat_front-clause-fault g t c = no_answer c.from_residual.result _ _ c.from_residual.ensures.1
+
+pub first_fault-returns-in_err-eat_front-clause-nothing : goal.first_fault-returns-in_err-eat_front-clause-nothing
+first_fault-returns-in_err-eat_front-clause-nothing g t c =
+    no_answer c.from_residual.result _ _ c.from_residual.ensures.1
+
+pub first_fault-returns-in_err-eat_front-clause-within : goal.first_fault-returns-in_err-eat_front-clause-within
+first_fault-returns-in_err-eat_front-clause-within g t c =
+    no_answer c.from_residual.result _ _ c.from_residual.ensures.1
+
+pub first_fault-returns-in_err-_read-in-Group-clause-fault : goal.first_fault-returns-in_err-_read-in-Group-clause-fault
+first_fault-returns-in_err-_read-in-Group-clause-fault g t c =
+    no_answer c.from_residual-in_err-_read-in-Group.result _ _ c.from_residual-in_err-_read-in-Group.ensures.1
+
+pub first_fault-returns-in_err-_read-in-Group-clause-nothing :
+    goal.first_fault-returns-in_err-_read-in-Group-clause-nothing
+first_fault-returns-in_err-_read-in-Group-clause-nothing g t c =
+    no_answer c.from_residual-in_err-_read-in-Group.result _ _ c.from_residual-in_err-_read-in-Group.ensures.1
+
+pub first_fault-returns-in_err-_read-in-Group-clause-within :
+    goal.first_fault-returns-in_err-_read-in-Group-clause-within
+first_fault-returns-in_err-_read-in-Group-clause-within g t c =
+    no_answer c.from_residual-in_err-_read-in-Group.result _ _ c.from_residual-in_err-_read-in-Group.ensures.1
+
+pub first_fault-returns-in_err-_read-in-Repetition-clause-fault :
+    goal.first_fault-returns-in_err-_read-in-Repetition-clause-fault
+first_fault-returns-in_err-_read-in-Repetition-clause-fault g t c =
+    no_answer c.from_residual-in_err-_read-in-Repetition.result _ _ c.from_residual-in_err-_read-in-Repetition.ensures.1
+
+pub first_fault-returns-in_err-_read-in-Repetition-clause-nothing :
+    goal.first_fault-returns-in_err-_read-in-Repetition-clause-nothing
+first_fault-returns-in_err-_read-in-Repetition-clause-nothing g t c =
+    no_answer c.from_residual-in_err-_read-in-Repetition.result _ _ c.from_residual-in_err-_read-in-Repetition.ensures.1
+
+pub first_fault-returns-in_err-_read-in-Repetition-clause-within :
+    goal.first_fault-returns-in_err-_read-in-Repetition-clause-within
+first_fault-returns-in_err-_read-in-Repetition-clause-within g t c =
+    no_answer c.from_residual-in_err-_read-in-Repetition.result _ _ c.from_residual-in_err-_read-in-Repetition.ensures.1
