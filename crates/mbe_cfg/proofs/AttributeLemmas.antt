@@ -1,17 +1,18 @@
 -- Attributes one level down, and lists one attribute on.
-use Rattle.std.proofs.Common.{◌≡◌, ℕ, suc, ◌-◌, ◌<◌, Bool, true, false, ◌&&◌, if◌then◌else◌, Option, Some, None}
+use Rattle.std.proofs.Common.{◌≡◌, ℕ, suc, ◌-◌, ◌<◌, Bool, true, false, ◌&&◌, if◌then◌else◌, List, Option, Some, None}
 use Rattle.std.proofs.Common.{Result, Ok, Err, refl, ap, sym, ◌∙◌}
 use Rattle.mbe_tt.specs.Trees.Leaf.{Ident}
-use Rattle.mbe_tt.specs.Trees.Tree.{Forest, front_ident}
+use Rattle.mbe_tt.specs.Trees.Tree.{Forest, front_ident, flat_len}
 use Rattle.mbe_tt.specs.declared.span.Span.{Span}
+use Rattle.mbe_cfg.specs.declared.attributes.Sort.{Sort}
 use Rattle.mbe_cfg.specs.declared.fault.Fault.{Fault}
 use Rattle.mbe_cfg.specs.declared.fault.Wrong.TheVariants as w
 use Rattle.mbe_cfg.specs.declared.predicate.TheConstants.{DEPTH}
 use Rattle.mbe_cfg.specs.declared.settings.Settings.{Settings}
 use Rattle.mbe_cfg.specs.Faults.{fails}
 use Rattle.mbe_cfg.specs.Fronts.{Group, place, is_empty, bracketed, after_next_comma}
-use Rattle.mbe_cfg.specs.Predicates.{gives}
-use Rattle.mbe_cfg.specs.Attributes.{all_so_far, metas, by_name, attribute, go_on, next_one, attributes}
+use Rattle.mbe_cfg.specs.Predicates.{Read, Verdict, gives}
+use Rattle.mbe_cfg.specs.Attributes.{added_if, all_so_far, argument, condition, cfg_attr, cfg_attr_of, metas, sort_of, by_sort, by_name, attribute, go_on, next_one, attributes}
 use Rattle.mbe_cfg.proofs.PredicateLemmas.{one_more}
 
 attribute_suc : (s : Settings) (n : ℕ) (close : Span) (f : Forest)
@@ -37,9 +38,30 @@ pub attribute_named : (s : Settings) (n : ℕ) (close : Span) (f read : Forest) 
 attribute_named s n close f read name r h word e m =
     attribute_by s n close f (Some name) r h (word ∙ ap front_ident e) m
 
+-- what the sort of the name says, where it is found by the name's text
+pub by_sort_of : (s : Settings) (inner : Span → Forest → Result Bool Fault) (at : Span) (f : Forest)
+    (name text : List ℕ) (found sort : Sort) (r : Result Bool Fault) → text ≡ name → found ≡ sort_of text
+    → found ≡ sort → r ≡ by_sort s inner at f sort → r ≡ by_sort s inner at f (sort_of name)
+by_sort_of s inner at f name text found sort r t e is h =
+    h ∙ ap (by_sort s inner at f) (sym is ∙ (e ∙ ap sort_of t))
+
 pub attribute_none : (s : Settings) (n : ℕ) (close : Span) (f : Forest) (r : Result Bool Fault)
     → n ≡ 0 → r ≡ fails w.TooDeep (place close f) → r ≡ attribute s n close f
 attribute_none s n close f r e m = m ∙ (sym (attribute_zero s close f) ∙ sym (ap (λ k. attribute s k close f) e))
+
+-- what the predicate of a `cfg_attr` says
+pub cfg_attr_by : (s : Settings) (inner : Span → Forest → Result Bool Fault) (at : Span) (f : Forest) (g : Group)
+    (r : Read) → Ok g ≡ argument at f → r ≡ condition s g.close g.inside
+    → added_if inner g.close r ≡ cfg_attr s inner at f
+cfg_attr_by s inner at f g r a h = ap (added_if inner g.close) h ∙ ap (cfg_attr_of s inner) a
+
+-- it adds all its attributes, or none
+pub cfg_attr_if : (s : Settings) (inner : Span → Forest → Result Bool Fault) (at : Span) (f : Forest) (g : Group)
+    (t : Verdict) (holds : Bool) → Ok g ≡ argument at f → Ok t ≡ condition s g.close g.inside → t.holds ≡ holds
+    → (if holds then metas (inner g.close) (flat_len t.rest) true t.rest else Ok true) ≡ cfg_attr s inner at f
+cfg_attr_if s inner at f g t holds a h e =
+    sym (ap (λ b. if b then metas (inner g.close) (flat_len t.rest) true t.rest else Ok true) e)
+    ∙ cfg_attr_by s inner at f g (Ok t) a h
 
 metas_suc : (inner : Forest → Result Bool Fault) (n : ℕ) (so_far : Bool) (f : Forest)
     → metas inner (suc n) so_far f ≡ (if is_empty f then Ok so_far else all_so_far (metas inner n) so_far f (inner f))

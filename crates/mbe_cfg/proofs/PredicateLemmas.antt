@@ -1,5 +1,5 @@
 -- Predicates one level down, and lists one predicate on.
-use Rattle.std.proofs.Common.{◌≡◌, ℕ, suc, ◌-◌, ◌<◌, Bool, true, false, if◌then◌else◌, Option}
+use Rattle.std.proofs.Common.{◌≡◌, ℕ, suc, ◌-◌, ◌<◌, Bool, true, false, if◌then◌else◌, Option, Result}
 use Rattle.std.proofs.Common.{Ok, Err, refl, ap, sym, ◌∙◌, arith}
 use Rattle.mbe_tt.specs.Trees.Leaf.{Ident}
 use Rattle.mbe_tt.specs.Trees.Tree.{Forest, front_ident}
@@ -9,7 +9,7 @@ use Rattle.mbe_cfg.specs.declared.fault.Wrong.TheVariants as w
 use Rattle.mbe_cfg.specs.declared.settings.Settings.{Settings}
 use Rattle.mbe_cfg.specs.Faults.{fails}
 use Rattle.mbe_cfg.specs.Fronts.{place, is_empty}
-use Rattle.mbe_cfg.specs.Predicates.{Read, gives, by_name, go_on, item, items, predicate}
+use Rattle.mbe_cfg.specs.Predicates.{Read, Verdict, gives, by_name, ended, go_on, item, items, one, one_of, predicate, separated}
 
 pub one_more : (n : ℕ) → 0 < n → n ≡ suc (n - 1)
 one_more n h = omega (arith, h)
@@ -82,3 +82,33 @@ pub items_none : (inner : Forest → Read) (every : Bool) (close : Span) (n : �
 items_none inner every close n so_far f e =
     sym (items_zero inner every close so_far f)
     ∙ sym (ap (λ k. items inner every close k so_far f) e)
+
+-- ---- the predicate that is all of some trees
+
+pub one_none : (inner : Forest → Read) (close : Span) (f : Forest) → is_empty f ≡ true
+    → fails w.NotOne close ≡ one inner close f
+one_none inner close f e = sym (ap (λ b. if b then fails w.NotOne close else one_of close (inner f)) e)
+
+pub one_with : (inner : Forest → Read) (close : Span) (f : Forest) (r : Read) → is_empty f ≡ false → r ≡ inner f
+    → one_of close r ≡ one inner close f
+one_with inner close f r e m =
+    ap (one_of close) m ∙ sym (ap (λ b. if b then fails w.NotOne close else one_of close (inner f)) e)
+
+-- what is after it
+pub one_ended : (inner : Forest → Read) (close : Span) (f : Forest) (t : Verdict) (r : Result Forest Fault)
+    → is_empty f ≡ false → Ok t ≡ inner f → r ≡ separated close t.rest → ended close t.holds r ≡ one inner close f
+one_ended inner close f t r e m s = ap (ended close t.holds) s ∙ one_with inner close f (Ok t) e m
+
+-- nothing is after it
+pub one_alone : (inner : Forest → Read) (close : Span) (f rest : Forest) (t : Verdict) → is_empty f ≡ false
+    → Ok t ≡ inner f → Ok rest ≡ separated close t.rest → is_empty rest ≡ true → Ok t.holds ≡ one inner close f
+one_alone inner close f rest t e m s h =
+    sym (ap (λ b. if b then Ok t.holds else fails w.NotOne (place close rest)) h)
+    ∙ one_ended inner close f t (Ok rest) e m s
+
+pub one_followed : (inner : Forest → Read) (close : Span) (f rest : Forest) (t : Verdict) → is_empty f ≡ false
+    → Ok t ≡ inner f → Ok rest ≡ separated close t.rest → is_empty rest ≡ false
+    → fails w.NotOne (place close rest) ≡ one inner close f
+one_followed inner close f rest t e m s h =
+    sym (ap (λ b. if b then Ok t.holds else fails w.NotOne (place close rest)) h)
+    ∙ one_ended inner close f t (Ok rest) e m s
