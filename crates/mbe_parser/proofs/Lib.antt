@@ -1,6 +1,7 @@
 pub mod Fronts
 pub mod Returns
 pub mod ReaderLemmas
+pub mod AfterDollar
 pub mod SuffixLemmas
 pub mod RuleTreeLemmas
 pub mod StopLemmas
