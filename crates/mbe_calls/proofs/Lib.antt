@@ -1,3 +1,4 @@
 pub mod PartingLemmas
 pub mod PathLemmas
 pub mod SplicingLemmas
+pub mod Returns

@@ -8,6 +8,7 @@ use Rattle.mbe_tt.specs.Views.View.{trees}
 use Rattle.mbe_tt.proofs.Trees.Firsts.{rest_less}
 use Rattle.mbe_calls.specs.Parting.{parted_in, parted_leaf}
 use Rattle.mbe_calls.proofs.PartingLemmas.{Left, all_written, as_they_are, begins, group_on, is_inside, leaf_on}
+use Rattle.mbe_calls.proofs.Returns.{no_answer}
 use Rattle.mbe_calls.proofs.parting.+write_parted.Goals as goal
 
 pub returns-then-levels-eq0 : goal.returns-then-levels-eq0
@@ -68,3 +69,18 @@ pub returns : goal.returns
 returns g t c =
     all_written c.args.levels (trees c.args.tokens) c.trees.rest c.args.builder.now c.trees.builder c.trees.invariant
     (sym c.in_default.ensures.value)
+
+pub returns-in_err-parted_leaf-in-Leaf : goal.returns-in_err-parted_leaf-in-Leaf
+returns-in_err-parted_leaf-in-Leaf g t c = no_answer c.from_residual.result _ _ c.from_residual.ensures.1
+
+pub returns-in_err-push-in-Leaf : goal.returns-in_err-push-in-Leaf
+returns-in_err-push-in-Leaf g t c =
+    no_answer c.from_residual-in_err-push-in-Leaf.result _ _ c.from_residual-in_err-push-in-Leaf.ensures.1
+
+pub returns-in_err-open-in-Subtree : goal.returns-in_err-open-in-Subtree
+returns-in_err-open-in-Subtree g t c =
+    no_answer c.from_residual-in_err-open-in-Subtree.result _ _ c.from_residual-in_err-open-in-Subtree.ensures.1
+
+pub returns-in_err-write_parted-in-Subtree : goal.returns-in_err-write_parted-in-Subtree
+returns-in_err-write_parted-in-Subtree g t c =
+    let step = c.from_residual-in_err-write_parted-in-Subtree in no_answer step.result _ _ step.ensures.1

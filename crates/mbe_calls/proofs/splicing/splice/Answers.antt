@@ -15,3 +15,6 @@ loop-replacement-preserved g c = record {
       (omega arith) c.replacement-item.is (search rules) c.loop-replacement.invariant.whole;
   cut = search rules;
 }
+
+pub offset_bounds-replacements-replacement-index : goal.offset_bounds-replacements-replacement-index
+offset_bounds-replacements-replacement-index g c = let k = c.loop-replacement-test.true in omega (arith, k)
