@@ -2,3 +2,4 @@ mod DefinitionLemmas
 mod LintedLemmas
 mod RefusedLemmas
 mod WrittenLemmas
+mod Returns

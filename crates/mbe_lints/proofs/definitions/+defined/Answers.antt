@@ -6,6 +6,7 @@ use Rattle.mbe_calls.specs.declared.calls.Front.TheVariants as v
 use Rattle.mbe_calls.specs.Shown.{call_shown, defined_shown, front_shown}
 use Rattle.mbe_lints.specs.Definitions.{defined_in_tree, defined_by_fronts, definitions}
 use Rattle.mbe_lints.proofs.DefinitionLemmas.{front_is, too_deep, deeper, at_end, none_left, at_definition, at_call, at_tree}
+use Rattle.mbe_lints.proofs.Returns.{no_answer}
 use Rattle.mbe_lints.proofs.definitions.+defined.Goals as goal
 
 pub push_defined-fronts-init : goal.push_defined-fronts-init
@@ -65,3 +66,11 @@ push_defined-returns g t c =
     let none = c.fronts-test.false in
     none_left (defined_in_tree (definitions (c.args.levels - 1))) c.fronts.left (trees c.fronts.rest) _ _
     (omega (arith, none)) c.fronts.invariant
+
+pub push_defined-returns-in_err-push-in-Definition : goal.push_defined-returns-in_err-push-in-Definition
+push_defined-returns-in_err-push-in-Definition g t c = no_answer c.from_residual.result _ _ c.from_residual.ensures.1
+
+pub push_defined-returns-in_err-push_defined_in_tree-in-Tree :
+    goal.push_defined-returns-in_err-push_defined_in_tree-in-Tree
+push_defined-returns-in_err-push_defined_in_tree-in-Tree g t c =
+    let step = c.from_residual-in_err-push_defined_in_tree-in-Tree in no_answer step.result _ _ step.ensures.1
