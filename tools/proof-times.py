@@ -6,7 +6,8 @@
 
 With one job the files of crates/CRATE/out/incremental are written in the order of the proof, so the time between two is what the second took. It
 prints the seconds of each part over all functions (`Lts` and `Tie` grow with the code; `Proof` and `Answers` have what `search` took), and then the COUNT
-functions (by default 25) that took most, with the seconds of these parts. A pause of a minute or more between two files is another check, and doesn't count.
+functions (by default 25) that took most, with the seconds of these parts and the megabytes of their `Lts`, which grow faster than the code: a function of
+more than 4 is worth being taken apart. A pause of a minute or more between two files is another check, and doesn't count.
 """
 import collections
 import os
@@ -26,6 +27,17 @@ def written(folder):
     return sorted(found)
 
 
+def sizes(folder):
+    """Megabytes of what a function's code is to the prover, by function."""
+    found = {}
+    for top, _, names in os.walk(folder):
+        for name in names if os.path.basename(top) != "records" else []:
+            it = NAMED.match(name)
+            if it and it["part"] == "Lts":
+                found[it["function"]] = os.stat(os.path.join(top, name)).st_size / 1e6
+    return found
+
+
 def times(files):
     """Seconds by function and part."""
     took = collections.defaultdict(collections.Counter)
@@ -33,21 +45,23 @@ def times(files):
         it = NAMED.match(name)
         seconds = (at - before) / 1e9
         if it and seconds < PAUSE:
-            took[it["function"]][it["part"]] += seconds
+            function, of_code, _ = it["function"].partition(".Lts")
+            took[function]["Lts" if of_code else it["part"]] += seconds
     return took
 
 
-def line(name, parts):
-    return " ".join([f"{sum(parts.values()):8.1f}", *[f"{parts[part]:8.1f}" for part in PARTS], f" {name}"])
+def line(name, parts, megabytes):
+    return " ".join([f"{sum(parts.values()):8.1f}", *[f"{parts[part]:8.1f}" for part in PARTS], f"{megabytes:8.1f}", f" {name}"])
 
 
 def main():
     crate, count = sys.argv[1], int(sys.argv[2]) if len(sys.argv) > 2 else 25
-    took = times(written(f"crates/{crate}/out/incremental"))
-    print(" ".join(["     all", *[f"{part:>8}" for part in PARTS]]))
-    print(line("(all functions)", sum(took.values(), collections.Counter())))
+    folder = f"crates/{crate}/out/incremental"
+    took, large = times(written(folder)), sizes(folder)
+    print(" ".join(["     all", *[f"{part:>8}" for part in PARTS], "      MB"]))
+    print(line("(all functions)", sum(took.values(), collections.Counter()), sum(large.values())))
     for name, parts in sorted(took.items(), key=lambda it: -sum(it[1].values()))[:count]:
-        print(line(name, parts))
+        print(line(name, parts, large.get(name, 0)))
 
 
 main()
