@@ -75,7 +75,7 @@ fn op_text<A: Allocator + Copy>(alloc: A, op: &Op<A>) -> Result<String<A>, Alloc
 {
     match op {
         Op::Var { name, kind, .. } => variable_text(alloc, name.as_str(), *kind),
-        Op::Subtree { delimiter, .. } => String::from_str(alloc, opening_of(delimiter.kind)),
+        Op::Subtree { delimiter, .. } => String::from_str(alloc, opening_of(delimiter.get().kind)),
         Op::Literal(literal) => format!(in alloc; "`{literal}`"),
         Op::Ident(ident) => format!(in alloc; "`{ident}`"),
         Op::Punct(puncts) => puncts_quoted(alloc, puncts.as_slice()),
@@ -136,7 +136,7 @@ fn op_span<A: Allocator>(op: &Op<A>) -> Option<Span>
 {
     match op {
         Op::Var { id, .. } => Some(*id),
-        Op::Subtree { delimiter, .. } => Some(delimiter.opening),
+        Op::Subtree { delimiter, .. } => Some(delimiter.get().opening),
         Op::Literal(literal) => Some(literal.span),
         Op::Ident(ident) => Some(ident.span),
         Op::Punct(puncts) => first_span(puncts.as_slice()),

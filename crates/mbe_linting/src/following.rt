@@ -86,7 +86,7 @@ fn look_at_op<A: Allocator>(op: &Op<A>) -> Look<'_>
         Op::Literal(literal) => look_at_literal(literal),
         Op::Ident(ident) => look_at_ident(ident),
         Op::Punct(puncts) => Look::Puncts(puncts.as_slice()),
-        Op::Subtree { delimiter, .. } => Look::Opening(delimiter.kind),
+        Op::Subtree { delimiter, .. } => Look::Opening(delimiter.get().kind),
         Op::Var { kind, .. } => Look::Fragment(*kind),
         Op::Repeat { .. } => Look::Other,
         Op::Expression(_) => Look::Other,

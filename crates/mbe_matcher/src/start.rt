@@ -72,7 +72,7 @@ fn is_unlike<A: Allocator>(op: &Op<A>, here: &TtIter<'_, A>) -> bool
             kind: Some(kind),
             ..
         } => takes_nothing(*kind, here),
-        Op::Subtree { delimiter, .. } => !opens(delimiter.kind, here),
+        Op::Subtree { delimiter, .. } => !opens(delimiter.get().kind, here),
         _ => is_other(op, here),
     }
 }

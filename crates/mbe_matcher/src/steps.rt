@@ -69,7 +69,7 @@ fn op_steps<'a, A: Allocator + Copy, G: FragmentGrammar>(
             variable_steps(grammar, source, log, name, *kind, rest, position)
         }
         Op::Subtree { tokens, delimiter } => {
-            group_steps(source, outers, *delimiter, &tokens.0, rest, position)
+            group_steps(source, outers, delimiter.get(), &tokens.0, rest, position)
         }
         Op::Repeat {
             tokens,
@@ -230,7 +230,7 @@ fn op_alone<'a, A: Allocator + Copy, G: FragmentGrammar>(
             Ok(variable_steps(grammar, source, log, name, *kind, rest, position)?.next)
         }
         Op::Subtree { tokens, delimiter } => {
-            Ok(group_steps(source, outers, *delimiter, &tokens.0, rest, position)?.next)
+            Ok(group_steps(source, outers, delimiter.get(), &tokens.0, rest, position)?.next)
         }
         Op::Repeat { .. } | Op::Expression(_) => Ok(None),
     }

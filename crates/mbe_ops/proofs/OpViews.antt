@@ -71,14 +71,15 @@ view-open_repeat t kind s = search (rules, the_lemmas)
 
 -- ---- copies
 
--- the copy of a group with a copy of its body
+-- the copy of a group with copies of its body and of its brackets
 pub copied_group : {A : Type 0} (v : Vec (code.Op A) A) (t : MetaTemplate-F A (code.Op A) (Unit {0}))
-    (xs : List (code.Op A)) (d : Delimiter)
-    → ops_of v.items ≡ ops_of xs → xs ≡ t.0.items
-    → op_of (Subtree (roll-MetaTemplate A (record { 0 = v })) d) ≡ op_of {A = A} (views_of.Subtree t d)
-copied_group {A} v t xs d e f =
-    view-subtree (roll-MetaTemplate A (record { 0 = v })) d
-    ∙ (ap (ops.group d) (view-template v ∙ (e ∙ ap ops_of f)) ∙ sym (view-open t d))
+    (xs : List (code.Op A)) (copy d : Delimiter)
+    → ops_of v.items ≡ ops_of xs → xs ≡ t.0.items → copy ≡ d
+    → op_of (Subtree (roll-MetaTemplate A (record { 0 = v })) copy) ≡ op_of {A = A} (views_of.Subtree t d)
+copied_group {A} v t xs copy d e f h =
+    view-subtree (roll-MetaTemplate A (record { 0 = v })) copy
+    ∙ (ap (ops.group copy) (view-template v ∙ (e ∙ ap ops_of f))
+    ∙ (ap (λ sides. ops.group sides (ops_of t.0.items)) h ∙ sym (view-open t d)))
 
 -- the copy of a repetition with copies of its body and of its separator
 pub copied_repetition : {A : Type 0} (v : Vec (code.Op A) A) (t : MetaTemplate-F A (code.Op A) (Unit {0}))

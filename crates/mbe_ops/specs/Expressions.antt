@@ -31,7 +31,7 @@ expression_seen (code.TheVariants.Ignore name id) = ops.ignore name id
 expression_seen (code.TheVariants.Index depth) = ops.index depth
 expression_seen (code.TheVariants.Len depth) = ops.len depth
 expression_seen (code.TheVariants.Count name depth) = ops.count name depth
-expression_seen (code.TheVariants.Concat elements span) = ops.concat (map element_seen elements.items) span
+expression_seen (code.TheVariants.Concat span elements) = ops.concat (map element_seen elements.items) span
 
 -- ---- their variables, one after another
 

@@ -51,10 +51,11 @@ fn copied_op<A: Allocator + Copy>(alloc: A, op: &Op<A>) -> Result<Op<A>, AllocEr
             kind: *kind,
             separator: copied_between(alloc, separator)?,
         }),
-        Op::Subtree { tokens, delimiter } => Ok(Op::Subtree {
-            tokens: MetaTemplate(copied_ops(alloc, &tokens.0)?),
-            delimiter: *delimiter,
-        }),
+        Op::Subtree { tokens, delimiter } => {
+            let delimiter = delimiter.try_clone(alloc)?;
+            let tokens = MetaTemplate(copied_ops(alloc, &tokens.0)?);
+            Ok(Op::Subtree { tokens, delimiter })
+        }
         Op::Literal(literal) => Ok(Op::Literal(literal.clone()?)),
         Op::Punct(puncts) => Ok(Op::Punct(puncts.try_clone(alloc)?)),
         Op::Ident(ident) => Ok(Op::Ident(ident.clone()?)),

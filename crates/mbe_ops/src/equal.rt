@@ -5,10 +5,10 @@ ghost use Rattle.mbe_ops.specs.Equality.{IsSameBetween, IsSameOp, AreSameOps};
 ghost use Rattle.mbe_ops.specs.Views.{separator_seen, op_of, ops_of, template_of};
 
 use crate::expression::same_expression;
-use crate::held::Between;
+use crate::held::{Around, Between};
 use crate::ops::{MetaTemplate, Op, same_separator};
 use mbe_semantics::kinds::RepeatKind;
-use mbe_tt::tt::{Delimiter, Ident, Literal, Punct};
+use mbe_tt::tt::{Ident, Literal, Punct};
 use std::alloc::Allocator;
 
 /// Whether the patterns or templates are the same.
@@ -90,10 +90,10 @@ fn same_suffix<A: Allocator>(
     same_between(separator, other) && kind == other_kind
 }
 
-fn same_delimiter(one: &Delimiter, two: &Delimiter) -> bool
+fn same_delimiter<A: Allocator>(one: &Around<A>, two: &Around<A>) -> bool
     ensures { IsTrue result ↔ (one.now ≡ two.now) }
 {
-    one == two
+    one.get() == two.get()
 }
 
 // Both have none, or the same.

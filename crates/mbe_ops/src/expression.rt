@@ -39,9 +39,10 @@ pub enum Expression<A: Allocator = Global> {
         name: Symbol<A>,
         depth: usize,
     },
+    // (the span first, so that an expression takes 48 bytes)
     Concat {
-        elements: Vec<ConcatMetaVarExprElem<A>, A>,
         span: Span,
+        elements: Vec<ConcatMetaVarExprElem<A>, A>,
     },
 }
 

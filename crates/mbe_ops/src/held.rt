@@ -1,10 +1,13 @@
-// What an op holds on the heap, so that it stays small: at most 80 bytes where the allocator takes none.
+// What an op holds on the heap, so that it stays small: at most 56 bytes where the allocator takes none.
 ghost use Rattle.std.specs.Prelude.{◌≡◌, [], ◌∷◌, IfOk, is_some, option_copied};
+ghost use Rattle.mbe_ops.specs.Held.{held_delimiter};
+ghost use Rattle.mbe_ops.specs.Held as spec;
 
 use crate::copies::copied_puncts;
 use crate::ops::Separator;
 use arrayvec::ArrayVec;
-use mbe_tt::tt::Punct;
+use mbe_tt::span::{Span, SyntaxContext};
+use mbe_tt::tt::{Delimiter, DelimiterKind, Punct};
 use std::alloc::{AllocError, Allocator, Global};
 use std::marker::Model;
 use std::{fmt, slice};
@@ -134,5 +137,116 @@ impl<A: Allocator> fmt::Debug for Between<A> {
     fn fmt<W: fmt::Write>(&self, f: &mut fmt::Formatter<W>) -> fmt::Result {
         let separator = self.as_ref();
         write!(f, "{separator:?}")
+    }
+}
+
+/// The brackets around a group of ops. Clauses see that delimiter.
+#[derive(Drop)]
+pub struct Around<A: Allocator = Global> {
+    held: Sides<A>,
+}
+
+// Brackets are one byte each, in one text and context, so most have their places in the op itself. The fields are in the
+// order in which they leave no gap.
+#[derive(Drop)]
+enum Sides<A: Allocator = Global> {
+    Near {
+        kind: DelimiterKind,
+        file: u32,
+        ast: u32,
+        ctx: SyntaxContext,
+        opening: u32,
+        close: u32,
+    },
+    Apart(Box<Delimiter, A>),
+}
+
+// The span of the byte that begins there.
+#[inline(always)]
+fn byte_at(file: u32, ast: u32, ctx: SyntaxContext, start: u32) -> Span
+    ensures { result ≡ spec.byte_at file ast ctx start }
+{
+    Span {
+        file,
+        ast,
+        start,
+        end: start.wrapping_add(1),
+        ctx,
+    }
+}
+
+impl<A: Allocator> Sides<A> {
+    #[inline(always)]
+    fn delimiter(&self) -> Delimiter
+        ensures { result ≡ held_delimiter self.now }
+    {
+        match self {
+            Sides::Near {
+                kind,
+                file,
+                ast,
+                ctx,
+                opening,
+                close,
+            } => Delimiter {
+                opening: byte_at(*file, *ast, *ctx, *opening),
+                close: byte_at(*file, *ast, *ctx, *close),
+                kind: *kind,
+            },
+            Sides::Apart(delimiter) => *delimiter.as_ref(),
+        }
+    }
+}
+
+impl<A: Allocator> Model for Around<A> {
+    ghost use Rattle.mbe_tt.specs.declared.tt.Delimiter.{Delimiter};
+    ghost use Rattle.mbe_ops.specs.Held.{held_delimiter};
+
+    ghost Value = { Delimiter };
+
+    ghost view = { λ a. held_delimiter a.held };
+}
+
+impl<A: Allocator> Around<A> {
+    /// The brackets of that delimiter. `AllocError` if out of memory: those that aren't one byte each, in one text and
+    /// context, take some of `alloc`.
+    pub fn new(alloc: A, delimiter: Delimiter) -> Result<Around<A>, AllocError>
+        ensures { IfOk result (λ around. around ≡ delimiter) }
+    {
+        let near = Sides::Near {
+            kind: delimiter.kind,
+            file: delimiter.opening.file,
+            ast: delimiter.opening.ast,
+            ctx: delimiter.opening.ctx,
+            opening: delimiter.opening.start,
+            close: delimiter.close.start,
+        };
+        if near.delimiter() == delimiter {
+            return Ok(Around { held: near });
+        }
+        let held = Sides::Apart(Box::new(alloc, delimiter)?);
+        Ok(Around { held })
+    }
+
+    /// The same brackets again. `AllocError` if out of memory.
+    pub fn try_clone(&self, alloc: A) -> Result<Around<A>, AllocError>
+        ensures { IfOk result (λ around. around ≡ self.now) }
+    {
+        Around::new(alloc, self.get())
+    }
+
+    /// The delimiter.
+    #[inline(always)]
+    pub fn get(&self) -> Delimiter
+        ensures { result ≡ self.now }
+    {
+        self.held.delimiter()
+    }
+}
+
+impl<A: Allocator> fmt::Debug for Around<A> {
+    fn fmt<W: fmt::Write>(&self, f: &mut fmt::Formatter<W>) -> fmt::Result {
+        let delimiter = self.get();
+        write!(f, "{delimiter:?}")
     }
 }

@@ -6,12 +6,12 @@ ghost use Rattle.mbe_ops.specs.Equality.{IsSameSeparator};
 ghost use Rattle.mbe_ops.specs.Views.{separator_seen};
 
 use crate::expression::Expression;
-use crate::held::{Between, Puncts};
+use crate::held::{Around, Between, Puncts};
 use arrayvec::ArrayVec;
 use mbe_semantics::kinds::{MetaVarKind, RepeatKind};
 use mbe_tt::span::Span;
 use mbe_tt::symbol::Symbol;
-use mbe_tt::tt::{Delimiter, Ident, Literal, Punct};
+use mbe_tt::tt::{Ident, Literal, Punct};
 use std::alloc::{Allocator, Global};
 
 /// What is written between two rounds of a repetition.
@@ -97,7 +97,7 @@ pub enum Op<A: Allocator = Global> {
     },
     Subtree {
         tokens: MetaTemplate<A>,
-        delimiter: Delimiter,
+        delimiter: Around<A>,
     },
     Literal(Literal<A>),
     Punct(Puncts<A>),

@@ -24,7 +24,7 @@ mod metavar_expr;
 use crate::parser::metavar_expr::parse_metavar_expr;
 use arrayvec::ArrayVec;
 use mbe_errors::error::{ReadError, SyntaxFault};
-use mbe_ops::held::{Between, Puncts};
+use mbe_ops::held::{Around, Between, Puncts};
 use mbe_ops::ops::{MetaTemplate, Op, Separator};
 use mbe_semantics::kinds::{ExprKind, MetaVarKind, RepeatKind};
 use mbe_tt::span::{Edition, Span, SyntaxContext};
@@ -95,7 +95,7 @@ fn template_within<A: Allocator + Copy, E: Copy + Fn(SyntaxContext) -> Edition>(
             TtElement::Subtree(subtree, inside) => {
                 let _group = src.next();
                 let tokens = template_within(alloc, edition, inside, mode, entered(levels)?)?;
-                let delimiter = subtree.delimiter;
+                let delimiter = Around::new(alloc, subtree.delimiter)?;
                 ops.push_reserved(Op::Subtree { tokens, delimiter });
             }
         }

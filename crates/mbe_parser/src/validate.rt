@@ -107,7 +107,7 @@ fn checked_op<A: Allocator>(op: &Op<A>) -> Found
             empty: may_take_nothing(*kind),
             refused: false,
         },
-        Op::Subtree { tokens, delimiter } => checked(tokens.iter_delimited(*delimiter)),
+        Op::Subtree { tokens, delimiter } => checked(tokens.iter_delimited(delimiter.get())),
         Op::Repeat {
             tokens,
             kind,

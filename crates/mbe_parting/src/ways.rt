@@ -145,7 +145,7 @@ fn op_ways<'a, A: Allocator, G: FragmentGrammar>(
     match op {
         Op::Var { kind, .. } => Ok(only(over_fragment(grammar, source, *kind, front)?)),
         Op::Subtree { delimiter, .. } => {
-            Ok(only(over_one(front, opens(delimiter.kind, &source.here()))))
+            Ok(only(over_one(front, opens(delimiter.get().kind, &source.here()))))
         }
         Op::Repeat { kind, .. } => Ok(repetition_ways(*kind, dots, front)),
         Op::Literal(_) | Op::Ident(_) | Op::Punct(_) => {

@@ -126,7 +126,7 @@ fn is_like<A: Allocator>(one: &Op<A>, other: &Op<A>) -> bool
                 tokens: ts,
                 delimiter: d,
             },
-        ) => opens_alike(delimiter, d) && are_alike(&tokens.0, &ts.0),
+        ) => opens_alike(&delimiter.get(), &d.get()) && are_alike(&tokens.0, &ts.0),
         (Op::Literal(one), Op::Literal(two)) => {
             one.text_and_suffix.as_str() == two.text_and_suffix.as_str()
         }

@@ -150,7 +150,7 @@ fn expand_op<'t, A: Allocator + Copy, G: FragmentGrammar, M: Fn(Span) -> Span + 
         Op::Ident(ident) => write_ident(ident, ctx.marker, builder).and(Ok(None)),
         Op::Punct(puncts) => write_puncts(puncts.as_slice(), builder, ctx.marker).and(Ok(None)),
         Op::Subtree { tokens, delimiter } => {
-            expand_group(ctx, *delimiter, &tokens.0, path, builder)
+            expand_group(ctx, delimiter.get(), &tokens.0, path, builder)
         }
         Op::Repeat {
             tokens,

@@ -81,7 +81,7 @@ fn push_inside(text: &mut String, op: &Op) -> Result<(), AllocError> {
     match op {
         Op::Subtree { tokens, delimiter } => {
             text.push_str("| ")?;
-            push_all(text, tokens.iter_delimited(*delimiter))
+            push_all(text, tokens.iter_delimited(delimiter.get()))
         }
         Op::Repeat { tokens, .. } => {
             text.push_str("| ")?;

@@ -34,8 +34,9 @@ copied_op-returns-in_ok-copied_between-in-Repeat g t c =
 pub copied_op-returns-in_ok-copied_ops-in-Subtree : goal.copied_op-returns-in_ok-copied_ops-in-Subtree
 copied_op-returns-in_ok-copied_ops-in-Subtree g t c =
     let here = c.in-Subtree in
-    copied_group c.in_ok-copied_ops-in-Subtree.field-0 here.tokens c.deref-in-Subtree.result.now here.delimiter
-    c.in_ok-copied_ops-in-Subtree.ensures c.deref-in-Subtree.ensures.value ∙ sym (ap op_of here.is)
+    copied_group c.in_ok-copied_ops-in-Subtree.field-0 here.tokens c.deref-in-Subtree.result.now
+    c.in_ok-delimiter-in-Subtree.delimiter here.delimiter c.in_ok-copied_ops-in-Subtree.ensures
+    c.deref-in-Subtree.ensures.value c.in_ok-delimiter-in-Subtree.ensures ∙ sym (ap op_of here.is)
 
 pub copied_ops-loop-op-preserved : goal.copied_ops-loop-op-preserved
 copied_ops-loop-op-preserved g t c =

@@ -107,10 +107,11 @@ template_within-trees-preserved g t c =
     let left = c.next-group.new.self in
     let front : Some (Group_tree c.in-Subtree.subtree.now.delimiter c.in-Subtree.inside) ≡ first l.src = search rules in
     let at = first_tree l.src left _ front c.next-group.ensures.rest in
-    let o = ops.Subtree c.in_ok-tokens-in-Subtree.tokens c.in-Subtree.subtree.now.delimiter in
+    let around = c.in_ok-delimiter-in-Subtree in
+    let o = ops.Subtree c.in_ok-tokens-in-Subtree.tokens around.delimiter in
     let reads : ReadsOp (λ ctx e. g.E.Fn.post c.args.edition (ctx, tt) e) mode l.src (op_of o) left =
-    rw view-subtree (lemmas.reads_group _ mode l.src c.in-Subtree.inside left c.in-Subtree.subtree.now.delimiter _
-    (ap (head mode) at) c.in_ok-tokens-in-Subtree.ensures.ops) in
+    rw view-subtree (rw around.ensures (lemmas.reads_group _ mode l.src c.in-Subtree.inside left
+    c.in-Subtree.subtree.now.delimiter _ (ap (head mode) at) c.in_ok-tokens-in-Subtree.ensures.ops)) in
     record {
       more = lemmas.more_read _ mode _ l.src left l.ops.items _ _ o l.invariant.more
           c.in_ok-reserve.ensures.items c.push_reserved.ensures.items reads;

@@ -77,7 +77,7 @@ pub checked_op-checked-requires : goal.checked_op-checked-requires
 checked_op-checked-requires g t c κs within =
     let here = c.in-Subtree in
     let seen = ap op_weight (ap op_of here.is ∙ view-subtree here.tokens here.delimiter) in
-    let inside = weight_of_walk c.iter_delimited.result (Some here.delimiter) (template_of here.tokens)
+    let inside = weight_of_walk c.iter_delimited.result (Some c.get.result) (template_of here.tokens)
     c.iter_delimited.ensures in
     (omega (arith, c.decreases, seen, inside), within)
 
@@ -98,7 +98,7 @@ pub checked_op-returns-in-Subtree-clause-refused : goal.checked_op-returns-in-Su
 checked_op-returns-in-Subtree-clause-refused g t c =
     let here = c.in-Subtree in
     let body = template_of here.tokens in
-    c.checked.ensures.refused ∙ ((ap some_refused c.iter_delimited.ensures ∙ refused_inside (Some here.delimiter) body)
+    c.checked.ensures.refused ∙ ((ap some_refused c.iter_delimited.ensures ∙ refused_inside (Some c.get.result) body)
     ∙ sym (ap is_refused_op (ap op_of here.is ∙ view-subtree here.tokens here.delimiter)))
 
 pub checked_op-returns-in-Repeat-clause-empty : goal.checked_op-returns-in-Repeat-clause-empty
