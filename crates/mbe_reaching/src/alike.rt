@@ -3,10 +3,10 @@ ghost use Rattle.std.specs.Prelude.{◌≡◌, option_map};
 ghost use Rattle.mbe_ops.specs.Views.{op_of, ops_of, separator_seen};
 ghost use Rattle.mbe_reaching.specs.Alike as spec;
 
-use mbe_ops::held::Between;
+use mbe_ops::held::{Around, Between};
 use mbe_ops::ops::{Op, Separator, same_chars};
 use mbe_semantics::kinds::{ExprKind, MetaVarKind, RepeatKind};
-use mbe_tt::tt::{Delimiter, DelimiterKind};
+use mbe_tt::tt::DelimiterKind;
 use std::alloc::Allocator;
 
 fn kind_number(kind: Option<MetaVarKind>) -> u8
@@ -53,10 +53,10 @@ fn delimiter_number(kind: DelimiterKind) -> u8
     }
 }
 
-fn opens_alike(one: &Delimiter, other: &Delimiter) -> bool
+fn opens_alike<A: Allocator>(one: &Around<A>, other: &Around<A>) -> bool
     ensures { result ≡ spec.opens_alike one.now other.now }
 {
-    delimiter_number(one.kind) == delimiter_number(other.kind)
+    delimiter_number(one.get().kind) == delimiter_number(other.get().kind)
 }
 
 fn is_like_separator<A: Allocator>(one: &Separator<A>, other: &Separator<A>) -> bool
@@ -126,7 +126,7 @@ fn is_like<A: Allocator>(one: &Op<A>, other: &Op<A>) -> bool
                 tokens: ts,
                 delimiter: d,
             },
-        ) => opens_alike(&delimiter.get(), &d.get()) && are_alike(&tokens.0, &ts.0),
+        ) => opens_alike(delimiter, d) && are_alike(&tokens.0, &ts.0),
         (Op::Literal(one), Op::Literal(two)) => {
             one.text_and_suffix.as_str() == two.text_and_suffix.as_str()
         }

@@ -27,7 +27,8 @@ pub group_steps-requires-clause-dot : goal.group_steps-requires-clause-dot
 group_steps-requires-clause-dot g c =
     c.requires.dot ∙ ap (λ x. op x (ops_of c.args.rest.now))
     (ap op_of c.in-Subtree.is ∙ view-subtree _ c.in-Subtree.delimiter
-    ∙ ap (λ xs. group c.in-Subtree.delimiter (ops_of xs)) (sym c.deref.ensures.value))
+    ∙ ap (λ xs. group c.in-Subtree.delimiter (ops_of xs)) (sym c.deref.ensures.value)
+    ∙ ap (λ d. group d (ops_of c.deref.result.now)) (sym c.get.ensures))
 
 pub group_steps-requires-clause-number : goal.group_steps-requires-clause-number
 group_steps-requires-clause-number g c =

@@ -5,7 +5,7 @@ use Rattle.mbe_semantics.specs.Writing.Rounds.{level, kept}
 use Rattle.mbe_semantics.specs.Writing.Substitution.{extent_faults}
 use Rattle.mbe_ops.specs.Views.{op_of, ops_of, separator_seen}
 use Rattle.mbe_log.specs.BindingViews.{bound_by}
-use Rattle.mbe_ops.proofs.EqualityLemmas.{op_no_heavier}
+use Rattle.mbe_ops.proofs.EqualityLemmas.{op_weight, ops_weight, op_no_heavier}
 use Rattle.mbe_ops.proofs.OpViews.{view-repeat, view-var, view-subtree, view-literal, view-punct, view-ident, view-expression}
 use Rattle.mbe_variables.proofs.FollowLemmas.{ops_split, ops_over}
 use Rattle.mbe_variables.proofs.FollowLemmas.{seen_copied}
@@ -22,6 +22,22 @@ expand_ops-expand_op-requires g t c κs within =
     let lighter = op_no_heavier c.args.ops.now c.loop-op.op-index c.op-item.result c.loop-op-test.true c.op-item.is in
     let some : 0 < length c.loop-op.builder = omega (arith, c.requires.some_group, c.loop-op.invariant.wrote.groups) in
     (omega (arith, c.decreases, lighter), (within.0, (within.1.0, (within.1.1, (c.requires.marks, some)))))
+
+pub expand_op-expand_group-requires : goal.expand_op-expand_group-requires
+expand_op-expand_group-requires g t c κs within =
+    let here = c.in-Subtree in
+    let seen = ap op_weight (ap op_of here.is ∙ view-subtree here.tokens here.delimiter) in
+    let inside = ap (λ xs. ops_weight (ops_of xs)) c.deref.ensures.value in
+    (omega (arith, c.decreases, seen, inside),
+    (within.0, (within.1.0, (within.1.1, (c.requires.marks, c.requires.some_group)))))
+
+pub expand_op-expand_repeat-requires : goal.expand_op-expand_repeat-requires
+expand_op-expand_repeat-requires g t c κs within =
+    let here = c.in-Repeat in
+    let seen = ap op_weight (ap op_of here.is ∙ view-repeat here.tokens here.kind here.separator) in
+    let inside = ap (λ xs. ops_weight (ops_of xs)) c.deref-in-Repeat.ensures.value in
+    (omega (arith, c.decreases, seen, inside),
+    (within.0, (within.1.0, (within.1.1, (c.requires.marks, c.requires.some_group)))))
 
 pub expand_op-returns-in-Literal-clause-wrote : goal.expand_op-returns-in-Literal-clause-wrote
 expand_op-returns-in-Literal-clause-wrote g t c =
@@ -46,7 +62,8 @@ expand_op-returns-in-Punct-clause-wrote g t c =
 
 pub expand_op-returns-in-Subtree-clause-wrote : goal.expand_op-returns-in-Subtree-clause-wrote
 expand_op-returns-in-Subtree-clause-wrote g t c =
-    rw (c.in-Subtree.is, view-subtree) (rw (← c.deref.ensures.value) c.expand_group.ensures.wrote)
+    rw (c.in-Subtree.is, view-subtree) (rw (← c.deref.ensures.value, ← c.get.ensures)
+    c.expand_group.ensures.wrote)
 
 pub expand_group-returns-clause-wrote : goal.expand_group-returns-clause-wrote
 expand_group-returns-clause-wrote g t c =
@@ -224,7 +241,8 @@ expand_op-returns-in-Punct-clause-left g t c =
 
 pub expand_op-returns-in-Subtree-clause-left : goal.expand_op-returns-in-Subtree-clause-left
 expand_op-returns-in-Subtree-clause-left g t c =
-    rw (c.in-Subtree.is, view-subtree) (rw (← c.deref.ensures.value) c.expand_group.ensures.left)
+    rw (c.in-Subtree.is, view-subtree) (rw (← c.deref.ensures.value, ← c.get.ensures)
+    c.expand_group.ensures.left)
 
 pub expand_group-returns-clause-left : goal.expand_group-returns-clause-left
 expand_group-returns-clause-left g t c =
