@@ -3,7 +3,8 @@ use crate::faults::{Faults, Parts};
 use crate::large::Large;
 use crate::parting::{Partings, Ways};
 use crate::rows::{Binds, Stops};
-use crate::{faults, large, parting, rows};
+use crate::templates::Writes;
+use crate::{faults, large, parting, rows, templates, walks};
 use std::alloc::{AllocError, Global};
 use test_rows::{AnyRows, Fields, Rows, Wrong, all, each_refused};
 
@@ -17,6 +18,8 @@ enum Kind {
     Fault,
     PartFault,
     BetweenRules,
+    Written,
+    Walked,
 }
 
 impl Rows for Kind {
@@ -30,11 +33,13 @@ impl Rows for Kind {
             Kind::Fault => Faults.is_so(alloc, fields),
             Kind::PartFault => Parts.is_so(alloc, fields),
             Kind::BetweenRules => faults::is_between_rules(alloc, fields[0]),
+            Kind::Written => Writes.is_so(alloc, fields),
+            Kind::Walked => walks::is_walked(alloc, fields),
         }
     }
 }
 
-static TABLES: [(Kind, &str, usize); 17] = [
+static TABLES: [(Kind, &str, usize); 22] = [
     (Kind::Stops, rows::REPETITIONS, 13),
     (Kind::Stops, rows::AMBIGUITIES, 2),
     (Kind::Binds, rows::REPORTS, 4),
@@ -52,10 +57,17 @@ static TABLES: [(Kind, &str, usize); 17] = [
     (Kind::Fault, faults::READ, 7),
     (Kind::PartFault, faults::PARTS, 5),
     (Kind::BetweenRules, faults::ONE, 1),
+    (Kind::Written, templates::ROUNDS, 18),
+    (Kind::Written, templates::EXPRESSIONS, 18),
+    (Kind::Written, templates::FRAGMENTS, 18),
+    (Kind::Written, templates::FAULTS, 21),
+    (Kind::Walked, walks::TEMPLATES, 9),
 ];
 
 #[test]
-fn matches_partings_and_faults_are_as_their_rows_say(rt: HostRuntime) -> Result<(), Wrong> {
+fn faults_matches_partings_and_templates_are_as_their_rows_say(
+    rt: HostRuntime,
+) -> Result<(), Wrong> {
     all(rt.alloc(), &TABLES)
 }
 
@@ -63,5 +75,6 @@ fn matches_partings_and_faults_are_as_their_rows_say(rt: HostRuntime) -> Result<
 fn each_request_for_memory_refused(rt: HostRuntime) -> Result<(), Wrong> {
     each_refused(rt.alloc(), &Stops, (rows::REFUSED, 3), (10, false))?;
     each_refused(rt.alloc(), &Binds, (rows::REFUSED_BINDINGS, 2), (10, false))?;
-    each_refused(rt.alloc(), &Partings, (parting::DEAD_ENDS, 3), (0, true))
+    each_refused(rt.alloc(), &Partings, (parting::DEAD_ENDS, 3), (0, true))?;
+    each_refused(rt.alloc(), &Writes, (templates::REFUSED, 3), (10, false))
 }

@@ -1,36 +1,15 @@
 // What templates write under bindings, and what they report.
 use crate::bound::bindings_of;
 use crate::grammar::OneKeyword;
+use crate::matches::template_of;
 use crate::trees::{CALL_SITE, marked, trees_of};
-use crate::walks::{TEMPLATES, is_walked};
 use mbe_errors::error::ExpandError;
 use mbe_errors::value_result::ExpandResult;
-use mbe_ops::ops::MetaTemplate;
-use mbe_parser::parser::{Mode, parse_template};
+use mbe_parser::parser::Mode;
 use mbe_transcriber::transcriber::transcribe;
-use mbe_tt::span::Edition;
 use mbe_tt::tt::TopSubtree;
-use std::alloc::{AllocError, Allocator, Global};
-use test_rows::{AnyRows, Fields, Rows, Wrong, all, each_refused, rows};
-
-/// The ops of a template. A template of these tests has no fault.
-pub fn template_of<A: Allocator + Copy>(
-    alloc: A,
-    trees: &TopSubtree<A>,
-) -> Result<MetaTemplate<A>, AllocError> {
-    match parse_template(
-        alloc,
-        |_| Edition::Edition2024,
-        trees.iter(),
-        Mode::Template,
-    ) {
-        Ok(template) => Ok(template),
-        Err(error) => {
-            let _fault = error.fault()?;
-            Ok(MetaTemplate(Vec::new(alloc)))
-        }
-    }
-}
+use std::alloc::{AllocError, Allocator};
+use test_rows::{AnyRows, Fields, rows};
 
 /// What is written of a text under the bindings of another.
 pub fn written<A: Allocator + Copy>(
@@ -39,7 +18,7 @@ pub fn written<A: Allocator + Copy>(
     bound: &str,
 ) -> Result<ExpandResult<TopSubtree<A>, A>, AllocError> {
     let template = trees_of(alloc, 0, template)?;
-    let template = template_of(alloc, &template)?;
+    let template = template_of(alloc, &template, Mode::Template)?;
     let bound = trees_of(alloc, 1, bound)?;
     let bindings = bindings_of(alloc, bound.iter())?;
     transcribe(
@@ -79,7 +58,7 @@ fn is_written<A: Allocator + Copy>(
 
 // Rows of a template and what its names are bound to; the trees that it writes, and what is reported, with the place.
 #[derive(Clone, Copy)]
-struct Writes;
+pub struct Writes;
 
 impl AnyRows for Writes {
     fn is_so<A: Allocator + Copy>(
@@ -91,7 +70,7 @@ impl AnyRows for Writes {
     }
 }
 
-const ROUNDS: &str = rows![
+pub const ROUNDS: &str = rows![
     (
         "$ ( $ { concat ( a , $ x ) } ) * end",
         "x ?",
@@ -152,7 +131,7 @@ const ROUNDS: &str = rows![
     ),
 ];
 
-const EXPRESSIONS: &str = rows![
+pub const EXPRESSIONS: &str = rows![
     (
         "$ ( $ { index ( ) } $ { len ( ) } $ x ) *",
         "x ( a b )",
@@ -233,7 +212,7 @@ const EXPRESSIONS: &str = rows![
     ("$ { concat ( a , $ x ) }", "x ?", "amissing!0.4.10", ""),
 ];
 
-const FRAGMENTS: &str = rows![
+pub const FRAGMENTS: &str = rows![
     ("$ y", "x a", "$@0.2 y@0.2", ""),
     ("$ x", "x +_", "+@1.2.4", ""),
     (
@@ -274,7 +253,7 @@ const FRAGMENTS: &str = rows![
     ("$ x", "x #", "{!0.2 }!0.2", ""),
 ];
 
-const FAULTS: &str = rows![
+pub const FAULTS: &str = rows![
     (
         "$ ( $ x ) ? end",
         "x ( ( a ) b )",
@@ -403,7 +382,7 @@ const FAULTS: &str = rows![
     ),
 ];
 
-const REFUSED: &str = rows![
+pub const REFUSED: &str = rows![
     ("$ ( $ x ) ;_ *", "x ( a b )", "a@1.4 ;_@0.10 b@1.6", ""),
     (
         "$ ( $ a $ b ) *",
@@ -413,37 +392,3 @@ const REFUSED: &str = rows![
     ),
     ("$ { concat ( $ x , _bar ) }", "x foo", "foo_bar!0.4.10", ""),
 ];
-
-// What is tested of the rows of each table.
-#[derive(Clone, Copy)]
-enum Kind {
-    Written,
-    Walked,
-}
-
-impl Rows for Kind {
-    fn is_so(&self, alloc: Global, fields: Fields) -> Result<bool, AllocError> {
-        match self {
-            Kind::Written => Writes.is_so(alloc, fields),
-            Kind::Walked => is_walked(alloc, fields),
-        }
-    }
-}
-
-static TABLES: [(Kind, &str, usize); 5] = [
-    (Kind::Written, ROUNDS, 18),
-    (Kind::Written, EXPRESSIONS, 18),
-    (Kind::Written, FRAGMENTS, 18),
-    (Kind::Written, FAULTS, 21),
-    (Kind::Walked, TEMPLATES, 9),
-];
-
-#[test]
-fn templates_write_what_their_rows_say(rt: HostRuntime) -> Result<(), Wrong> {
-    all(rt.alloc(), &TABLES)
-}
-
-#[test]
-fn each_request_for_memory_refused(rt: HostRuntime) -> Result<(), Wrong> {
-    each_refused(rt.alloc(), &Writes, (REFUSED, 3), (10, false))
-}

@@ -1,5 +1,5 @@
 use Rattle.std.proofs.Common.{◌≡◌, ◌+◌, length}
-use Rattle.mbe_transcriber_tests.proofs.trees.Trees.finish.Given as goal
+use Rattle.mbe_matching_tests.proofs.trees.Trees.finish.Given as goal
 
 abbrev pub invariant-groups : goal.invariant-groups
 invariant-groups g l = length l.builder ≡ length l.openings.items + 1

@@ -1,8 +1,8 @@
 use Rattle.std.proofs.Common.{ap, sym, ◌∙◌}
 use Rattle.std.specs.List.{slice_get}
 use Rattle.std.specs.Option.{option_copied}
-use Rattle.mbe_matcher_tests.proofs.FirstRule.{first_checked}
-use Rattle.mbe_matcher_tests.proofs.matches.matched.Goals as goal
+use Rattle.mbe_matching_tests.proofs.FirstRule.{first_checked}
+use Rattle.mbe_matching_tests.proofs.matches.matched.Goals as goal
 
 pub match_argument-requires : goal.match_argument-requires
 match_argument-requires g c =

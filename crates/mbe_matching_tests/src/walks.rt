@@ -1,8 +1,9 @@
 // What iterators over ops give: those of a whole template, and those of its groups and of its repetitions' bodies.
-use crate::rows::template_of;
+use crate::matches::template_of;
 use crate::trees::trees_of;
 use mbe_ops::ops::{MetaTemplate, Op};
 use mbe_ops::walk::{OpDelimited, OpDelimitedIter};
+use mbe_parser::parser::Mode;
 use mbe_tt::tt::{Delimiter, DelimiterKind};
 use std::alloc::{AllocError, Allocator, Global};
 use test_rows::{Fields, rows};
@@ -102,6 +103,6 @@ fn shown(alloc: Global, template: &MetaTemplate) -> Result<String, AllocError> {
 
 /// Whether each op comes once between the delimiters.
 pub fn is_walked(alloc: Global, [template, given, ..]: Fields) -> Result<bool, AllocError> {
-    let template = template_of(alloc, &trees_of(alloc, 0, template)?)?;
+    let template = template_of(alloc, &trees_of(alloc, 0, template)?, Mode::Template)?;
     Ok(shown(alloc, &template)?.as_str() == given)
 }

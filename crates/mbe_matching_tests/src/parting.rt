@@ -4,6 +4,7 @@ use crate::matches::{template_of, trees_of};
 use mbe_grammar::SampleGrammar;
 use mbe_matcher::wanting::Wanted;
 use mbe_ops::ops::Op;
+use mbe_parser::parser::Mode;
 use mbe_parting::parting::first_parting;
 use std::alloc::{AllocError, Allocator};
 use test_rows::{AnyRows, Fields, rows};
@@ -17,7 +18,7 @@ impl AnyRows for Partings {
         alloc: A,
         [pattern, argument, place, ..]: Fields,
     ) -> Result<bool, AllocError> {
-        let template = template_of(alloc, &trees_of(alloc, 0, pattern)?)?;
+        let template = template_of(alloc, &trees_of(alloc, 0, pattern)?, Mode::Pattern)?;
         let argument = trees_of(alloc, 1, argument)?;
         let trees = argument.iter().remaining();
         let found = first_parting(alloc, &SampleGrammar, &template, trees)?;
@@ -46,7 +47,7 @@ impl AnyRows for Ways {
         alloc: A,
         [pattern, argument, one, other, ..]: Fields,
     ) -> Result<bool, AllocError> {
-        let template = template_of(alloc, &trees_of(alloc, 0, pattern)?)?;
+        let template = template_of(alloc, &trees_of(alloc, 0, pattern)?, Mode::Pattern)?;
         let argument = trees_of(alloc, 1, argument)?;
         let trees = argument.iter().remaining();
         match first_parting(alloc, &SampleGrammar, &template, trees)? {

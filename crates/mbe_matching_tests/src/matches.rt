@@ -73,17 +73,13 @@ pub fn comes_to<A: Allocator>(outcome: Option<Outcome<A>>, verdict: &str, left: 
     }
 }
 
-/// A pattern. No pattern of a test has a fault.
+/// A pattern, or a template. None of a test has a fault.
 pub fn template_of<A: Allocator + Copy>(
     alloc: A,
-    pattern: &TopSubtree<A>,
+    trees: &TopSubtree<A>,
+    mode: Mode,
 ) -> Result<MetaTemplate<A>, AllocError> {
-    match parse_template(
-        alloc,
-        |_| Edition::Edition2024,
-        pattern.iter(),
-        Mode::Pattern,
-    ) {
+    match parse_template(alloc, |_| Edition::Edition2024, trees.iter(), mode) {
         Ok(template) => Ok(template),
         Err(_error) => Err(AllocError),
     }
@@ -93,7 +89,7 @@ pub fn template_of<A: Allocator + Copy>(
 fn rule_of<A: Allocator + Copy>(alloc: A, pattern: &TopSubtree<A>) -> Result<Rule<A>, AllocError> {
     Ok(Rule {
         style: MacroCallStyle::FnLike,
-        lhs: template_of(alloc, pattern)?,
+        lhs: template_of(alloc, pattern, Mode::Pattern)?,
         rhs: MetaTemplate(Vec::new(alloc)),
     })
 }
