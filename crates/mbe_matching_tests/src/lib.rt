@@ -1,11 +1,9 @@
-// Tests of what is between reading and writing: where definitions are refused; patterns and arguments of texts, what becomes of their
-// matches, and where two readings part; the binding log; templates under bindings that are made by hand.
+// Tests of what is between reading and writing: patterns and arguments of texts, what becomes of their matches, and where two readings
+// part; the binding log; templates under bindings that are made by hand.
 #![tactic(auto)]
 
 #[cfg(test)]
 mod bound;
-#[cfg(test)]
-mod faults;
 #[cfg(test)]
 mod grammar;
 #[cfg(test)]

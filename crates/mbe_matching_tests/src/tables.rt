@@ -1,10 +1,9 @@
 // All tables, and the requests for memory that are refused. The rows of the tables are beside what they are about.
-use crate::faults::{Faults, Parts};
 use crate::large::Large;
 use crate::parting::{Partings, Ways};
 use crate::rows::{Binds, Stops};
 use crate::templates::Writes;
-use crate::{faults, large, parting, rows, templates, walks};
+use crate::{large, parting, rows, templates, walks};
 use std::alloc::{AllocError, Global};
 use test_rows::{AnyRows, Fields, Rows, Wrong, all, each_refused};
 
@@ -15,9 +14,6 @@ enum Kind {
     Large,
     Parting,
     Ways,
-    Fault,
-    PartFault,
-    BetweenRules,
     Written,
     Walked,
 }
@@ -30,16 +26,13 @@ impl Rows for Kind {
             Kind::Large => Large.is_so(alloc, fields),
             Kind::Parting => Partings.is_so(alloc, fields),
             Kind::Ways => Ways.is_so(alloc, fields),
-            Kind::Fault => Faults.is_so(alloc, fields),
-            Kind::PartFault => Parts.is_so(alloc, fields),
-            Kind::BetweenRules => faults::is_between_rules(alloc, fields[0]),
             Kind::Written => Writes.is_so(alloc, fields),
             Kind::Walked => walks::is_walked(alloc, fields),
         }
     }
 }
 
-static TABLES: [(Kind, &str, usize); 22] = [
+static TABLES: [(Kind, &str, usize); 17] = [
     (Kind::Stops, rows::REPETITIONS, 13),
     (Kind::Stops, rows::AMBIGUITIES, 2),
     (Kind::Binds, rows::REPORTS, 4),
@@ -52,11 +45,6 @@ static TABLES: [(Kind, &str, usize); 22] = [
     (Kind::Parting, parting::DEAD_ENDS, 3),
     (Kind::Parting, parting::ONE_READING, 5),
     (Kind::Ways, parting::WAYS, 6),
-    (Kind::Fault, faults::FAULTS, 29),
-    (Kind::Fault, faults::EMPTY, 10),
-    (Kind::Fault, faults::READ, 7),
-    (Kind::PartFault, faults::PARTS, 5),
-    (Kind::BetweenRules, faults::ONE, 1),
     (Kind::Written, templates::ROUNDS, 18),
     (Kind::Written, templates::EXPRESSIONS, 18),
     (Kind::Written, templates::FRAGMENTS, 18),
@@ -65,9 +53,7 @@ static TABLES: [(Kind, &str, usize); 22] = [
 ];
 
 #[test]
-fn faults_matches_partings_and_templates_are_as_their_rows_say(
-    rt: HostRuntime,
-) -> Result<(), Wrong> {
+fn matches_partings_and_templates_are_as_their_rows_say(rt: HostRuntime) -> Result<(), Wrong> {
     all(rt.alloc(), &TABLES)
 }
 
