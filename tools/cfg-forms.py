@@ -46,7 +46,10 @@ def messages(lines):
 def main():
     differs = False
     said = messages(
-        [f'mod m{i} {{ {a} compile_error!("held"); }}' if a.startswith("#!") else f'{a} compile_error!("held");' for i, (a, _) in enumerate(HOLD)]
+        [
+            f'mod m{i} {{ {a} compile_error!("held"); }}' if a.startswith("#!") else f'{a} compile_error!("held");'
+            for i, (a, _) in enumerate(HOLD)
+        ]
     )
     for i, (attribute, want) in enumerate(HOLD):
         if said.get(i, []) != (["error: held"] if want else []):

@@ -6,7 +6,7 @@ use mbe_tt::grammar::PrefixEntryPoint;
 use mbe_tt::span::Edition;
 use mbe_tt::tt::DelimiterKind;
 use std::alloc::{AllocError, Global};
-use test_rows::rows;
+use test_rows::{Wrong, holds, rows};
 
 pub const SUM: usize = 0;
 
@@ -40,7 +40,7 @@ pub const NOTHING_AGAIN: usize = 14;
 
 const NOTHING: usize = 15;
 
-pub const MINUSES: usize = 16;
+const MINUSES: usize = 16;
 
 const MINUS: usize = 17;
 
@@ -54,9 +54,9 @@ pub const NO_NAME_NEXT: usize = 21;
 
 const NO_NAME: usize = 22;
 
-pub const ANY: usize = 23;
+const ANY: usize = 23;
 
-pub const NESTED: usize = 24;
+const NESTED: usize = 24;
 
 const ANGLE: usize = 25;
 
@@ -144,13 +144,8 @@ pub fn is_taken(
     takes(alloc, &table(rule, edition), PrefixEntryPoint::Expr, text)
 }
 
-/// Whether a rule takes so many of a million of a link, which are many more than `DEPTH`.
-pub fn is_link_taken(
-    alloc: Global,
-    rule: usize,
-    link: &str,
-    count: &str,
-) -> Result<bool, AllocError> {
+// Whether a rule takes so many flat tokens of a million of a link, which are many more than `DEPTH`.
+fn is_link_taken(alloc: Global, rule: usize, link: &str, count: &str) -> Result<bool, AllocError> {
     let text = link.repeat(alloc, 1_000_000)?;
     is_taken(alloc, rule, Edition::Edition2021, (text.as_str(), count))
 }
@@ -200,10 +195,18 @@ pub const GEN_SINCE_2024: &str = rows![("gen a", 1), ("r#gen", "fault"),];
 
 pub const SUMS_SINCE_2024: &str = rows![("gen", "fault"), ("r#gen", 1),];
 
-// Links, and how many flat tokens of a million of each are taken.
+// Each has a limit of time.
+#[test]
+fn many_prefixes(rt: HostRuntime) -> Result<(), Wrong> {
+    holds(is_link_taken(rt.alloc(), MINUSES, "-", "1000000"))
+}
 
-pub const PREFIXES: &str = rows![("-", 1000000)];
+#[test]
+fn many_angles(rt: HostRuntime) -> Result<(), Wrong> {
+    holds(is_link_taken(rt.alloc(), NESTED, "<", "fault"))
+}
 
-pub const ANGLES: &str = rows![("<", "fault")];
-
-pub const BRACES: &str = rows![("{", 2000000)];
+#[test]
+fn many_braces(rt: HostRuntime) -> Result<(), Wrong> {
+    holds(is_link_taken(rt.alloc(), ANY, "{", "2000000"))
+}

@@ -7,12 +7,11 @@ use mbe_tt::grammar::FragmentGrammar;
 use mbe_tt::span::Edition;
 use mbe_tt::span::Edition::{Edition2018, Edition2021, Edition2024};
 use std::alloc::{AllocError, Global};
-use test_rows::{Fields, Rows, Wrong, all, each, rows};
+use test_rows::{Fields, Rows, Wrong, all, rows};
 
 #[derive(Clone, Copy)]
 enum Kind {
     Taken(usize, Edition),
-    Link(usize),
     Nodes,
     Fault,
     Sum,
@@ -35,7 +34,6 @@ impl Rows for Kind {
     fn is_so(&self, alloc: Global, [text, want, ..]: Fields) -> Result<bool, AllocError> {
         match self {
             Kind::Taken(rule, edition) => rules::is_taken(alloc, *rule, *edition, (text, want)),
-            Kind::Link(rule) => rules::is_link_taken(alloc, *rule, text, want),
             Kind::Nodes => reading::has_nodes(alloc, text, want),
             Kind::Fault => reading::is_at_fault(alloc, text, want),
             Kind::Sum => reading::is_sum(alloc, text, want),
@@ -136,20 +134,4 @@ static TABLES: [(Kind, &str, usize); 34] = [
 #[test]
 fn texts_are_as_their_rows_say(rt: HostRuntime) -> Result<(), Wrong> {
     all(rt.alloc(), &TABLES)
-}
-
-// Each has a limit of time.
-#[test]
-fn many_prefixes(rt: HostRuntime) -> Result<(), Wrong> {
-    each(rt.alloc(), &Kind::Link(rules::MINUSES), rules::PREFIXES, 1)
-}
-
-#[test]
-fn many_angles(rt: HostRuntime) -> Result<(), Wrong> {
-    each(rt.alloc(), &Kind::Link(rules::NESTED), rules::ANGLES, 1)
-}
-
-#[test]
-fn many_braces(rt: HostRuntime) -> Result<(), Wrong> {
-    each(rt.alloc(), &Kind::Link(rules::ANY), rules::BRACES, 1)
 }
