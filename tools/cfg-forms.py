@@ -1,5 +1,5 @@
 #!/usr/bin/env python3
-"""Asks rustc of the attributes in crates/mbe_expanding_tests/src/cfg.rt: which hold, and what is wrong in which.
+"""Asks rustc of the attributes in tests/expandm/attributes.py: which hold, and what is wrong in which.
 
     tools/cfg-forms.py          prints each row on which rustc differs; nothing, and status 0, if there is none
 """
@@ -9,7 +9,9 @@ import subprocess
 import sys
 import tempfile
 
-ROWS = pathlib.Path(__file__).resolve().parent.parent / "crates/mbe_expanding_tests/src/cfg.rt"
+sys.dont_write_bytecode = True
+sys.path.insert(0, str(pathlib.Path(__file__).resolve().parent.parent / "tests"))
+from expandm.attributes import FAULTS, HOLD  # noqa: E402
 
 OPTIONS = ["--cfg", "yes", "--cfg", 'mode="fast"', "--cfg", 'feature="std"', "--target", "x86_64-unknown-linux-gnu"]
 
@@ -25,12 +27,6 @@ SAID = {
     "Suffix": ["suffixes on string literals are invalid"],
     "NoComma": ["expected one of", "expected `,`"],
 }
-
-STRING = r'"((?:[^"\\]|\\.)*)"'
-
-
-def text_of(literal):
-    return literal.replace('\\"', '"').replace("\\\\", "\\")
 
 
 def messages(lines):
@@ -48,23 +44,23 @@ def messages(lines):
 
 
 def main():
-    text = ROWS.read_text()
-    hold = [(text_of(a), b == "true") for a, b in re.findall(rf"\(\s*{STRING},\s*(true|false),?\s*\)", text)]
-    faults = [(text_of(a), w) for a, w in re.findall(rf"\(\s*{STRING},\s*\d+,\s*\"(\w+)\",?\s*\)", text)]
     differs = False
     said = messages(
-        [f'mod m{i} {{ {a} compile_error!("held"); }}' if a.startswith("#!") else f'{a} compile_error!("held");' for i, (a, _) in enumerate(hold)]
+        [
+            f'mod m{i} {{ {a} compile_error!("held"); }}' if a.startswith("#!") else f'{a} compile_error!("held");'
+            for i, (a, _) in enumerate(HOLD)
+        ]
     )
-    for i, (attribute, want) in enumerate(hold):
+    for i, (attribute, want) in enumerate(HOLD):
         if said.get(i, []) != (["error: held"] if want else []):
             differs = True
             print(f"{attribute}: {want} in the row, rustc says {said.get(i)}")
-    for attribute, wrong in faults:
+    for attribute, _, wrong in FAULTS:
         said = messages([f"{attribute} fn f() {{}}"]).get(0, [])
         if not any(word in message for word in SAID[wrong] for message in said):
             differs = True
             print(f"{attribute}: {wrong} in the row, rustc says {said}")
-    print(f"{len(hold)} attributes that are in order, {len(faults)} with faults", file=sys.stderr)
+    print(f"{len(HOLD)} attributes that are in order, {len(FAULTS)} with faults", file=sys.stderr)
     sys.exit(differs)
 
 

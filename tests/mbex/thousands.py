@@ -1,4 +1,4 @@
-"""Definitions and arguments of thousands of tokens, and fragments of a million."""
+"""Definitions and arguments of thousands of tokens."""
 from mbex import printed, prints, ran
 
 # So many times `a = 1 + 2;`, which is six tokens.
@@ -18,15 +18,6 @@ STATEMENT = (
 )
 
 NAMES = 1_250
-
-# Each pattern is a single fragment, which takes a million links and what follows them.
-CHAINS = (
-    ("($t:ty) => {}", "&", "x"),
-    ("($p:pat) => {}", "&", "x"),
-    ("($e:expr) => {}", "-", "x"),
-    ("($e:expr) => {}", "! ", "x"),
-    ("($e:expr) => {}", "break ", ""),
-)
 
 # A check that looked at each body twice from the repetition around it would never end; it may take so many seconds.
 LEVELS, SECONDS = 256, 6
@@ -56,14 +47,6 @@ def names(program):
     prints(program, "NAMES", NAMES, run, printed(argument, "", 0, trees))
 
 
-def chains(program):
-    """A million links are one fragment."""
-    for row in CHAINS:
-        definition, link, tail = row
-        argument = link * 1_000_000 + tail
-        prints(program, "CHAINS", row, ran(program, definition, argument), printed(argument, "", 0, ""))
-
-
 def levels(program):
     """Repetitions in one another that can be empty are refused at once."""
     run = ran(program, "(" + ("$(" + "$v:vis " * 100) * LEVELS + ")*" * LEVELS + ") => {}", "")
@@ -73,5 +56,4 @@ def levels(program):
 def test(program):
     statements(program)
     names(program)
-    chains(program)
     levels(program)

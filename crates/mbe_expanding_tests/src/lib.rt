@@ -1,11 +1,9 @@
 // The tests of what is around an expansion: calls and definitions at the front of trees, texts with parts replaced, trees as Rust
-// text, what `cfg` holds, what is left out by it, the files of modules, new names for locals, and messages on parts of files.
+// text, what is left out by a `cfg`, the files of modules, new names for locals, and messages on parts of files.
 #![tactic(auto)]
 
 #[cfg(test)]
 mod carets;
-#[cfg(test)]
-mod cfg;
 #[cfg(test)]
 mod following;
 #[cfg(test)]
@@ -15,8 +13,6 @@ mod including;
 #[cfg(test)]
 mod modules;
 #[cfg(test)]
-mod objects;
-#[cfg(test)]
 mod renaming;
 #[cfg(test)]
 mod splicing;
@@ -24,8 +20,6 @@ mod splicing;
 mod stripping;
 #[cfg(test)]
 mod tables;
-#[cfg(test)]
-mod targets;
 #[cfg(test)]
 mod texts;
 #[cfg(test)]

@@ -4,8 +4,7 @@ use crate::following::Crates;
 use crate::texts::RUST;
 use crate::writing::Written;
 use crate::{
-    carets, cfg, following, fronts, including, modules, renaming, splicing, stripping, targets,
-    writing,
+    carets, following, fronts, including, modules, renaming, splicing, stripping, writing,
 };
 use mbe_text::dialect::Dialect;
 use std::alloc::{AllocError, Global};
@@ -75,14 +74,9 @@ fn trees_are_written_and_found(rt: HostRuntime) -> Result<(), Wrong> {
     all(rt.alloc(), &TREES)
 }
 
-// What is tested of options, modules and files.
+// What is tested of what is left out, of modules and of files.
 #[derive(Clone, Copy)]
 enum Crate {
-    Holding,
-    Faulted,
-    Deep,
-    Options,
-    Given,
     Stays,
     Left,
     Followed,
@@ -93,13 +87,7 @@ enum Crate {
 
 impl Rows for Crate {
     fn is_so(&self, alloc: Global, fields: Fields) -> Result<bool, AllocError> {
-        let [one, two, three, four, ..] = fields;
         match self {
-            Crate::Holding => cfg::Holding.is_so(alloc, fields),
-            Crate::Faulted => cfg::Faulted.is_so(alloc, fields),
-            Crate::Deep => cfg::are_deep(alloc),
-            Crate::Options => Ok(targets::has_options(one, two, three, four)),
-            Crate::Given => Ok(targets::are_given()),
             Crate::Stays => stripping::Stays.is_so(alloc, fields),
             Crate::Left => stripping::are_left(alloc),
             Crate::Followed => Crates.is_so(alloc, fields),
@@ -110,12 +98,7 @@ impl Rows for Crate {
     }
 }
 
-static CRATES: [(Crate, &str, usize); 13] = [
-    (Crate::Holding, cfg::HOLD, 46),
-    (Crate::Faulted, cfg::FAULTS, 35),
-    (Crate::Deep, rows![("predicates are so deep at most")], 1),
-    (Crate::Options, targets::TARGETS, 5),
-    (Crate::Given, rows![("features and tests")], 1),
+static CRATES: [(Crate, &str, usize); 8] = [
     (Crate::Stays, stripping::ROWS, 38),
     (Crate::Left, rows![("faults leave what they are on")], 1),
     (Crate::Followed, following::ROWS, 24),
@@ -127,6 +110,6 @@ static CRATES: [(Crate, &str, usize); 13] = [
 ];
 
 #[test]
-fn crates_have_these_options_and_files(rt: HostRuntime) -> Result<(), Wrong> {
+fn crates_have_these_trees_and_files(rt: HostRuntime) -> Result<(), Wrong> {
     all(rt.alloc(), &CRATES)
 }

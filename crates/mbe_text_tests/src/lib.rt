@@ -1,20 +1,7 @@
 // The tests of `mbe_tt` and `mbe_text`, and of grammars: of `mbe_grammar`, which is written by hand, and of tables (`mbe_rules`,
-// `mbe_rules_text`, `mbe_rust`), all through their public calls. What a text of Rust takes is as rustc 1.95 says, and the Rust
-// Reference.
+// `mbe_rules_text`, `mbe_rust`), all through their public calls, where no program shows it.
 #![tactic(auto)]
 
-#[cfg(test)]
-mod chains;
-#[cfg(test)]
-mod editions;
-#[cfg(test)]
-mod forms;
-#[cfg(test)]
-mod fragments;
-#[cfg(test)]
-mod keywords;
-#[cfg(test)]
-mod kinds;
 #[cfg(test)]
 mod lexing;
 pub mod one_token;
@@ -23,9 +10,13 @@ mod printing;
 #[cfg(test)]
 mod reading;
 #[cfg(test)]
+mod rules;
+#[cfg(test)]
 mod rust;
 #[cfg(test)]
 mod rust_rows;
+#[cfg(test)]
+mod sample;
 #[cfg(test)]
 mod symbols;
 #[cfg(test)]

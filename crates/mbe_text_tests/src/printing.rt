@@ -1,11 +1,11 @@
 // The lines of trees, to a writer that takes few bytes at once, or fails.
-use crate::lexing::trees;
+use crate::taking::trees;
 use mbe_text::printing::print_tree;
 use mbe_tt::tt::TopSubtree;
 use std::alloc::{AllocError, Global};
 use std::io;
 use std::io::Write;
-use test_rows::{Fields, Rows, Wrong, each, holds, rows};
+use test_rows::rows;
 
 // Every other call is interrupted. The others take at most seven bytes, and fail once there is no room.
 #[derive(Drop)]
@@ -53,29 +53,19 @@ fn is_written(alloc: Global, tree: &TopSubtree, want: &[u8], room: usize) -> boo
 // The room of the writers: none, about that of a line that is written at once, and enough.
 static ROOMS: [usize; 11] = [0, 1, 2, 40, 127, 128, 129, 255, 256, 300, 100_000];
 
-fn is_printed(alloc: Global, text: &str, want: &str) -> bool {
-    let Ok(tree) = trees(alloc, text) else {
-        return false;
-    };
+/// Whether these lines are written of a text, whatever room there is.
+pub fn is_printed(alloc: Global, text: &str, want: &str) -> Result<bool, AllocError> {
+    let tree = trees(alloc, text)?;
     for room in &ROOMS {
         if !is_written(alloc, &tree, want.as_bytes(), *room) {
-            return false;
+            return Ok(false);
         }
     }
-    true
-}
-
-#[derive(Clone, Copy)]
-struct Lines;
-
-impl Rows for Lines {
-    fn is_so(&self, alloc: Global, [text, want, ..]: Fields) -> Result<bool, AllocError> {
-        Ok(is_printed(alloc, text, want))
-    }
+    Ok(true)
 }
 
 // Texts with their lines. Lines of 127, 128 and 129 bytes are among them, and an identifier and a string of more.
-const PRINTED: &str = rows![
+pub const PRINTED: &str = rows![
     ("", "SUBTREE $$ 0@0..0 0@0..0\n"),
     (
         "'a(é)",
@@ -112,11 +102,6 @@ const PRINTED: &str = rows![
     ),
 ];
 
-#[test]
-fn trees_have_their_lines(rt: HostRuntime) -> Result<(), Wrong> {
-    each(rt.alloc(), &Lines, PRINTED, 6)
-}
-
 // The lines of seventy groups, each in the one before.
 fn push_groups(want: &mut String) -> Result<(), AllocError> {
     want.push_str("SUBTREE $$ 0@0..70 0@0..70\n")?;
@@ -129,15 +114,10 @@ fn push_groups(want: &mut String) -> Result<(), AllocError> {
     Ok(())
 }
 
-fn is_indented(alloc: Global) -> Result<bool, AllocError> {
+/// Whether two spaces are written for each group around, of which seventy are more than a line has at once.
+pub fn is_indented(alloc: Global) -> Result<bool, AllocError> {
     let text = "[".repeat(alloc, 70)?;
     let mut want = String::new(alloc);
     push_groups(&mut want)?;
-    Ok(is_printed(alloc, text.as_str(), want.as_str()))
-}
-
-// Two spaces for each group around, of which seventy are more than a line has at once.
-#[test]
-fn groups_are_indented(rt: HostRuntime) -> Result<(), Wrong> {
-    holds(is_indented(rt.alloc()))
+    is_printed(alloc, text.as_str(), want.as_str())
 }

@@ -1,152 +1,72 @@
 // Tables that are read from texts, and where a text is no grammar.
 use crate::taking::takes;
-use mbe_rules::node::{Node, Terminal};
+use mbe_rules::node::Node;
 use mbe_rules_text::fault::RuleFault;
 use mbe_rules_text::rules::Rules;
 use mbe_tt::grammar::{FragmentGrammar, PrefixEntryPoint};
 use mbe_tt::span::Edition;
-use mbe_tt::tt::DelimiterKind;
 use std::alloc::{AllocError, Global};
-use test_rows::{Fields, Rows as Tested, Wrong, each, holds, none, rows};
+use test_rows::rows;
 
 // Texts, and their nodes: first those of the rules' names.
-static NODES: [(&str, &[Node<'static>]); 13] = [
-    ("", &[]),
-    ("# nothing", &[]),
-    ("a = NAME", &[Node::Part(1), Node::Terminal(Terminal::Name)]),
+pub const NODES: &str = rows![
+    ("", "[]"),
+    ("# nothing", "[]"),
+    ("a = NAME", "[Part(1), Terminal(Name)]"),
     (
         "a = b b b = IDENT",
-        &[
-            Node::Part(4),
-            Node::Part(5),
-            Node::Part(1),
-            Node::Part(1),
-            Node::Then(2, 3),
-            Node::Terminal(Terminal::Identifier),
-        ],
+        "[Part(4), Part(5), Part(1), Part(1), Then(2, 3), Terminal(Identifier)]"
     ),
     (
         "a = \"x\" | '->' | `<`",
-        &[
-            Node::Part(5),
-            Node::Terminal(Terminal::Word("x")),
-            Node::Terminal(Terminal::Operator("->")),
-            Node::Or(1, 2),
-            Node::Terminal(Terminal::Sign('<')),
-            Node::Or(3, 4),
-        ],
+        "[Part(5), Terminal(Word(\"x\")), Terminal(Operator(\"->\")), Or(1, 2), Terminal(Sign('<')), Or(3, 4)]"
     ),
     (
         "a = ANY? END*",
-        &[
-            Node::Part(5),
-            Node::Terminal(Terminal::Any),
-            Node::Maybe(1),
-            Node::Terminal(Terminal::End),
-            Node::Repeated(3),
-            Node::Then(2, 4),
-        ],
+        "[Part(5), Terminal(Any), Maybe(1), Terminal(End), Repeated(3), Then(2, 4)]"
     ),
     (
         "a = LITERAL+",
-        &[
-            Node::Part(3),
-            Node::Terminal(Terminal::Literal),
-            Node::Repeated(1),
-            Node::Then(1, 2),
-        ],
+        "[Part(3), Terminal(Literal), Repeated(1), Then(1, 2)]"
     ),
-    (
-        "a = POINTED",
-        &[Node::Part(1), Node::Terminal(Terminal::Pointed)],
-    ),
+    ("a = POINTED", "[Part(1), Terminal(Pointed)]"),
     (
         "a = &a ~a! a",
-        &[
-            Node::Part(8),
-            Node::Part(0),
-            Node::Ahead(1),
-            Node::Part(0),
-            Node::Needed(3),
-            Node::NotAhead(4),
-            Node::Then(2, 5),
-            Node::Part(0),
-            Node::Then(6, 7),
-        ],
+        "[Part(8), Part(0), Ahead(1), Part(0), Needed(3), NotAhead(4), Then(2, 5), Part(0), Then(6, 7)]"
     ),
     (
         "a = (a | b) b\nb = PAREN",
-        &[
-            Node::Part(7),
-            Node::Part(8),
-            Node::Part(0),
-            Node::Part(1),
-            Node::Or(2, 3),
-            Node::Part(4),
-            Node::Part(1),
-            Node::Then(5, 6),
-            Node::Terminal(Terminal::Group(&[DelimiterKind::Parenthesis])),
-        ],
+        "[Part(7), Part(8), Part(0), Part(1), Or(2, 3), Part(4), Part(1), Then(5, 6), Terminal(Group([Parenthesis]))]"
     ),
     (
         "a = PAREN[a] # BRACE[b]",
-        &[
-            Node::Part(2),
-            Node::Part(0),
-            Node::Inside(DelimiterKind::Parenthesis, 1),
-        ],
+        "[Part(2), Part(0), Inside(Parenthesis, 1)]"
     ),
     (
         "a=BRACKET[`#`\n]|VISIBLE",
-        &[
-            Node::Part(4),
-            Node::Terminal(Terminal::Sign('#')),
-            Node::Inside(DelimiterKind::Bracket, 1),
-            Node::Terminal(Terminal::Group(&[
-                DelimiterKind::Parenthesis,
-                DelimiterKind::Brace,
-                DelimiterKind::Bracket,
-            ])),
-            Node::Or(2, 3),
-        ],
+        "[Part(4), Terminal(Sign('#')), Inside(Bracket, 1), Terminal(Group([Parenthesis, Brace, Bracket])), Or(2, 3)]"
     ),
     (
         "a = SINCE_2024 (BRACE)!",
-        &[
-            Node::Part(5),
-            Node::Terminal(Terminal::Since(Edition::Edition2024)),
-            Node::Terminal(Terminal::Group(&[DelimiterKind::Brace])),
-            Node::Part(2),
-            Node::Needed(3),
-            Node::Then(1, 4),
-        ],
+        "[Part(5), Terminal(Since(Edition2024)), Terminal(Group([Brace])), Part(2), Needed(3), Then(1, 4)]"
     ),
 ];
 
-// The first text that isn't read as its nodes.
-fn first_unlike(alloc: Global) -> Option<&'static str> {
-    for (text, nodes) in &NODES {
-        if !has_nodes(alloc, text, nodes) {
-            return Some(text);
-        }
-    }
-    None
-}
-
-fn has_nodes(alloc: Global, text: &str, nodes: &[Node<'_>]) -> bool {
+/// Whether a text is read as these nodes.
+pub fn has_nodes(alloc: Global, text: &str, want: &str) -> Result<bool, AllocError> {
     match Rules::read(alloc, text) {
-        Ok(rules) => rules.table(Edition::Edition2021, &[]).nodes == nodes,
-        Err(_) => false,
+        Ok(rules) => is_debug(alloc, rules.table(Edition::Edition2021, &[]).nodes, want),
+        Err(_) => Ok(false),
     }
 }
 
-#[test]
-fn texts_are_tables(rt: HostRuntime) -> Result<(), Wrong> {
-    none(first_unlike(rt.alloc()))
+fn is_debug(alloc: Global, nodes: &[Node<'_>], want: &str) -> Result<bool, AllocError> {
+    let text = format!(in alloc; "{nodes:?}")?;
+    Ok(text.as_str() == want)
 }
 
 // Texts that are no grammar, with the place and the reason.
-const FAULTS: &str = rows![
+pub const FAULTS: &str = rows![
     ("a = NAME\n\nb = type", "3:5: no rule is named \"type\""),
     ("a = (é | type)", "1:6: no word of a grammar begins here"),
     ("a = \"é\" | type", "1:11: no rule is named \"type\""),
@@ -180,15 +100,11 @@ const FAULTS: &str = rows![
     ("ty = tie\n\ntie = type", "3:7: no rule is named \"type\""),
 ];
 
-#[derive(Clone, Copy)]
-struct Faults;
-
-impl Tested for Faults {
-    fn is_so(&self, alloc: Global, [text, want, ..]: Fields) -> Result<bool, AllocError> {
-        match Rules::read(alloc, text) {
-            Ok(_) => Ok(false),
-            Err(fault) => is_shown(alloc, fault, want),
-        }
+/// Whether that is shown of the fault of a text.
+pub fn is_at_fault(alloc: Global, text: &str, want: &str) -> Result<bool, AllocError> {
+    match Rules::read(alloc, text) {
+        Ok(_) => Ok(false),
+        Err(fault) => is_shown(alloc, fault, want),
     }
 }
 
@@ -202,11 +118,6 @@ fn is_shown(alloc: Global, fault: RuleFault<'_>, want: &str) -> Result<bool, All
     Ok(message.as_str().strip_prefix("grammar.txt:") == Some(want))
 }
 
-#[test]
-fn faults_have_places(rt: HostRuntime) -> Result<(), Wrong> {
-    each(rt.alloc(), &Faults, FAULTS, 25)
-}
-
 // A grammar of sums, whose operands are names, literals and sums in parentheses.
 const SUMS: &str = "
     # What `$e:expr` takes.
@@ -216,41 +127,33 @@ const SUMS: &str = "
     KEYWORDS_2024 = \"gen\"
 ";
 
-// Texts, and how many flat tokens the grammar takes of each; none is a fault.
-static TAKEN: [(&str, Option<usize>); 8] = [
-    ("a", Some(1)),
-    ("a + 1 b", Some(3)),
-    ("(a + b) + c;", Some(7)),
-    ("(a b)", None),
-    ("a +", None),
-    ("let", None),
-    ("r#let", Some(1)),
-    ("gen", Some(1)),
+// Texts, and how many flat tokens the grammar takes of each.
+pub const TAKEN: &str = rows![
+    ("a", 1),
+    ("a + 1 b", 3),
+    ("(a + b) + c;", 7),
+    ("(a b)", "fault"),
+    ("a +", "fault"),
+    ("let", "fault"),
+    ("r#let", 1),
+    ("gen", 1),
 ];
 
-// The first text of which another part is a sum.
-fn first_wrong(alloc: Global, rules: &Rules<'_>) -> Option<&'static str> {
+/// Whether a text has so many flat tokens at its front that are a sum.
+pub fn is_sum(alloc: Global, text: &str, count: &str) -> Result<bool, AllocError> {
+    let Ok(rules) = Rules::read(alloc, SUMS) else {
+        return Ok(false);
+    };
     let table = rules.table(Edition::Edition2021, &[]);
-    for &(text, want) in &TAKEN {
-        if !takes(alloc, &table, PrefixEntryPoint::Expr, text, want).unwrap_or(false) {
-            return Some(text);
-        }
-    }
-    None
+    takes(alloc, &table, PrefixEntryPoint::Expr, (text, count))
 }
 
-// In 2024 `gen` is a keyword; no rule is for types.
-fn has_keywords(alloc: Global, rules: &Rules<'_>) -> Result<bool, AllocError> {
+/// Whether `gen` is a keyword in 2024, and no rule is for types.
+pub fn has_keywords(alloc: Global) -> Result<bool, AllocError> {
+    let Ok(rules) = Rules::read(alloc, SUMS) else {
+        return Ok(false);
+    };
     let table = rules.table(Edition::Edition2024, &[]);
     let is_so = table.is_keyword("gen") && !table.is_keyword("r#gen");
-    Ok(is_so && takes(alloc, &table, PrefixEntryPoint::Ty, "a", None)?)
-}
-
-#[test]
-fn a_grammar_of_sums(rt: HostRuntime) -> Result<(), Wrong> {
-    let Ok(rules) = Rules::read(rt.alloc(), SUMS) else {
-        return Err(Wrong("no grammar"));
-    };
-    none(first_wrong(rt.alloc(), &rules))?;
-    holds(has_keywords(rt.alloc(), &rules))
+    Ok(is_so && takes(alloc, &table, PrefixEntryPoint::Ty, ("a", "fault"))?)
 }

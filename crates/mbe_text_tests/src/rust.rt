@@ -1,13 +1,11 @@
 // The tokens of whole Rust: texts with what rustc makes of them, or its message and the byte at fault.
-use crate::rust_rows::{COUNT_2018, COUNT_2021, COUNT_2024, RANDOM_2018, RANDOM_2021, RANDOM_2024};
 use mbe_text::dialect::Dialect;
 use mbe_text::lexer::{LexError, lex_as};
 use mbe_text::scanner::LexFault;
 use mbe_tt::span::Edition;
-use mbe_tt::span::Edition::{Edition2018, Edition2021, Edition2024};
 use mbe_tt::tt::{DelimiterKind, Leaf, Punct, Spacing, TopSubtree, TtElement};
 use std::alloc::{AllocError, Global};
-use test_rows::{Fields, Rows, Wrong, each, rows};
+use test_rows::rows;
 
 fn push_punct(punct: &Punct, line: &mut String) -> Result<(), AllocError> {
     match punct.spacing {
@@ -67,17 +65,44 @@ fn shown(alloc: Global, edition: Edition, text: &str) -> Result<String, AllocErr
     Ok(line)
 }
 
-// Texts of an edition, and what is shown of them.
-#[derive(Clone, Copy)]
-struct Texts(Edition);
-
-impl Rows for Texts {
-    fn is_so(&self, alloc: Global, [text, want, ..]: Fields) -> Result<bool, AllocError> {
-        Ok(shown(alloc, self.0, text)?.as_str() == want)
-    }
+/// Whether just that is shown of a text.
+pub fn is_shown(
+    alloc: Global,
+    edition: Edition,
+    text: &str,
+    want: &str,
+) -> Result<bool, AllocError> {
+    Ok(shown(alloc, edition, text)?.as_str() == want)
 }
 
-const ROWS_2021: &str = rows![
+// Whether the line without its white space is that.
+fn is_squeezed(line: &str, want: &str) -> bool {
+    let mut left = want.chars();
+    for char in line.chars() {
+        if !char.is_whitespace() && left.next() != Some(char) {
+            return false;
+        }
+    }
+    left.next().is_none()
+}
+
+/// Whether that is what rustc makes of a text: `ok` before its tokens without white space, or a fault.
+pub fn is_as_rustc(
+    alloc: Global,
+    edition: Edition,
+    text: &str,
+    want: &str,
+) -> Result<bool, AllocError> {
+    let line = shown(alloc, edition, text)?;
+    Ok(match want.strip_prefix("ok ") {
+        Some(tokens) => is_squeezed(line.as_str(), tokens),
+        None => line.as_str() == want,
+    })
+}
+
+// Texts of an edition, and what is shown of them.
+
+pub const ROWS_2021: &str = rows![
     ("1em", "expected at least one digit in exponent at 0"),
     ("1e+", "expected at least one digit in exponent at 0"),
     ("1e_", "expected at least one digit in exponent at 0"),
@@ -154,7 +179,7 @@ const ROWS_2021: &str = rows![
     ("\u{feff}a", "a "),
 ];
 
-const ROWS_2018: &str = rows![
+pub const ROWS_2018: &str = rows![
     (
         "k#x z\"x\" c\"x\" cr#\"x\"#",
         "k # x z \"x\" c \"x\" cr # \"x\" # "
@@ -162,62 +187,8 @@ const ROWS_2018: &str = rows![
     ("'r#foo", "'r # foo "),
 ];
 
-const ROWS_2024: &str = rows![
+pub const ROWS_2024: &str = rows![
     ("#\"x\"#", "invalid string literal at 0"),
     ("##", "reserved multi-hash token is forbidden at 0"),
     ("###\"x\"###", "invalid string literal at 0"),
 ];
-
-static TABLES: [(Edition, &str, usize); 3] = [
-    (Edition2021, ROWS_2021, 56),
-    (Edition2018, ROWS_2018, 2),
-    (Edition2024, ROWS_2024, 3),
-];
-
-#[test]
-fn texts_have_the_tokens_of_rust(rt: HostRuntime) -> Result<(), Wrong> {
-    for &(edition, rows, count) in &TABLES {
-        each(rt.alloc(), &Texts(edition), rows, count)?;
-    }
-    Ok(())
-}
-
-// Whether the line without its white space is that.
-fn is_squeezed(line: &str, want: &str) -> bool {
-    let mut left = want.chars();
-    for char in line.chars() {
-        if !char.is_whitespace() && left.next() != Some(char) {
-            return false;
-        }
-    }
-    left.next().is_none()
-}
-
-// What rustc makes of texts of an edition: `ok` before their tokens without white space, or a fault.
-#[derive(Clone, Copy)]
-struct Random(Edition);
-
-impl Rows for Random {
-    fn is_so(&self, alloc: Global, [text, want, ..]: Fields) -> Result<bool, AllocError> {
-        let line = shown(alloc, self.0, text)?;
-        Ok(match want.strip_prefix("ok ") {
-            Some(tokens) => is_squeezed(line.as_str(), tokens),
-            None => line.as_str() == want,
-        })
-    }
-}
-
-#[test]
-fn random_texts_of_2018(rt: HostRuntime) -> Result<(), Wrong> {
-    each(rt.alloc(), &Random(Edition2018), RANDOM_2018, COUNT_2018)
-}
-
-#[test]
-fn random_texts_of_2021(rt: HostRuntime) -> Result<(), Wrong> {
-    each(rt.alloc(), &Random(Edition2021), RANDOM_2021, COUNT_2021)
-}
-
-#[test]
-fn random_texts_of_2024(rt: HostRuntime) -> Result<(), Wrong> {
-    each(rt.alloc(), &Random(Edition2024), RANDOM_2024, COUNT_2024)
-}

@@ -1,12 +1,11 @@
 // The table of symbols: texts that it has and has not, many of them, and requests for memory that are refused. Texts of at most 14
 // bytes are in the symbols themselves; the others are shared.
-use crate::lexing::trees;
+use crate::taking::trees;
 use mbe_text::lexer::{LexError, lex_in};
 use mbe_text::symbols::SymbolTable;
 use mbe_tt::tt::TopSubtree;
 use refusing::Refusing;
 use std::alloc::{AllocError, Allocator, Global};
-use test_rows::{Wrong, holds};
 
 // So many texts that the slots are made anew several times.
 const COUNT: usize = 300;
@@ -34,7 +33,8 @@ fn has_all(alloc: Global, table: &mut SymbolTable) -> bool {
     true
 }
 
-fn are_apart(alloc: Global) -> bool {
+/// Whether each text has a symbol of its own.
+pub fn are_apart(alloc: Global) -> bool {
     let mut table = SymbolTable::new(alloc);
     has(&mut table, "")
         && has(&mut table, "fourteen_bytes")
@@ -43,11 +43,6 @@ fn are_apart(alloc: Global) -> bool {
         && has_all(alloc, &mut table)
         && has(&mut table, "of_fifteen_byte")
         && has(&mut table, "")
-}
-
-#[test]
-fn each_text_has_a_symbol_of_its_own(rt: HostRuntime) -> Result<(), Wrong> {
-    holds(Ok(are_apart(rt.alloc())))
 }
 
 // The trees of a text that isn't long, by the table.
@@ -75,7 +70,8 @@ static TEXTS: [&str; 5] = [
     "a b a_name_of_many_letters \"a text of many letters\" 1u8",
 ];
 
-fn are_same(alloc: Global) -> bool {
+/// Whether texts have the same trees by one table for all of them.
+pub fn are_same(alloc: Global) -> bool {
     let mut table = SymbolTable::new(alloc);
     for text in &TEXTS {
         if !is_same(alloc, &mut table, text) {
@@ -83,11 +79,6 @@ fn are_same(alloc: Global) -> bool {
         }
     }
     true
-}
-
-#[test]
-fn one_table_for_many_texts(rt: HostRuntime) -> Result<(), Wrong> {
-    holds(Ok(are_same(rt.alloc())))
 }
 
 // Whether memory is there for the first text. Then the same text takes none, and another one does.
@@ -102,19 +93,14 @@ fn takes_none(alloc: &Refusing<Global>) -> Option<bool> {
     )
 }
 
-// The first refused request that lies after those of the first text.
-fn is_kept(global: Global) -> bool {
+/// Whether a text that the table has takes no memory, by the first refused request that lies after those of the first text.
+pub fn is_kept(global: Global) -> bool {
     for number in 1..100 {
         if let Some(is_so) = takes_none(&Refusing::new(global, number)) {
             return is_so;
         }
     }
     false
-}
-
-#[test]
-fn a_text_that_the_table_has_takes_no_memory(rt: HostRuntime) -> Result<(), Wrong> {
-    holds(Ok(is_kept(rt.alloc())))
 }
 
 // Asks for so many texts, each until there is memory, and says whether each symbol has its text.
@@ -154,31 +140,21 @@ fn requests(global: Global, names: &[String]) -> Option<u64> {
     None
 }
 
-// Two requests for each symbol at least.
-fn stays_right(alloc: Global) -> bool {
+/// Whether a refusal leaves the table right: each request is refused in turn, those for more slots
+/// among them, and the table is used on. There are two requests for each symbol at least.
+pub fn stays_right(alloc: Global) -> bool {
     match names(alloc) {
         Ok(names) => requests(alloc, names.as_slice()).unwrap_or(0) > 140,
         Err(AllocError) => false,
     }
 }
 
-// Each request is refused in turn, those for more slots among them, and the table is used on.
-#[test]
-fn a_refusal_leaves_the_table_right(rt: HostRuntime) -> Result<(), Wrong> {
-    holds(Ok(stays_right(rt.alloc())))
-}
-
-// Whether a short text takes no memory, and a longer one does.
-fn are_short(global: Global) -> bool {
+/// Whether a short text takes no memory, and a longer one does.
+pub fn are_short(global: Global) -> bool {
     let alloc = Refusing::new(global, 1);
     let mut table = SymbolTable::new(&alloc);
     has(&mut table, "")
         && has(&mut table, "fourteen_bytes")
         && !alloc.has_refused()
         && found(&mut table, "of_fifteen_byte").is_none()
-}
-
-#[test]
-fn a_short_text_takes_no_memory(rt: HostRuntime) -> Result<(), Wrong> {
-    holds(Ok(are_short(rt.alloc())))
 }

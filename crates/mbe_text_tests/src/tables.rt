@@ -1,235 +1,137 @@
-// What the rules of a small table take of texts, and that no table and no text is too much.
-use crate::taking::takes;
-use mbe_rules::node::{Keyword, Node, Terminal};
-use mbe_rules::table::{RuleTable, Starts};
-use mbe_tt::grammar::PrefixEntryPoint;
+// All tables but those of trees. The rows are beside what they are about.
+use crate::rust::{ROWS_2018, ROWS_2021, ROWS_2024};
+use crate::rust_rows::{COUNT_2018, COUNT_2021, COUNT_2024, RANDOM_2018, RANDOM_2021, RANDOM_2024};
+use crate::{lexing, printing, reading, rules, rust, sample, symbols, taking};
+use mbe_grammar::SampleGrammar;
+use mbe_tt::grammar::FragmentGrammar;
 use mbe_tt::span::Edition;
-use mbe_tt::tt::DelimiterKind;
+use mbe_tt::span::Edition::{Edition2018, Edition2021, Edition2024};
 use std::alloc::{AllocError, Global};
-use test_rows::{Wrong, none};
+use test_rows::{Fields, Rows, Wrong, all, rows};
 
-const SUM: usize = 0;
-
-const TERM: usize = 1;
-
-const MORE: usize = 2;
-
-const NAME: usize = 3;
-
-const LITERAL: usize = 4;
-
-const PLUS_TERM: usize = 5;
-
-const PLUS: usize = 6;
-
-const TERM_NEEDED: usize = 7;
-
-const LEFT: usize = 8;
-
-const LEFT_FIRST: usize = 9;
-
-const GEN: usize = 10;
-
-const SINCE_2024: usize = 11;
-
-const GEN_WORD: usize = 12;
-
-const IN_PARENTHESES: usize = 13;
-
-const NOTHING_AGAIN: usize = 14;
-
-const NOTHING: usize = 15;
-
-const MINUSES: usize = 16;
-
-const MINUS: usize = 17;
-
-const NOWHERE: usize = 18;
-
-const ITSELF: usize = 19;
-
-const ARROW: usize = 20;
-
-const NO_NAME_NEXT: usize = 21;
-
-const NO_NAME: usize = 22;
-
-const ANY: usize = 23;
-
-const NESTED: usize = 24;
-
-const ANGLE: usize = 25;
-
-const ANGLE_REST: usize = 26;
-
-const LESS: usize = 27;
-
-const NESTED_MAYBE: usize = 28;
-
-const POINTED: usize = 29;
-
-static NODES: [Node<'static>; 30] = [
-    Node::Then(TERM, MORE),
-    Node::Or(NAME, LITERAL),
-    Node::Repeated(PLUS_TERM),
-    Node::Terminal(Terminal::Name),
-    Node::Terminal(Terminal::Literal),
-    Node::Then(PLUS, TERM_NEEDED),
-    Node::Terminal(Terminal::Sign('+')),
-    Node::Needed(TERM),
-    Node::Or(LEFT_FIRST, NAME),
-    Node::Then(LEFT, PLUS),
-    Node::Then(SINCE_2024, GEN_WORD),
-    Node::Terminal(Terminal::Since(Edition::Edition2024)),
-    Node::Terminal(Terminal::Word("gen")),
-    Node::Inside(DelimiterKind::Parenthesis, SUM),
-    Node::Repeated(NOTHING),
-    Node::Maybe(PLUS),
-    Node::Repeated(MINUS),
-    Node::Terminal(Terminal::Sign('-')),
-    Node::Part(1_000_000),
-    Node::Part(ITSELF),
-    Node::Terminal(Terminal::Operators(&["->", "=>"])),
-    Node::Then(NO_NAME, ANY),
-    Node::NotAhead(NAME),
-    Node::Terminal(Terminal::Any),
-    Node::Or(ANGLE, NAME),
-    Node::Then(LESS, ANGLE_REST),
-    Node::Part(NESTED_MAYBE),
-    Node::Terminal(Terminal::Sign('<')),
-    Node::Maybe(NESTED),
-    Node::Terminal(Terminal::Pointed),
-];
-
-static KEYWORDS: [Keyword<'static>; 2] = [
-    Keyword {
-        text: "let",
-        since: Edition::Edition2015,
-    },
-    Keyword {
-        text: "gen",
-        since: Edition::Edition2024,
-    },
-];
-
-// The table whose expressions and visibilities begin with a rule.
-fn table(rule: usize, edition: Edition) -> RuleTable<'static> {
-    RuleTable {
-        nodes: &NODES,
-        keywords: &KEYWORDS,
-        starts: Starts {
-            path: rule,
-            expr: rule,
-            ty: rule,
-            pat_top: rule,
-            pat: rule,
-            stmt: rule,
-            block: rule,
-            meta: rule,
-            item: rule,
-            vis: rule,
-        },
-        edition,
-        editions: &[],
-    }
+#[derive(Clone, Copy)]
+enum Kind {
+    Taken(usize, Edition),
+    Nodes,
+    Fault,
+    Sum,
+    Keyword(bool),
+    Suffixes,
+    Tokens(Edition),
+    Random(Edition),
+    Printed,
+    Context,
+    SumKeywords,
+    Indented,
+    Apart,
+    Same,
+    Kept,
+    Right,
+    Short,
 }
 
-// The first of the rows of an edition that isn't so.
-fn first_wrong(
-    alloc: Global,
-    edition: Edition,
-    rows: &'static [(usize, &'static str, Option<usize>)],
-) -> Option<&'static str> {
-    for &(rule, text, want) in rows {
-        if !takes_expr(alloc, table(rule, edition), text, want) {
-            return Some(text);
+impl Rows for Kind {
+    fn is_so(&self, alloc: Global, [text, want, ..]: Fields) -> Result<bool, AllocError> {
+        match self {
+            Kind::Taken(rule, edition) => rules::is_taken(alloc, *rule, *edition, (text, want)),
+            Kind::Nodes => reading::has_nodes(alloc, text, want),
+            Kind::Fault => reading::is_at_fault(alloc, text, want),
+            Kind::Sum => reading::is_sum(alloc, text, want),
+            Kind::Keyword(is_one) => Ok(SampleGrammar.is_keyword(text) == *is_one),
+            Kind::Suffixes => lexing::has_suffixes(alloc, text, want),
+            Kind::Tokens(edition) => rust::is_shown(alloc, *edition, text, want),
+            Kind::Random(edition) => rust::is_as_rustc(alloc, *edition, text, want),
+            Kind::Printed => printing::is_printed(alloc, text, want),
+            Kind::Context => taking::is_by_context(alloc),
+            Kind::SumKeywords => reading::has_keywords(alloc),
+            Kind::Indented => printing::is_indented(alloc),
+            Kind::Apart => Ok(symbols::are_apart(alloc)),
+            Kind::Same => Ok(symbols::are_same(alloc)),
+            Kind::Kept => Ok(symbols::is_kept(alloc)),
+            Kind::Right => Ok(symbols::stays_right(alloc)),
+            Kind::Short => Ok(symbols::are_short(alloc)),
         }
     }
-    None
 }
 
-fn takes_expr(alloc: Global, table: RuleTable<'_>, text: &str, want: Option<usize>) -> bool {
-    takes(alloc, &table, PrefixEntryPoint::Expr, text, want).unwrap_or(false)
-}
-
-// Rules, texts, and how many flat tokens are taken in the edition of 2021; none is a fault.
-static TAKEN: [(usize, &str, Option<usize>); 29] = [
-    (SUM, "a", Some(1)),
-    (SUM, "a + 1 + b c", Some(5)),
-    (SUM, "a += 1", None),
-    (SUM, "a +", None),
-    (SUM, "let", None),
-    (SUM, "r#let", Some(1)),
-    (SUM, "gen", Some(1)),
-    (SUM, "_", None),
-    (SUM, "", None),
-    (GEN, "gen", None),
-    (IN_PARENTHESES, "(a + b) c", Some(5)),
-    (IN_PARENTHESES, "(a b)", None),
-    (IN_PARENTHESES, "[a]", None),
-    (IN_PARENTHESES, "()", None),
-    (LEFT, "a + a", None),
-    (ITSELF, "a", None),
-    (NOWHERE, "a", None),
-    (1_000_000, "a", None),
-    (NOTHING_AGAIN, "+ + a", Some(2)),
-    (NOTHING_AGAIN, "a b", None),
-    (ARROW, "=> a", Some(2)),
-    (ARROW, "= > a", None),
-    (NO_NAME_NEXT, "let", Some(1)),
-    (NO_NAME_NEXT, "a", None),
-    (POINTED, "1. a", Some(1)),
-    (POINTED, "1.0", None),
-    (POINTED, "1", None),
-    (POINTED, "\".\"", None),
-    (POINTED, ".", None),
+static TABLES: [(Kind, &str, usize); 34] = [
+    (Kind::Taken(rules::SUM, Edition2021), rules::SUMS, 9),
+    (
+        Kind::Taken(rules::GEN, Edition2021),
+        rules::GEN_BEFORE_2024,
+        1,
+    ),
+    (
+        Kind::Taken(rules::IN_PARENTHESES, Edition2021),
+        rules::PARENTHESES,
+        4,
+    ),
+    (
+        Kind::Taken(rules::LEFT, Edition2021),
+        rules::LEFT_RECURSIVE,
+        1,
+    ),
+    (Kind::Taken(rules::ITSELF, Edition2021), rules::A_NAME, 1),
+    (Kind::Taken(rules::NOWHERE, Edition2021), rules::A_NAME, 1),
+    (Kind::Taken(1_000_000, Edition2021), rules::A_NAME, 1),
+    (
+        Kind::Taken(rules::NOTHING_AGAIN, Edition2021),
+        rules::NOTHINGS,
+        2,
+    ),
+    (Kind::Taken(rules::ARROW, Edition2021), rules::ARROWS, 2),
+    (
+        Kind::Taken(rules::NO_NAME_NEXT, Edition2021),
+        rules::NO_NAMES,
+        2,
+    ),
+    (Kind::Taken(rules::POINTED, Edition2021), rules::POINTEDS, 5),
+    (
+        Kind::Taken(rules::GEN, Edition2024),
+        rules::GEN_SINCE_2024,
+        2,
+    ),
+    (
+        Kind::Taken(rules::SUM, Edition2024),
+        rules::SUMS_SINCE_2024,
+        2,
+    ),
+    (Kind::Nodes, reading::NODES, 13),
+    (Kind::Fault, reading::FAULTS, 25),
+    (Kind::Sum, reading::TAKEN, 8),
+    (Kind::Keyword(true), sample::KEYWORDS, 52),
+    (Kind::Keyword(false), sample::OTHER_WORDS, 17),
+    (Kind::Suffixes, lexing::SUFFIXES, 65),
+    (Kind::Tokens(Edition2018), ROWS_2018, 2),
+    (Kind::Tokens(Edition2021), ROWS_2021, 56),
+    (Kind::Tokens(Edition2024), ROWS_2024, 3),
+    (Kind::Random(Edition2018), RANDOM_2018, COUNT_2018),
+    (Kind::Random(Edition2021), RANDOM_2021, COUNT_2021),
+    (Kind::Random(Edition2024), RANDOM_2024, COUNT_2024),
+    (Kind::Printed, printing::PRINTED, 6),
+    (
+        Kind::Context,
+        rows![("the edition of a context decides")],
+        1,
+    ),
+    (
+        Kind::SumKeywords,
+        rows![("a grammar of sums has keywords")],
+        1,
+    ),
+    (Kind::Indented, rows![("seventy groups are indented")], 1),
+    (Kind::Apart, rows![("each text has a symbol of its own")], 1),
+    (Kind::Same, rows![("one table is for many texts")], 1),
+    (
+        Kind::Kept,
+        rows![("a text that the table has takes no memory")],
+        1,
+    ),
+    (Kind::Right, rows![("a refusal leaves the table right")], 1),
+    (Kind::Short, rows![("a short text takes no memory")], 1),
 ];
 
 #[test]
-fn rules_take(rt: HostRuntime) -> Result<(), Wrong> {
-    none(first_wrong(rt.alloc(), Edition::Edition2021, &TAKEN))
-}
-
-// The same in the edition of 2024.
-static TAKEN_2024: [(usize, &str, Option<usize>); 4] = [
-    (GEN, "gen a", Some(1)),
-    (GEN, "r#gen", None),
-    (SUM, "gen", None),
-    (SUM, "r#gen", Some(1)),
-];
-
-#[test]
-fn rules_take_by_edition(rt: HostRuntime) -> Result<(), Wrong> {
-    none(first_wrong(rt.alloc(), Edition::Edition2024, &TAKEN_2024))
-}
-
-// The link, if a million of it, many more than `DEPTH`, aren't taken so by a rule.
-fn wrong_link(
-    alloc: Global,
-    rule: usize,
-    link: &'static str,
-    want: Option<usize>,
-) -> Option<&'static str> {
-    match link.repeat(alloc, 1_000_000) {
-        Ok(text) => {
-            let table = table(rule, Edition::Edition2021);
-            (!takes_expr(alloc, table, text.as_str(), want)).then_some(link)
-        }
-        Err(AllocError) => Some(link),
-    }
-}
-
-#[test]
-fn many_prefixes(rt: HostRuntime) -> Result<(), Wrong> {
-    none(wrong_link(rt.alloc(), MINUSES, "-", Some(1_000_000)))
-}
-
-#[test]
-fn many_angles(rt: HostRuntime) -> Result<(), Wrong> {
-    none(wrong_link(rt.alloc(), NESTED, "<", None))
-}
-
-#[test]
-fn many_braces(rt: HostRuntime) -> Result<(), Wrong> {
-    none(wrong_link(rt.alloc(), ANY, "{", Some(2_000_000)))
+fn texts_are_as_their_rows_say(rt: HostRuntime) -> Result<(), Wrong> {
+    all(rt.alloc(), &TABLES)
 }

@@ -1,7 +1,7 @@
 // All tables of trees, and what is tested once.
 use super::pairs::Pairs;
 use super::{buffers, builders, cursors, glue, grammars, iterators, texts, views};
-use mbe_tt::grammar::FragmentGrammar;
+use mbe_tt::grammar::{FragmentGrammar, PrefixEntryPoint};
 use mbe_tt::tt::IdentIsRaw;
 use std::alloc::{AllocError, Global};
 use test_rows::{Fields, Rows, Wrong, all, rows};
@@ -16,6 +16,7 @@ enum Kind {
     Literals,
     Apart,
     Fronts,
+    Invisible(PrefixEntryPoint),
     Groups,
     Open,
     Held,
@@ -38,6 +39,7 @@ impl Rows for Kind {
             Kind::Literals => texts::is_written(alloc, (one, two), three, (four, five, six)),
             Kind::Apart => buffers::are_apart(alloc, one, two),
             Kind::Fronts => grammars::is_front(alloc, one, two, three),
+            Kind::Invisible(entry) => grammars::is_taken(alloc, *entry, one, two),
             Kind::Groups => builders::is_group(alloc, one, two),
             Kind::Open => builders::is_open(alloc, one, two),
             Kind::Held => builders::is_held(alloc, one, two, three, four),
@@ -48,7 +50,7 @@ impl Rows for Kind {
     }
 }
 
-static TABLES: [(Kind, &str, usize); 13] = [
+static TABLES: [(Kind, &str, usize); 16] = [
     (Kind::Seen, views::SEEN, 9),
     (Kind::Stripped, views::OPENINGS, 4),
     (Kind::Spans, texts::SPANS, 2),
@@ -56,6 +58,21 @@ static TABLES: [(Kind, &str, usize); 13] = [
     (Kind::Literals, texts::LITERALS, 16),
     (Kind::Apart, buffers::TREES, 6),
     (Kind::Fronts, grammars::FRONTS, 2),
+    (
+        Kind::Invisible(PrefixEntryPoint::Expr),
+        grammars::EXPRESSIONS,
+        3,
+    ),
+    (
+        Kind::Invisible(PrefixEntryPoint::MetaItem),
+        grammars::ATTRIBUTES,
+        1,
+    ),
+    (
+        Kind::Invisible(PrefixEntryPoint::Pat),
+        grammars::PATTERNS,
+        1,
+    ),
     (Kind::Groups, builders::GROUPS, 4),
     (Kind::Open, builders::OPEN, 7),
     (Kind::Held, builders::STEPS, 10),
