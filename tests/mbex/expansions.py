@@ -136,7 +136,7 @@ EXPANDED = (
     ),
 )
 
-# The same, of which mbe_program_tests refuses each request for memory.
+# The same, of which mbe_tests refuses each request for memory.
 ROWS = (
     (
         "($($x:ident),*) => {$($x);*}", "a, b", 0,

@@ -1,5 +1,4 @@
 // What `expect_fragment` takes from the front of an iterator, and what it reports.
-use crate::fragments::taking;
 use crate::grammar::{NoMemory, Numbered, grammar_of};
 use crate::tokens::{at, byte};
 use crate::trees::lexed;
@@ -11,8 +10,7 @@ use mbe_tt::grammar::PrefixEntryPoint::{
 };
 use mbe_tt::span::{DelimSpan, Span};
 use mbe_tt::tt::TokenTreesView;
-use refusing::Refusing;
-use std::alloc::{AllocError, Allocator, Global};
+use std::alloc::{AllocError, Global};
 use std::rc::Rc;
 use test_rows::{Fields, Rows, rows};
 
@@ -44,7 +42,7 @@ static ENTRIES: [(&str, PrefixEntryPoint); 10] = [
     ("Vis", Vis),
 ];
 
-pub fn entry_of(name: &str) -> Result<PrefixEntryPoint, AllocError> {
+fn entry_of(name: &str) -> Result<PrefixEntryPoint, AllocError> {
     for &(other, entry) in &ENTRIES {
         if other == name {
             return Ok(entry);
@@ -118,6 +116,7 @@ pub const COUNTED: &str = rows![
     ("7", "Ty", "&'a mut [u8] z", "5 7", "13 14", ""),
     ("4", "Expr", "(a b) c", "1 4", "6 7", ""),
     ("9", "Expr", "(a b) c", "2 5", "", ""),
+    ("2", "Expr", "(a b) c", "1 4", "6 7", "expected Expr 0 1"),
     // A front that ends in a group takes all of it.
     ("2", "Ty", "x[a{b}()] z", "2 9", "10 11", "expected Ty 0 1"),
     ("3", "Ty", "x[a{b}()] z", "2 9", "10 11", "expected Ty 0 1"),
@@ -163,46 +162,10 @@ pub const NUMBERED: &str = rows![
     ("", "Vis", "a a a a a a a a a a ", "10 10", "", ""),
 ];
 
-/// Whether a front that ends in a group takes all of it.
-pub fn is_group_taken(alloc: Global) -> Result<bool, AllocError> {
-    let argument = lexed(alloc, 1, "(a b) c")?;
-    let group = argument.iter().next_as_view();
-    let mut iter = argument.iter();
-    let front = expect_fragment(alloc, &taking(2), &mut iter, Expr, around())?;
-    let error = binding_error(alloc, "expected Expr", at(1, 0, 1))?;
-    let is_taken = Some(front.value) == group && iter.next_span() == Some(at(1, 6, 7));
-    Ok(is_taken && front.err == Some(error))
-}
-
 /// Whether a grammar without memory moves nothing.
 pub fn moves_nothing(alloc: Global) -> Result<bool, AllocError> {
     let argument = lexed(alloc, 1, "(a b) c")?;
     let mut iter = argument.iter();
     let front = expect_fragment(alloc, &NoMemory, &mut iter, Expr, around());
     Ok(front.is_err() && iter.remaining() == argument.iter().remaining())
-}
-
-// Whether memory ran out for the error of a front that ends in a group. Then nothing has moved; nothing where something has, or nothing
-// has though there was memory.
-fn runs_out<A: Allocator + Copy>(alloc: A) -> Result<Option<bool>, AllocError> {
-    let argument = lexed(alloc, 1, "(a b) c")?;
-    let mut iter = argument.iter();
-    let front = expect_fragment(alloc, &taking(2), &mut iter, Expr, around());
-    let has_moved = iter.remaining() != argument.iter().remaining();
-    Ok((has_moved == front.is_ok()).then_some(front.is_err()))
-}
-
-/// Whether each request is refused in turn, until none is, and more than one of them is of an error.
-pub fn are_refused(alloc: Global) -> bool {
-    let mut wanting = 0u64;
-    for request in 1..10_000u64 {
-        let alloc = Refusing::new(alloc, request);
-        match runs_out(&alloc) {
-            Ok(Some(true)) if alloc.has_refused() => wanting = wanting.saturating_add(1),
-            Ok(Some(false)) => return !alloc.has_refused() && wanting > 1,
-            Err(AllocError) if alloc.has_refused() => {}
-            _ => return false,
-        }
-    }
-    false
 }

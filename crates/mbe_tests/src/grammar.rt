@@ -127,8 +127,8 @@ impl FragmentGrammar for Numbered {
     }
 }
 
-/// How many flat tokens `Numbered` takes.
-pub fn number_of(entry: PrefixEntryPoint) -> usize
+// How many flat tokens `Numbered` takes.
+fn number_of(entry: PrefixEntryPoint) -> usize
     ensures { result ≡ number_of entry }
 {
     match entry {

@@ -2,7 +2,7 @@
 ghost use Rattle.mbe.specs.Macro.{IsChecked};
 ghost use Rattle.mbe.specs.MacroViews.{macro_of};
 
-use crate::grammar::{Counting, NOTHING};
+use crate::grammar::{NOTHING, Numbered, grammar_of};
 use crate::tokens::{at, byte};
 use crate::trees::{built_of, lexed, read};
 use mbe::{
@@ -40,7 +40,10 @@ pub fn parsed<A: Allocator + Copy>(
 }
 
 /// The same of a text, which is file 0.
-pub fn defined(alloc: Global, definition: &str) -> Result<DeclarativeMacro, AllocError> {
+pub fn defined<A: Allocator + Copy>(
+    alloc: A,
+    definition: &str,
+) -> Result<DeclarativeMacro<A>, AllocError> {
     parsed(alloc, &lexed(alloc, 0, definition)?)
 }
 
@@ -64,12 +67,12 @@ pub fn expanded<A: Allocator + Copy, G: FragmentGrammar>(
 }
 
 /// The expansion of a call like a function by a macro that was read without a fault.
-pub fn made<G: FragmentGrammar>(
-    alloc: Global,
+pub fn made<A: Allocator + Copy, G: FragmentGrammar>(
+    alloc: A,
     grammar: &G,
-    rules: &DeclarativeMacro,
-    argument: &TopSubtree,
-) -> Result<Expansion<Global>, AllocError> {
+    rules: &DeclarativeMacro<A>,
+    argument: &TopSubtree<A>,
+) -> Result<Expansion<A>, AllocError> {
     if rules.err().is_some() {
         return Err(AllocError);
     }
@@ -94,43 +97,37 @@ pub fn is_made<A: Allocator + Copy>(
     }
 }
 
-/// Whether the macro makes that of the argument by a grammar.
-pub fn makes<G: FragmentGrammar>(
+// The expansion of an argument by a grammar, `numbered` or how many flat tokens it takes.
+fn made_by(
     alloc: Global,
-    grammar: &G,
+    grammar: &str,
     rules: &DeclarativeMacro,
     argument: &TopSubtree,
-    want: Want<'_>,
-) -> Result<bool, AllocError> {
-    let expansion = made(alloc, grammar, rules, argument)?;
-    is_made(alloc, &expansion, whole(argument), want)
+) -> Result<Expansion<Global>, AllocError> {
+    if grammar == "numbered" {
+        return made(alloc, &Numbered, rules, argument);
+    }
+    made(alloc, &grammar_of(grammar), rules, argument)
 }
 
-/// Whether a definition makes that of an argument, which is file 1.
-pub fn makes_of_texts<G: FragmentGrammar>(
-    alloc: Global,
-    grammar: &G,
-    (definition, argument): (&str, &str),
-    want: Want<'_>,
-) -> Result<bool, AllocError> {
-    let rules = defined(alloc, definition)?;
-    let argument = lexed(alloc, 1, argument)?;
-    makes(alloc, grammar, &rules, &argument, want)
-}
-
-/// Rows of a definition, an argument, and what is made of it by a grammar: the index of a rule and the tokens, or nothing.
+/// Rows of a grammar, a definition, an argument, the index of a rule, the tokens that it writes, and the error with its bytes. Without an
+/// error and an index the first rule doesn't apply, with any error.
 #[derive(Clone, Copy)]
-pub struct Calls(pub Counting);
+pub struct Calls;
 
 impl Rows for Calls {
     fn is_so(
         &self,
         alloc: Global,
-        [definition, argument, arm, tokens, ..]: Fields,
+        [grammar, definition, argument, arm, tokens, error]: Fields,
     ) -> Result<bool, AllocError> {
         let rules = parsed(alloc, &read(alloc, 0, definition)?)?;
         let argument = read(alloc, 1, argument)?;
-        makes(alloc, &self.0, &rules, &argument, want(arm, tokens))
+        let expansion = made_by(alloc, grammar, &rules, &argument)?;
+        if error.is_empty() {
+            return is_made(alloc, &expansion, whole(&argument), want(arm, tokens));
+        }
+        is_recovered(alloc, &expansion, whole(&argument), (arm, tokens, error))
     }
 }
 
@@ -166,8 +163,8 @@ pub fn answers(
     }
 }
 
-/// Whether the rule of an index doesn't apply, that is recovered by an expansion from there, and the error beside it is that, with its bytes.
-pub fn is_recovered(
+// Whether the rule of an index doesn't apply, that is recovered by an expansion from there, and the error beside it is that, with its bytes.
+fn is_recovered(
     alloc: Global,
     expansion: &Expansion<Global>,
     call_site: Span,
