@@ -232,21 +232,6 @@ alone > 1 6 7"),
     ("4 fault", "($e:expr) => {}", "(a) b"),
 ];
 
-// The entry point of each specifier. Only `pat` depends on the edition, which tests/mbex shows.
-pub const ENTRY_POINTS: &str = rows![
-    ("numbered", "($x:path) => {}", "a", 0),
-    ("numbered", "($x:expr) => {}", "a a", 0),
-    ("numbered", "($x:expr_2021) => {}", "a a", 0),
-    ("numbered", "($x:ty) => {}", "a a a", 0),
-    ("numbered", "($x:pat) => {}", "a a a a", 0),
-    ("numbered", "($x:pat_param) => {}", "a a a a a", 0),
-    ("numbered", "($x:stmt) => {}", "a a a a a a", 0),
-    ("numbered", "($x:block) => {}", "a a a a a a a", 0),
-    ("numbered", "($x:meta) => {}", "a a a a a a a a", 0),
-    ("numbered", "($x:item) => {}", "a a a a a a a a a", 0),
-    ("numbered", "($x:vis) => {}", "a a a a a a a a a a", 0),
-];
-
 // Whether the first token is the beginning of an expression, of one of 2021, and of a type.
 pub const BEGINNINGS: &str = rows![
     (1, "($x:expr) => {}", "a", 0),
@@ -280,7 +265,7 @@ pub const BEGINNINGS: &str = rows![
 
 pub const RECOVERED: &str = rows![
     // Several positions meet at the end of either pattern. By the first of them the first rule binds most.
-    (1, "($(a)* $(a $(: $y:ident)?)* c) => {R0}; ($(a $(: $x:ident)?)* $(a)* c) => {R1}", "a a a a c d", 0, "word R0 0 35 37", "unexpected token in input 0 1"),
+    (1, "($(a)* $(a $(: $y:ident)?)* c) => {R0}; ($(a $(: $x:ident)?)* $(a)* c) => {R1}", "a a a a c d", 0, "word R0 0 35 37", "unexpected token in input 1 0 1"),
     // At the quote of `($(b $(')?)'a*) => {}` one prefix goes on over one token, and one over two.
     (1, "tokens 21
 open ( 0 0 1
@@ -300,31 +285,31 @@ close ) 0 14 15
 joint = 0 16 17
 alone > 0 17 18
 open { 0 19 20
-close } 0 20 21", "b 'a b", 0, "", "leftover tokens 0 6"),
+close } 0 20 21", "b 'a b", 0, "", "leftover tokens 1 0 6"),
     // A quote without a name is no token tree.
     (1, "($t:tt) => {[$t]}", "tokens 2
 joint ' 1 0 1
 number 1 1 1 2", 0, "open [ 0 12 13
-close ) 0 15 16", "expected token tree 0 1"),
+close ) 0 15 16", "expected token tree 1 0 1"),
     // The front ends in a group: all of the group is bound, and what is after it isn't.
     (2, "($e:expr) => {[$e]}", "(a b) c", 0, "open [ 0 14 15
 open ( 1 0 1
 word a 1 1 2
 word b 1 3 4
 close ) 1 4 5
-close ) 0 17 18", "expected Expr 0 1"),
+close ) 0 17 18", "expected Expr 1 0 1"),
     ("4 fault", "($e:expr) => {[$e]}", "(a b) c", 0, "open [ 0 14 15
 open ( 1 0 1
 word a 1 1 2
 word b 1 3 4
 close ) 1 4 5
-close ) 0 17 18", "expected Expr 0 1"),
+close ) 0 17 18", "expected Expr 1 0 1"),
     // A visibility that is missing is nothing.
     ("0 fault", "($v:vis) => {[$v]}", "", 0, "open [ 0 13 14
-close ) 0 16 17", "expected Vis 0 0"),
+close ) 0 16 17", "expected Vis 1 0 0"),
     // The second rule leaves one word, the others leave two.
     (1, "($t:ty) => {A}; ($t:ty $x:ident) => {B $t}; ($x:tt) => {C}", "a b c", 1, "word B 0 37 38
-word a 1 0 1", "leftover tokens 0 5"),
+word a 1 0 1", "leftover tokens 1 0 5"),
 ];
 
 /// Whether an expansion needs the memory of its grammar, where the argument needs the grammar, and no other does.
@@ -334,5 +319,5 @@ pub fn needs_memory(alloc: Global) -> Result<bool, AllocError> {
     let is_out = made(alloc, &NoMemory, &rules, &number).is_err();
     let word = lexed(alloc, 1, "a")?;
     let expansion = made(alloc, &NoMemory, &rules, &word)?;
-    Ok(is_out && is_made(alloc, &expansion, whole(&word), Some((0, "")))?)
+    Ok(is_out && is_made(alloc, &expansion, whole(&word), Some((0, "")), "")?)
 }

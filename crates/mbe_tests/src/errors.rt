@@ -1,6 +1,8 @@
-// Copies of faults, and the texts of errors of counts. Those of other errors are in tests/mbex.
+// Copies of faults, errors with their places, and the texts of errors of counts. Those of other errors are in tests/mbex.
 use crate::definitions::reported_as;
-use mbe::{CountError, ParseError};
+use crate::tokens::at;
+use mbe::{CountError, ExpandError, ParseError};
+use mbe_tt::span::Span;
 use std::alloc::{AllocError, Global};
 use std::fmt::Display;
 use test_rows::rows;
@@ -9,6 +11,25 @@ use test_rows::rows;
 pub fn is_shown<T: Display>(alloc: Global, shown: &T, want: &str) -> Result<bool, AllocError> {
     let text = format!(in alloc; "{shown}")?;
     Ok(text.as_str() == want)
+}
+
+/// Whether the error is that text, with its file and its bytes. There is none where nothing is wanted.
+pub fn is_error(
+    alloc: Global,
+    error: Option<&ExpandError>,
+    want: &str,
+) -> Result<bool, AllocError> {
+    let Some(error) = error else {
+        return Ok(want.is_empty());
+    };
+    let Span {
+        file,
+        start,
+        end,
+        ..
+    } = error.inner.0;
+    let shown = format!(in alloc; "{error} {file} {start} {end}")?;
+    Ok(shown.as_str() == want && error.inner.0 == at(file, start, end))
 }
 
 // A fault by its sort and its text.

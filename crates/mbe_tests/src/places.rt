@@ -1,5 +1,6 @@
 // Where errors are, and what is written beside them: the argument's opening, its closing and the call site are apart, and a
 // marker sets the context of what the template writes itself.
+use crate::errors::is_error;
 use crate::grammar::Counting;
 use crate::runs::{Expansion, defined};
 use crate::tokens::at;
@@ -135,21 +136,6 @@ fn expansion_of(
     rules.expand(alloc, &grammar, &argument, marker, style, span_of(CALL))
 }
 
-// Whether the error is that one, there.
-fn is_error(alloc: Global, expansion: &Expansion<Global>, want: &str) -> Result<bool, AllocError> {
-    let Some(error) = &expansion.err else {
-        return Ok(want.is_empty());
-    };
-    let Span {
-        file,
-        start,
-        end,
-        ..
-    } = error.inner.0;
-    let shown = format!(in alloc; "{error} {file} {start} {end}")?;
-    Ok(shown.as_str() == want && error.inner.0 == at(file, start, end))
-}
-
 #[derive(Clone, Copy)]
 pub struct Places;
 
@@ -163,6 +149,6 @@ impl Rows for Places {
         let (tree, index) = &expansion.value;
         let want = built_of(alloc, span_of(CALL), tokens)?;
         let is_so = *index == rule.parse::<u32>().ok() && *tree == want;
-        Ok(is_so && is_error(alloc, &expansion, error)?)
+        Ok(is_so && is_error(alloc, expansion.err.as_ref(), error)?)
     }
 }

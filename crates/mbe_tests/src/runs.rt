@@ -2,8 +2,9 @@
 ghost use Rattle.mbe.specs.Macro.{IsChecked};
 ghost use Rattle.mbe.specs.MacroViews.{macro_of};
 
-use crate::grammar::{NOTHING, Numbered, grammar_of};
-use crate::tokens::{at, byte};
+use crate::errors::is_error;
+use crate::grammar::{NOTHING, grammar_of};
+use crate::tokens::byte;
 use crate::trees::{built_of, lexed, read};
 use mbe::{
     DeclarativeMacro, ExpandError, ExpandErrorKind, ExpandResult, MacroCallStyle, MatchedArmIndex,
@@ -19,7 +20,7 @@ use test_rows::{Fields, Rows};
 pub type Expansion<A> = ExpandResult<(TopSubtree<A>, MatchedArmIndex), A>;
 
 /// The index of a rule and the tokens that it writes, each a line. Nothing where the first rule, which is the closest one, doesn't apply:
-/// an error is beside what it recovers.
+/// any error is beside what it recovers.
 pub type Want<'t> = Option<(u32, &'t str)>;
 
 /// That of a row.
@@ -80,38 +81,27 @@ pub fn made<A: Allocator + Copy, G: FragmentGrammar>(
     expanded(alloc, grammar, rules, argument, style)
 }
 
-/// Whether that is the expansion of a call from there.
-pub fn is_made<A: Allocator + Copy>(
-    alloc: A,
-    expansion: &Expansion<A>,
+/// Whether that is the expansion of a call from there, with the error that is wanted.
+pub fn is_made(
+    alloc: Global,
+    expansion: &Expansion<Global>,
     call_site: Span,
     want: Want<'_>,
+    error: &str,
 ) -> Result<bool, AllocError> {
     let (tree, index) = &expansion.value;
     match want {
         None => Ok(expansion.err.is_some() && *index == Some(0)),
         Some((arm, tokens)) => {
             let want = built_of(alloc, call_site, tokens)?;
-            Ok(expansion.err.is_none() && *index == Some(arm) && *tree == want)
+            let is_so = *index == Some(arm) && *tree == want;
+            Ok(is_so && is_error(alloc, expansion.err.as_ref(), error)?)
         }
     }
 }
 
-// The expansion of an argument by a grammar, `numbered` or how many flat tokens it takes.
-fn made_by(
-    alloc: Global,
-    grammar: &str,
-    rules: &DeclarativeMacro,
-    argument: &TopSubtree,
-) -> Result<Expansion<Global>, AllocError> {
-    if grammar == "numbered" {
-        return made(alloc, &Numbered, rules, argument);
-    }
-    made(alloc, &grammar_of(grammar), rules, argument)
-}
-
-/// Rows of a grammar, a definition, an argument, the index of a rule, the tokens that it writes, and the error with its bytes. Without an
-/// error and an index the first rule doesn't apply, with any error.
+/// Rows of how many flat tokens the grammar takes, and `fault` if it faults, a definition, an argument, the index of a rule, the tokens that it
+/// writes, and the error with its file and its bytes, if there is one. Without an index the first rule doesn't apply, with any error.
 #[derive(Clone, Copy)]
 pub struct Calls;
 
@@ -123,11 +113,14 @@ impl Rows for Calls {
     ) -> Result<bool, AllocError> {
         let rules = parsed(alloc, &read(alloc, 0, definition)?)?;
         let argument = read(alloc, 1, argument)?;
-        let expansion = made_by(alloc, grammar, &rules, &argument)?;
-        if error.is_empty() {
-            return is_made(alloc, &expansion, whole(&argument), want(arm, tokens));
-        }
-        is_recovered(alloc, &expansion, whole(&argument), (arm, tokens, error))
+        let expansion = made(alloc, &grammar_of(grammar), &rules, &argument)?;
+        is_made(
+            alloc,
+            &expansion,
+            whole(&argument),
+            want(arm, tokens),
+            error,
+        )
     }
 }
 
@@ -159,24 +152,6 @@ pub fn answers(
     let call_site = whole(&argument);
     match want {
         None => is_without_rule(alloc, &expansion, call_site),
-        Some(_) => is_made(alloc, &expansion, call_site, want),
+        Some(_) => is_made(alloc, &expansion, call_site, want, ""),
     }
-}
-
-// Whether the rule of an index doesn't apply, that is recovered by an expansion from there, and the error beside it is that, with its bytes.
-fn is_recovered(
-    alloc: Global,
-    expansion: &Expansion<Global>,
-    call_site: Span,
-    (arm, tokens, want): (&str, &str, &str),
-) -> Result<bool, AllocError> {
-    let (tree, index) = &expansion.value;
-    let Some(error) = &expansion.err else {
-        return Ok(false);
-    };
-    let Span { start, end, .. } = error.inner.0;
-    let shown = format!(in alloc; "{error} {start} {end}")?;
-    let is_shown = shown.as_str() == want && error.inner.0 == at(1, start, end);
-    let built = built_of(alloc, call_site, tokens)?;
-    Ok(is_shown && *index == Some(byte(arm)) && *tree == built)
 }

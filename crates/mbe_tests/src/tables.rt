@@ -80,7 +80,7 @@ fn are_errors(alloc: Global) -> Result<bool, AllocError> {
     )
 }
 
-static TABLES: [(Kind, &str, usize); 29] = [
+static TABLES: [(Kind, &str, usize); 27] = [
     (Kind::Example, example::PRINTED, 4),
     (Kind::Definition, definitions::KEPT, 37),
     (Kind::Definition, definitions::OF_TREES, 10),
@@ -89,12 +89,10 @@ static TABLES: [(Kind, &str, usize); 29] = [
     (Kind::Definition, definitions::STYLES, 14),
     (Kind::Call, calls::OF_TREES, 29),
     (Kind::Call, calls::FRAGMENTS, 23),
-    (Kind::Call, calls::ENTRY_POINTS, 11),
     (Kind::Call, calls::BEGINNINGS, 27),
     (Kind::Call, calls::RECOVERED, 7),
     (Kind::Styled, styles::CALLS, 9),
     (Kind::Fronts, fronts::COUNTED, 39),
-    (Kind::Fronts, fronts::NUMBERED, 10),
     (Kind::Place, places::MATCHES, 11),
     (Kind::Place, places::TEMPLATES, 13),
     (Kind::Marking, marking::ROWS, 8),

@@ -12,9 +12,9 @@ use std::alloc::{AllocError, Allocator, Global};
 use test_rows::spelled;
 
 // Adds the token at the end of the innermost open group. A closing without an opening is left out.
-fn add<A: Allocator + Copy>(
-    builder: &mut TopSubtreeBuilder<A>,
-    alloc: A,
+fn add(
+    builder: &mut TopSubtreeBuilder,
+    alloc: Global,
     lexeme: Lexeme<'_>,
     span: Span,
 ) -> Result<(), AllocError> {
@@ -42,11 +42,7 @@ pub fn finish<A: Allocator>(mut builder: TopSubtreeBuilder<A>, end: Span) -> Top
     builder.build()
 }
 
-fn leaf<A: Allocator + Copy>(
-    alloc: A,
-    lexeme: Lexeme<'_>,
-    span: Span,
-) -> Result<Option<Leaf<A>>, AllocError> {
+fn leaf(alloc: Global, lexeme: Lexeme<'_>, span: Span) -> Result<Option<Leaf>, AllocError> {
     Ok(match lexeme {
         Lexeme::Word(text) => Some(ident(alloc, text, IdentIsRaw::No, span)?),
         Lexeme::Raw(text) => Some(ident(alloc, text, IdentIsRaw::Yes, span)?),
@@ -60,7 +56,7 @@ fn leaf<A: Allocator + Copy>(
     })
 }
 
-fn punct<A: Allocator>(char: char, spacing: Spacing, span: Span) -> Leaf<A> {
+fn punct(char: char, spacing: Spacing, span: Span) -> Leaf {
     Leaf::Punct(Punct {
         char,
         spacing,
@@ -68,12 +64,7 @@ fn punct<A: Allocator>(char: char, spacing: Spacing, span: Span) -> Leaf<A> {
     })
 }
 
-fn ident<A: Allocator + Copy>(
-    alloc: A,
-    text: &str,
-    is_raw: IdentIsRaw,
-    span: Span,
-) -> Result<Leaf<A>, AllocError> {
+fn ident(alloc: Global, text: &str, is_raw: IdentIsRaw, span: Span) -> Result<Leaf, AllocError> {
     Ok(Leaf::Ident(Ident {
         sym: Symbol::intern(alloc, text)?,
         is_raw,
@@ -81,12 +72,12 @@ fn ident<A: Allocator + Copy>(
     }))
 }
 
-fn literal<A: Allocator + Copy>(
-    alloc: A,
+fn literal(
+    alloc: Global,
     (text, suffix_len): (&str, u8),
     kind: LitKind,
     span: Span,
-) -> Result<Leaf<A>, AllocError> {
+) -> Result<Leaf, AllocError> {
     Ok(Leaf::Literal(Literal {
         text_and_suffix: Symbol::intern(alloc, text)?,
         suffix_len,
@@ -96,11 +87,7 @@ fn literal<A: Allocator + Copy>(
 }
 
 /// The tokens of a row, each a line, in an invisible group with that span. Groups that are open at the end are closed with it.
-pub fn built_of<A: Allocator + Copy>(
-    alloc: A,
-    whole: Span,
-    tokens: &str,
-) -> Result<TopSubtree<A>, AllocError> {
+pub fn built_of(alloc: Global, whole: Span, tokens: &str) -> Result<TopSubtree, AllocError> {
     let mut builder = TopSubtreeBuilder::new(alloc, Delimiter::invisible_spanned(whole))?;
     for row in tokens.lines() {
         let (lexeme, span) = token(row).ok_or(AllocError)?;
