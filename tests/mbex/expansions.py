@@ -212,8 +212,8 @@ ROWS = (
     ),
 )
 
-# What each kind of fragment takes whole of these, by the Rust Reference: no two entry points of the grammar take the same.
-# Before 2021 `pat` takes no `|`.
+# What each kind of fragment takes whole of these, by the Rust Reference. No two entry points of the grammar take the
+# same of them. Before 2021 `pat` takes no `|`.
 TAKEN = {
     "path": ("a::b",),
     "ty": ("a::b", "&a"),
