@@ -25,6 +25,15 @@ SINCE_2024 = (
 ALWAYS = (
     ("($p:pat_param) => {A}; ($($t:tt)*) => {B}", "a | b", "", 1, "  IDENT   B 0@39..40\n"),
     ("($e:expr_2021) => {A}; ($($t:tt)*) => {B}", "_", "", 1, "  IDENT   B 0@39..40\n"),
+    ("($e:expr_2021) => {A}; ($($t:tt)*) => {B}", "const { 1 }", "", 1, "  IDENT   B 0@39..40\n"),
+    # Names and words that begin an expression, and those that don't.
+    ("($e:expr) => {A}; ($($t:tt)*) => {B}", "a", "", 0, "  IDENT   A 0@14..15\n"),
+    ("($e:expr) => {A}; ($($t:tt)*) => {B}", "1", "", 0, "  IDENT   A 0@14..15\n"),
+    ("($e:expr) => {A}; ($($t:tt)*) => {B}", "let", "", 1, "  IDENT   B 0@34..35\n"),
+    ("($e:expr) => {A}; ($($t:tt)*) => {B}", "r#let", "", 1, "  IDENT   B 0@34..35\n"),
+    ("($e:expr) => {A}; ($($t:tt)*) => {B}", "lets", "", 0, "  IDENT   A 0@14..15\n"),
+    ("($e:expr) => {A}; ($($t:tt)*) => {B}", "r#const", "", 0, "  IDENT   A 0@14..15\n"),
+    ("($e:expr) => {A}; ($($t:tt)*) => {B}", "constant", "", 0, "  IDENT   A 0@14..15\n"),
 )
 
 BY_EDITION = (

@@ -136,7 +136,7 @@ EXPANDED = (
     ),
 )
 
-# The same, of which mbe_program_tests refuses each request for memory.
+# The same, of which mbe_tests refuses each request for memory.
 ROWS = (
     (
         "($($x:ident),*) => {$($x);*}", "a, b", 0,
@@ -212,6 +212,35 @@ ROWS = (
     ),
 )
 
+# What each kind of fragment takes whole of these, by the Rust Reference. No two entry points of the grammar take the
+# same of them. Before 2021 `pat` takes no `|`.
+TAKEN = {
+    "path": ("a::b",),
+    "ty": ("a::b", "&a"),
+    "pat": ("a::b", "&a", "1", "a | b"),
+    "pat_param": ("a::b", "&a", "1"),
+    "expr": ("a::b", "&a", "1", "a | b", "1 + 2", "a = 1", "{ 1 }"),
+    "expr_2021": ("a::b", "&a", "1", "a | b", "1 + 2", "a = 1", "{ 1 }"),
+    "stmt": ("a::b", "&a", "1", "a | b", "1 + 2", "a = 1", "{ 1 }", "let x = 1", "struct S;"),
+    "block": ("{ 1 }",),
+    "meta": ("a::b", "a = 1"),
+    "item": ("struct S;",),
+    "vis": ("",),
+}
+TAKEN_BEFORE_2021 = {"pat": TAKEN["pat_param"]}
+TEXTS = ("", "a::b", "&a", "1", "a | b", "1 + 2", "a = 1", "{ 1 }", "let x = 1", "struct S;")
+BY_EDITION = ((2015, TAKEN_BEFORE_2021), (2018, TAKEN_BEFORE_2021), (2021, TAKEN), (2024, TAKEN))
+
+
+def are_taken(program):
+    """Each kind takes its texts, and no other of them."""
+    for edition, taken in BY_EDITION:
+        for specifier, texts in taken.items():
+            for text in TEXTS:
+                run = ran(program, f"($x:{specifier}) => {{}}", text, edition)
+                row = (edition, specifier, text)
+                program.check("TAKEN", row, (run.status, run.err), (0 if text in texts else 1, ""))
+
 
 def are_printed(program, table, rows):
     for row in rows:
@@ -221,5 +250,6 @@ def are_printed(program, table, rows):
 
 def test(program):
     worked(program, "WRITTEN", WRITTEN)
+    are_taken(program)
     are_printed(program, "EXPANDED", EXPANDED)
     are_printed(program, "ROWS", ROWS)

@@ -36,6 +36,13 @@ LINTS = (
         "(a a a a a a a a a a $($x:ident)* b $($y:ident)* c) => {}", "a a a a a a a a a a b c",
         "rule 0: ambiguous at 10\n",
     ),
+    (
+        "(a) => {}; ($x:ident) => {${count($y)}}; ($x:tt $y:tt) => {}", "a",
+        "rule 0: one reading\n"
+        "rule 1: one reading\n"
+        "rule 2: stuck at 1\n",
+    ),
+    ("attr() ([a]) => {}; derive() ([a b]) => {}", "[a c]", "rule 0: stuck at 2\nrule 1: stuck at 2\n"),
     # So does the closing.
     ("([$x:ident] b) => {}", "[x] c", "rule 0: stuck at 3\n"),
 )

@@ -1,7 +1,8 @@
-"""Runs on random texts, and on random rules with repetitions."""
+"""Runs on random texts, on random rules with repetitions, and on fragments at the front of random texts."""
 import tempfile
 
-from mbex.runs import Texts, has_ended
+from mbex import ARG
+from mbex.runs import Texts, fault, has_ended
 
 PIECES = (
     "(", ")", "[", "]", "{", "}", "$", "$x:ident", "$t:tt", "$x", "$t", ":", "=>", ";", ",", "x", "r#x", "crate ",
@@ -34,8 +35,16 @@ WORDS = (
     "pub ", "_ ", "a + 1 ", "x::y ", "{} ", "&u8 ", "-2 ",
 )
 
-# How many texts are made, three at a time; and of each seed, how many definitions, each with four arguments.
+# A rule for each kind of fragment that the grammar finds; what comes after it is any tokens.
+FRONTS = "".join(
+    f"($x:{specifier} $($t:tt)*) => {{}};\n"
+    for specifier in ("path", "expr", "ty", "pat", "pat_param", "stmt", "block", "meta", "item", "vis")
+)
+
+# How many texts are made, three at a time, and how many for the fronts; and of each seed, how many definitions, each
+# with four arguments.
 TEXTS = 1_000
+FRONT_TEXTS = 3_000
 SEEDS = (2, 3, 4, 5)
 DEFINITIONS = 200
 
@@ -91,6 +100,24 @@ def texts_end(program, texts):
             program.check("TEXTS", pair, has_ended(texts.ran(*pair), *pair), True)
 
 
+def has_fronts(run, argument):
+    """Whether each rule of FRONTS reads the argument to its end, or nothing of it; or the argument isn't lexed."""
+    if run.status == 4:
+        return run.out == "" and fault(run.err, {ARG: argument})
+    lines = run.out.splitlines()
+    ends = [(f"rule {rule}: one reading", f"rule {rule}: stuck at 0") for rule in range(10)]
+    return (run.status, run.err, len(lines)) == (0, "", 10) and all(line in end for line, end in zip(lines, ends))
+
+
+def fronts_end(program, texts):
+    """Each kind of fragment is found at the front of a random text, or nothing is."""
+    numbers = Numbers(1)
+    for number in range(FRONT_TEXTS):
+        argument = numbers.text(number // 3 % 4 != 0)
+        run = texts.ran(FRONTS, argument, lint=True)
+        program.check("FRONTS", (argument, run), has_fronts(run, argument), True)
+
+
 def rules_end(program, texts, seed):
     """Runs of random rules, each on four random arguments, end within a second of the processor."""
     numbers = Numbers(seed)
@@ -107,5 +134,6 @@ def test(program):
     with tempfile.TemporaryDirectory() as folder:
         texts = Texts(program, folder)
         texts_end(program, texts)
+        fronts_end(program, texts)
         for seed in SEEDS:
             rules_end(program, texts, seed)

@@ -141,10 +141,10 @@ class Texts:
     def __init__(self, program, folder):
         self.program, self.folder = program, folder
 
-    def ran(self, definition, argument):
+    def ran(self, definition, argument, edition=2024, lint=False):
         write(self.folder, DEF, definition)
         write(self.folder, ARG, argument)
-        return self.program.run_in(self.folder, [DEF, ARG])
+        return self.program.run_in(self.folder, [*["--lint"] * lint, DEF, ARG, str(edition)])
 
 
 def prefixes(program):

@@ -1,5 +1,6 @@
 // Equality and copies of macros.
-use crate::runs::defined;
+use crate::runs::{defined, parsed};
+use crate::trees::read;
 use mbe::DeclarativeMacro;
 use std::alloc::{AllocError, Global};
 use test_rows::{nth, rows};
@@ -47,7 +48,8 @@ pub const SAME: &str = rows![
     ("($($x:ident)'a*) => {}", "($($x:ident) 'a*) => {}"),
 ];
 
-// With a fault, without rules, with a refusal, and with rules alone.
+// With a fault, without rules, with a refusal, and with rules alone; and with groups or repetitions in one another as deep as may be, which
+// docs/DECISIONS.md gives.
 pub const COPIED: &str = rows![
     ("unsafe attr(x) ($a:ident $b:literal [c] 1 + $($d:expr),* $($e:ty)'f + $($g:tt)1? $(h)=>* \
     $(i)* $(k)and* $crate) => {$a $j [c] 1 + $($d $e);* $($g)? ${ignore($a)} ${index()} ${len(1)} ${count($d)} ${count($e, 1)} \
@@ -55,6 +57,8 @@ pub const COPIED: &str = rows![
     (""),
     ("($()*) => {}; ($x) => {}"),
     ("attr(x) ($a:ident) => {$a}; ($($b:tt),*) => {[$($b)*]}"),
+    ("(«256 (»$x:ident«256 )») => {«256 (»$x«256 )»}"),
+    ("(«256 $(»$x:ident«256 )+») => {«256 $(»$x«256 )+»}"),
 ];
 
 fn are_alike(one: &DeclarativeMacro, two: &DeclarativeMacro) -> bool {
@@ -66,7 +70,7 @@ fn are_alike(one: &DeclarativeMacro, two: &DeclarativeMacro) -> bool {
 
 /// Whether a copy of a macro is equal.
 pub fn is_copied(alloc: Global, text: &str) -> Result<bool, AllocError> {
-    let rules = defined(alloc, text)?;
+    let rules = parsed(alloc, &read(alloc, 0, text)?)?;
     let copy = rules.try_clone(alloc)?;
     Ok(are_alike(&copy, &rules))
 }

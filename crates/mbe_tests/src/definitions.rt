@@ -1,6 +1,7 @@
-// Faults of definitions: how many rules are kept, and the error.
-use crate::runs::defined;
-use crate::trees::lexed;
+// Which rules of a definition are kept, its error, and the styles of its rules; of definitions by `macro` too.
+use crate::runs::parsed;
+use crate::trees::{lexed, read};
+use bitflags::Flags;
 use mbe::{DeclarativeMacro, ParseError};
 use mbe_tt::span::Edition;
 use std::alloc::{AllocError, Global};
@@ -52,17 +53,36 @@ pub fn is_read(
     Ok(rules.num_rules() == count && rules.err() == error.as_ref())
 }
 
-/// Whether a `macro_rules!` definition is read so.
-pub fn is_text_read(
+// The macro of a body, and of arguments if there are some. Both are file 0.
+fn read_macro2(
     alloc: Global,
-    definition: &str,
-    want: (usize, Reported),
-) -> Result<bool, AllocError> {
-    is_read(alloc, &defined(alloc, definition)?, want)
+    args: Option<&str>,
+    body: &str,
+) -> Result<DeclarativeMacro, AllocError> {
+    let body = lexed(alloc, 0, body)?;
+    let args = match args {
+        None => None,
+        Some(args) => Some(lexed(alloc, 0, args)?),
+    };
+    DeclarativeMacro::parse_macro2(alloc, args.as_ref(), &body, |_context| Edition::Edition2024)
 }
 
-/// Rows of a definition, how many of its rules are kept, and its error, if there is one: `expected` or `unexpected` and its text, `refused`
-/// for a repetition that can read nothing, `invalid` for an invalid one.
+/// The macro of a definition: `rules` of a `macro_rules!`, the `body` of a `macro`, or what has these arguments before its body.
+pub fn read_as(
+    alloc: Global,
+    sort: &str,
+    definition: &str,
+) -> Result<DeclarativeMacro, AllocError> {
+    if sort == "rules" {
+        return parsed(alloc, &read(alloc, 0, definition)?);
+    }
+    let args = (sort != "body").then_some(sort);
+    read_macro2(alloc, args, definition)
+}
+
+/// Rows of the sort of a definition, the definition, how many of its rules are kept, and its error, if there is one: `expected` or
+/// `unexpected` and its text, `refused` for a repetition that can read nothing, `invalid` for an invalid one; and the bits of the styles of
+/// its rules, if they matter.
 #[derive(Clone, Copy)]
 pub struct Definitions;
 
@@ -70,166 +90,292 @@ impl Rows for Definitions {
     fn is_so(
         &self,
         alloc: Global,
-        [definition, count, sort, text, ..]: Fields,
+        [definition_sort, definition, count, sort, text, bits]: Fields,
     ) -> Result<bool, AllocError> {
-        let want = (number(count), reported_as(sort, text));
-        is_text_read(alloc, definition, want)
+        let rules = read_as(alloc, definition_sort, definition)?;
+        let is_so = is_read(alloc, &rules, (number(count), reported_as(sort, text)))?;
+        let styles = usize::from(rules.rule_styles().bits());
+        Ok(is_so && (bits.is_empty() || styles == number(bits)))
     }
 }
 
-/// Rows of texts, each between two others, and how each such definition is read.
-#[derive(Clone, Copy)]
-pub struct Parts {
-    pub around: (&'static str, &'static str),
-    pub want: (usize, Reported),
-}
-
-impl Rows for Parts {
-    fn is_so(&self, alloc: Global, [text, ..]: Fields) -> Result<bool, AllocError> {
-        let (before, after) = self.around;
-        let definition = format!(in alloc; "{before}{text}{after}")?;
-        is_text_read(alloc, definition.as_str(), self.want)
-    }
-}
-
-// The first is a rule with every form of pattern and of template.
-pub const FIRST: &str = rows![
-    ("unsafe attr(x) ($a:ident $b:literal [c] 1 + $($d:expr),* $($e:ty)'f + $($g:tt)1? $(h)=>* \
-    $(i)* $(k)and* $crate) => {$a $j [c] 1 + $($d $e);* $($g)? ${ignore($a)} ${index()} ${len(1)} ${count($d)} ${count($e, 1)} \
-    ${concat(a, $a, 1)} $$ $crate $}", 1),
-    // Rules have their parts.
-    ("", 0),
-    ("() => {}", 1),
-    ("() => {};", 1),
-    ("[] => (); {} => []", 2),
-    ("() = > {}", 1),
-    ("() => {} x", 1, "expected", "expected `;`"),
-    ("() => {} () => {}", 1, "expected", "expected `;`"),
-    ("() => {}, () => {}", 1, "expected", "expected `;`"),
-    ("() => {};;", 1, "expected", "expected subtree"),
-    ("() => {};; () => {}", 1, "expected", "expected subtree"),
-    ("x", 0, "expected", "expected subtree"),
-    (";", 0, "expected", "expected subtree"),
-    ("($x:ident) =>", 0, "expected", "expected subtree"),
-    ("() => x", 0, "expected", "expected subtree"),
-    ("()", 0, "expected", "expected `=`"),
-    ("() {}", 0, "expected", "expected `=`"),
-    ("() > {}", 0, "expected", "expected `=`"),
-    ("() =", 0, "expected", "expected `>`"),
-    ("() = {}", 0, "expected", "expected `>`"),
+// Rules before a fault are kept. Definitions without rules before a fault are in tests/mbex.
+pub const KEPT: &str = rows![
+    ("rules", "() => {} x", 1, "expected", "expected `;`"),
+    ("rules", "() => {} () => {}", 1, "expected", "expected `;`"),
+    ("rules", "() => {}, () => {}", 1, "expected", "expected `;`"),
+    ("rules", "() => {};;", 1, "expected", "expected subtree"),
+    ("rules", "() => {};; () => {}", 1, "expected", "expected subtree"),
+    ("rules", "() => {}; ($x) => {}", 1, "unexpected", "missing fragment specifier"),
+    ("rules", "() => {}; ($x) => {}; () => {}", 1, "unexpected", "missing fragment specifier"),
+    ("rules", "() => {}; ($x) => {}; x", 1, "unexpected", "missing fragment specifier"),
+    ("rules", "() => {};; ($x) => {}", 1, "expected", "expected subtree"),
+    ("rules", "() => {}; ($(a)) => {}; () => {}", 1, "invalid"),
+    ("rules", "() => {}; () => {}; () => {{$(a)}}", 2, "invalid"),
+    ("rules", "() => {}; ($()*) => {}; () => {}", 3, "refused"),
+    ("rules", "($()*) => {}; ($x) => {}", 1, "refused"),
+    ("rules", "($()*) => {} () => {}", 1, "refused"),
+    // the rule that is refused isn't kept
+    ("rules", "() => {}; ($()* $x) => {}", 1, "unexpected", "missing fragment specifier"),
+    ("rules", "() => {${len()}}; () => {${len(x)}}; () => {}", 1, "unexpected", "invalid metavariable expression"),
+    ("rules", "() => {}; attr => {}", 1, "expected", "expected `()`"),
+    ("rules", "\n(-1) => {-1};\n(- 2) ", 1, "expected", "expected `=`"),
+    ("rules", "\n(-1) => {-1};\n(- 2) =", 1, "expected", "expected `>`"),
+    ("rules", "\n(-1) => {-1};\n(- 2) => ", 1, "expected", "expected subtree"),
+    ("rules", "\n(-1) => {-1};\n(- 2) => {- 2};\n(- 3.0) ", 2, "expected", "expected `=`"),
+    ("rules", "\n(-1) => {-1};\n(- 2) => {- 2};\n(- 3.0) =", 2, "expected", "expected `>`"),
+    ("rules", "\n(-1) => {-1};\n(- 2) => {- 2};\n(- 3.0) => ", 2, "expected", "expected subtree"),
+    ("rules", "\n(-1) => {-1};\n(- 2) => {- 2};\n(- 3.0) => {- 3.0};\n(@$lit:literal) ", 3, "expected", "expected `=`"),
+    ("rules", "\n(-1) => {-1};\n(- 2) => {- 2};\n(- 3.0) => {- 3.0};\n(@$lit:literal) =", 3, "expected", "expected `>`"),
+    ("rules", "\n(-1) => {-1};\n(- 2) => {- 2};\n(- 3.0) => {- 3.0};\n(@$lit:literal) => ", 3, "expected", "expected subtree"),
+    ("rules", "($x:ident) => {$($x)*}; ($x:ident) ", 1, "expected", "expected `=`"),
+    ("rules", "($x:ident) => {$($x)*}; ($x:ident) =", 1, "expected", "expected `>`"),
+    ("rules", "($x:ident) => {$($x)*}; ($x:ident) => ", 1, "expected", "expected subtree"),
+    ("rules", "attr() () => {A}; () ", 1, "expected", "expected `=`"),
+    ("rules", "attr() () => {A}; () =", 1, "expected", "expected `>`"),
+    ("rules", "attr() () => {A}; () => ", 1, "expected", "expected subtree"),
+    ("rules", "($( $($v:vis),+ )*) => {}", 1, "refused"),
+    ("rules", "($x:foo) => {}; ($($t:tt)*) ", 1, "expected", "expected `=`"),
+    ("rules", "($x:foo) => {}; ($($t:tt)*) =", 1, "expected", "expected `>`"),
+    ("rules", "($x:foo) => {}; ($($t:tt)*) => ", 1, "expected", "expected subtree"),
+    ("rules", "(a) => {A}; ($x) => {}", 1, "unexpected", "missing fragment specifier"),
 ];
 
-pub const SECOND: &str = rows![
-    ("() == {}", 0, "expected", "expected `>`"),
-    ("($(a) => {}", 0, "expected", "expected `=`"),
-    // Variables of a pattern have a specifier.
-    ("($x) => {}", 0, "unexpected", "missing fragment specifier"),
-    ("($x:) => {}", 0, "unexpected", "missing fragment specifier"),
-    ("($x:_) => {}", 0, "unexpected", "missing fragment specifier"),
-    ("($x:1) => {}", 0, "unexpected", "missing fragment specifier"),
-    ("($x ident) => {}", 0, "unexpected", "missing fragment specifier"),
-    ("($x::ident) => {}", 0, "unexpected", "missing fragment specifier"),
-    ("([a {$x}]) => {}", 0, "unexpected", "missing fragment specifier"),
-    ("() => {}; ($x) => {}", 1, "unexpected", "missing fragment specifier"),
-    ("() => {}; ($x) => {}; () => {}", 1, "unexpected", "missing fragment specifier"),
-    ("($x:ident $y:tt $z:foo) => {}", 1),
-    ("($_:ident) => {}", 1),
-    // What comes after a dollar.
-    ("($1) => {}", 0, "expected", "expected ident"),
-    ("($+) => {}", 0, "expected", "expected ident"),
-    ("() => {$1}", 0, "expected", "expected ident"),
-    ("() => {[$+]}", 0, "expected", "expected ident"),
-    ("($[a]) => {}", 0, "expected", "expected `$()` repetition or `${}` expression"),
-    ("() => {$[a]}", 0, "expected", "expected `$()` repetition or `${}` expression"),
-    ("($$) => {}", 0, "unexpected", "`$$` is not allowed on the pattern side"),
+// Definitions that no text gives.
+pub const OF_TREES: &str = rows![
+    // A quote that no name follows separates rounds, as in `($(a)' *) => {$(a)' *}`.
+    ("rules", "tokens 22
+open ( 0 0 1
+alone $ 0 1 2
+open ( 0 2 3
+word a 0 3 4
+close ) 0 4 5
+joint ' 0 5 6
+alone * 0 7 8
+close ) 0 8 9
+joint = 0 10 11
+alone > 0 11 12
+open { 0 13 14
+alone $ 0 14 15
+open ( 0 15 16
+word a 0 16 17
+close ) 0 17 18
+joint ' 0 18 19
+alone * 0 20 21
+close } 0 21 22", 1),
+    ("rules", "tokens 24
+open ( 0 0 1
+alone $ 0 1 2
+open ( 0 2 3
+word a 0 3 4
+close ) 0 4 5
+joint ' 0 5 6
+word b 0 7 8
+alone ? 0 8 9
+close ) 0 9 10
+joint = 0 11 12
+alone > 0 12 13
+open { 0 14 15
+alone $ 0 15 16
+open ( 0 16 17
+word a 0 17 18
+close ) 0 18 19
+joint ' 0 19 20
+word b 0 21 22
+alone ? 0 22 23
+close } 0 23 24", 1),
+    // Or it is invalid: `b'*`, `''b*` and `'1*`.
+    ("rules", "tokens 15
+open ( 0 0 1
+alone $ 0 1 2
+open ( 0 2 3
+word a 0 3 4
+close ) 0 4 5
+word b 0 5 6
+joint ' 0 6 7
+alone * 0 7 8
+close ) 0 8 9
+joint = 0 10 11
+alone > 0 11 12
+open { 0 13 14
+close } 0 14 15", 0, "invalid"),
+    ("rules", "tokens 15
+open ( 0 0 1
+close ) 0 1 2
+joint = 0 3 4
+alone > 0 4 5
+open { 0 6 7
+alone $ 0 7 8
+open ( 0 8 9
+word a 0 9 10
+close ) 0 10 11
+word b 0 11 12
+joint ' 0 12 13
+alone * 0 13 14
+close } 0 14 15", 0, "invalid"),
+    ("rules", "tokens 16
+open ( 0 0 1
+alone $ 0 1 2
+open ( 0 2 3
+word a 0 3 4
+close ) 0 4 5
+joint ' 0 5 6
+joint ' 0 6 7
+word b 0 7 8
+alone * 0 8 9
+close ) 0 9 10
+joint = 0 11 12
+alone > 0 12 13
+open { 0 14 15
+close } 0 15 16", 0, "invalid"),
+    ("rules", "tokens 16
+open ( 0 0 1
+close ) 0 1 2
+joint = 0 3 4
+alone > 0 4 5
+open { 0 6 7
+alone $ 0 7 8
+open ( 0 8 9
+word a 0 9 10
+close ) 0 10 11
+joint ' 0 11 12
+joint ' 0 12 13
+word b 0 13 14
+alone * 0 14 15
+close } 0 15 16", 0, "invalid"),
+    ("rules", "tokens 15
+open ( 0 0 1
+alone $ 0 1 2
+open ( 0 2 3
+word a 0 3 4
+close ) 0 4 5
+joint ' 0 5 6
+number 1 0 6 7
+alone * 0 7 8
+close ) 0 8 9
+joint = 0 10 11
+alone > 0 11 12
+open { 0 13 14
+close } 0 14 15", 0, "invalid"),
+    ("rules", "tokens 15
+open ( 0 0 1
+close ) 0 1 2
+joint = 0 3 4
+alone > 0 4 5
+open { 0 6 7
+alone $ 0 7 8
+open ( 0 8 9
+word a 0 9 10
+close ) 0 10 11
+joint ' 0 11 12
+number 1 0 12 13
+alone * 0 13 14
+close } 0 14 15", 0, "invalid"),
+    // `() => {${len(u8)}}` where the `u8` is a number of a suffix alone, and `() => {${len 1}}` with an invisible group around the `1`.
+    ("rules", "tokens 23
+open ( 0 0 1
+close ) 0 1 2
+joint = 0 3 4
+alone > 0 4 5
+open { 0 6 7
+alone $ 0 7 8
+open { 0 8 9
+word len 0 9 12
+open ( 0 14 15
+suffixed2 u8 0 15 20
+close ) 0 20 21
+close ) 0 21 22
+close ) 0 22 23", 0, "unexpected", "invalid metavariable expression"),
+    ("rules", "tokens 23
+open ( 0 0 1
+close ) 0 1 2
+joint = 0 3 4
+alone > 0 4 5
+open { 0 6 7
+alone $ 0 7 8
+open { 0 8 9
+word len 0 9 12
+open none 0 14 15
+number 1 0 15 20
+close ) 0 20 21
+close ) 0 21 22
+close ) 0 22 23", 0, "unexpected", "invalid metavariable expression"),
 ];
 
-pub const THIRD: &str = rows![
-    ("([$$]) => {}", 0, "unexpected", "`$$` is not allowed on the pattern side"),
-    ("(${len()}) => {}", 0, "unexpected", "`${}` metavariable expressions are not allowed in matchers"),
-    ("(a {${}}) => {}", 0, "unexpected", "`${}` metavariable expressions are not allowed in matchers"),
-    ("($$ $1) => {$[a]}", 0, "unexpected", "`$$` is not allowed on the pattern side"),
-    ("($1 $$) => {$[a]}", 0, "expected", "expected ident"),
-    ("($x:ident) => {$[a] $1}", 0, "expected", "expected `$()` repetition or `${}` expression"),
-    ("($) => {}", 1),
-    ("() => {$}", 1),
-    ("() => {$$}", 1),
-    ("($crate) => {}", 1),
-    // Groups of a rule are taken before they are read.
-    ("($x)", 0, "expected", "expected `=`"),
-    ("($x:path) =", 0, "expected", "expected `>`"),
-    ("($(a)*) =>", 0, "expected", "expected subtree"),
-    ("($$) => x", 0, "expected", "expected subtree"),
-    // Each prefix of a definition.
-    ("", 0),
-    ("(", 0, "expected", "expected `=`"),
-    ("($", 0, "expected", "expected `=`"),
-    ("($x", 0, "expected", "expected `=`"),
-    ("($x:", 0, "expected", "expected `=`"),
-    ("($x:i", 0, "expected", "expected `=`"),
+pub const BODIES: &str = rows![
+    ("body", "", 0),
+    ("body", "() => {}", 1),
+    ("body", "() => {},", 1),
+    ("body", "() => {}; () => {}, () => {};", 3),
+    (
+        "body",
+        "() => {}, () => {} x",
+        2,
+        "expected",
+        "expected `;` or `,` to delimit rules"
+    ),
+    (
+        "body",
+        "() => {} () => {}",
+        1,
+        "expected",
+        "expected `;` or `,` to delimit rules"
+    ),
+    (
+        "body",
+        "() => {}: () => {}",
+        1,
+        "expected",
+        "expected `;` or `,` to delimit rules"
+    ),
+    ("body", "() => {},,", 1, "expected", "expected subtree"),
+    ("body", "() => {};,", 1, "expected", "expected subtree"),
+    ("body", ",", 0, "expected", "expected subtree"),
+    (
+        "body",
+        "() => {}, attr => {}",
+        1,
+        "expected",
+        "expected `()`"
+    ),
+    (
+        "body",
+        "() => {}, ($x) => {}",
+        1,
+        "unexpected",
+        "missing fragment specifier"
+    ),
 ];
 
-pub const FOURTH: &str = rows![
-    ("($x:id", 0, "expected", "expected `=`"),
-    ("($x:ide", 0, "expected", "expected `=`"),
-    ("($x:iden", 0, "expected", "expected `=`"),
-    ("($x:ident", 0, "expected", "expected `=`"),
-    ("($x:ident)", 0, "expected", "expected `=`"),
-    ("($x:ident) ", 0, "expected", "expected `=`"),
-    ("($x:ident) =", 0, "expected", "expected `>`"),
-    ("($x:ident) =>", 0, "expected", "expected subtree"),
-    ("($x:ident) => ", 0, "expected", "expected subtree"),
-    ("($x:ident) => {", 1),
-    ("($x:ident) => {$", 1),
-    ("($x:ident) => {$x", 1),
-    ("($x:ident) => {$x}", 1),
-    // The first fault is reported: one of the pattern before one of the template, and reading stops at the first of all.
-    ("($x) x", 0, "expected", "expected `=`"),
-    ("($x) => {}", 0, "unexpected", "missing fragment specifier"),
-    ("($x) => {$1}", 0, "unexpected", "missing fragment specifier"),
-    ("(a $x $$) => {}", 0, "unexpected", "missing fragment specifier"),
-    ("() => {}; ($x) => {}; x", 1, "unexpected", "missing fragment specifier"),
-    ("() => {};;", 1, "expected", "expected subtree"),
-    ("() => {};; ($x) => {}", 1, "expected", "expected subtree"),
+pub const ARGUMENTS: &str = rows![
+    ("", "", 1),
+    ("$x", "", 0, "unexpected", "missing fragment specifier"),
+    ("", "$[a]", 0, "expected", "expected `$()` repetition or `${}` expression"),
+    ("$x", "$[a]", 0, "unexpected", "missing fragment specifier"),
+    ("$[a]", "$1", 0, "expected", "expected `$()` repetition or `${}` expression"),
+    ("", "() => {} x", 1),
+    // What is refused has its styles.
+    ("$()*", "", 1, "refused", "", 1),
+    ("body", "derive() ($()*) => {}, x", 1, "refused", "", 4),
+    // Arguments and a body are one rule, which no attribute calls.
+    ("attr $x:ident", "[$x] => {}", 1, "", "", 1),
 ];
 
-pub const SPECIFIERS: &str = rows![
-    ("path"),
-    ("ty"),
-    ("pat"),
-    ("pat_param"),
-    ("stmt"),
-    ("block"),
-    ("meta"),
-    ("item"),
-    ("vis"),
-    ("expr"),
-    ("expr_2021"),
-    ("ident"),
-    ("tt"),
-    ("lifetime"),
-    ("literal"),
-];
-
-/// Specifiers that have no fault in an edition.
-#[derive(Clone, Copy)]
-pub struct Specifiers(pub Edition);
-
-impl Rows for Specifiers {
-    fn is_so(&self, alloc: Global, [specifier, ..]: Fields) -> Result<bool, AllocError> {
-        let edition = self.0;
-        let definition = format!(in alloc; "($x:{specifier} {specifier}) => {{$x}}")?;
-        let tree = lexed(alloc, 0, definition.as_str())?;
-        let rules = DeclarativeMacro::parse_macro_rules(alloc, &tree, |_context| edition)?;
-        is_read(alloc, &rules, (1, Reported::Nothing))
-    }
-}
-
-pub const UNKNOWN: &str = rows![
-    ("Path"),
-    ("tys"),
-    ("expr2021"),
-    ("expr_2024"),
-    ("ident_"),
-    ("tts"),
+// The bits of the styles.
+pub const STYLES: &str = rows![
+    ("rules", "attr() () => {A}; () => {B}", 2, "", "", 3),
+    ("rules", "", 0, "", "", 1),
+    ("rules", "x", 0, "expected", "expected subtree", 1),
+    ("rules", "() => {}", 1, "", "", 1),
+    ("rules", "unsafe () => {}", 1, "", "", 1),
+    ("rules", "attr() () => {}", 1, "", "", 2),
+    ("rules", "unsafe attr() () => {}", 1, "", "", 2),
+    ("rules", "attr() () => {}; attr() () => {}", 2, "", "", 2),
+    ("rules", "derive() () => {}", 1, "", "", 4),
+    ("rules", "derive() () => {}; x", 1, "expected", "expected subtree", 4),
+    ("rules", "() => {}; derive{a} () => {}", 2, "", "", 5),
+    ("rules", "attr[] () => {}; unsafe derive() () => {}", 2, "", "", 6),
+    ("rules", "derive() () => {}; attr() () => {}; () => {}", 3, "", "", 7),
+    // Raw words count as well.
+    ("rules", "r#unsafe r#attr() () => {}", 1, "", "", 2),
 ];

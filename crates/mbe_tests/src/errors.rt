@@ -1,10 +1,10 @@
-// Copies of errors, and their texts.
+// Copies of faults, errors with their places, and the texts of errors of counts. Those of other errors are in tests/mbex.
 use crate::definitions::reported_as;
 use crate::tokens::at;
-use mbe::{CountError, ExpandError, ExpandErrorKind, ParseError};
+use mbe::{CountError, ExpandError, ParseError};
+use mbe_tt::span::Span;
 use std::alloc::{AllocError, Global};
 use std::fmt::Display;
-use std::rc::Rc;
 use test_rows::rows;
 
 /// Whether that is shown of it.
@@ -13,27 +13,28 @@ pub fn is_shown<T: Display>(alloc: Global, shown: &T, want: &str) -> Result<bool
     Ok(text.as_str() == want)
 }
 
+/// Whether the error is that text, with its file and its bytes. There is none where nothing is wanted.
+pub fn is_error(
+    alloc: Global,
+    error: Option<&ExpandError>,
+    want: &str,
+) -> Result<bool, AllocError> {
+    let Some(error) = error else {
+        return Ok(want.is_empty());
+    };
+    let Span {
+        file,
+        start,
+        end,
+        ..
+    } = error.inner.0;
+    let shown = format!(in alloc; "{error} {file} {start} {end}")?;
+    Ok(shown.as_str() == want && error.inner.0 == at(file, start, end))
+}
+
 // A fault by its sort and its text.
 fn fault(alloc: Global, sort: &str, text: &'static str) -> Result<ParseError, AllocError> {
     reported_as(sort, text).error(alloc)?.ok_or(AllocError)
-}
-
-// The sort and the text of a fault, and what is shown of it.
-pub const FAULTS: &str = rows![
-    ("unexpected", "so", "so"),
-    ("expected", "expected `;`", "expected `;`"),
-    ("invalid", "", "invalid repeat"),
-    ("refused", "", "empty token tree in repetition"),
-];
-
-/// Whether a fault is shown so.
-pub fn is_fault_shown(
-    alloc: Global,
-    sort: &str,
-    text: &'static str,
-    want: &str,
-) -> Result<bool, AllocError> {
-    is_shown(alloc, &fault(alloc, sort, text)?, want)
 }
 
 // The sorts and the texts of two faults, and whether a copy of the first equals the second.
@@ -86,43 +87,6 @@ pub fn is_copied(
     let one = fault(alloc, one, text)?;
     let other = fault(alloc, other, other_text)?;
     Ok((one.try_clone(alloc)? == other) == (is_equal == "true"))
-}
-
-// The kind of an expansion's error by the first letter of its name.
-fn error_kind(alloc: Global, name: &str, text: &str) -> Result<ExpandErrorKind, AllocError> {
-    match name.chars().next() {
-        Some('b') => Ok(ExpandErrorKind::BindingError(String::from_str(alloc, text)?)),
-        Some('u') => Ok(ExpandErrorKind::UnresolvedBinding(String::from_str(alloc, text)?)),
-        Some('l') => Ok(ExpandErrorKind::LeftoverTokens),
-        Some('e') => Ok(ExpandErrorKind::LimitExceeded),
-        Some('n') => Ok(ExpandErrorKind::NoMatchingRule),
-        _ => Ok(ExpandErrorKind::UnexpectedToken),
-    }
-}
-
-// The kind of an expansion's error and its text, and what is shown of it.
-pub const KINDS: &str = rows![
-    ("binding", "so", "so"),
-    ("unresolved", "x", "could not find binding x"),
-    ("leftover", "", "leftover tokens"),
-    ("exceeded", "", "Expand exceed limit"),
-    ("no rule", "", "no rule matches input tokens"),
-    ("token", "", "unexpected token in input"),
-];
-
-/// Whether the kind is shown so, and an error of the kind too.
-pub fn is_kind_shown(
-    alloc: Global,
-    name: &str,
-    text: &str,
-    want: &str,
-) -> Result<bool, AllocError> {
-    let kind = error_kind(alloc, name, text)?;
-    let is_so = is_shown(alloc, &kind, want)?;
-    let error = ExpandError {
-        inner: Rc::new(alloc, (at(1, 2, 3), kind))?,
-    };
-    Ok(is_so && is_shown(alloc, &error, want)?)
 }
 
 /// Whether errors of counts are shown.

@@ -7,8 +7,9 @@ use mbe_grammar::SampleGrammar;
 use mbe_text::lexer::lex;
 use mbe_text::printing::print_tree;
 use mbe_tt::span::Edition;
-use std::alloc::Global;
+use std::alloc::{AllocError, Global};
 use std::io::Write;
+use test_rows::rows;
 
 /// Prints what a call with this argument expands to.
 pub fn print_expanded<W: Write>(
@@ -36,49 +37,34 @@ pub fn print_expanded<W: Write>(
     Ok(())
 }
 
-mod tests {
-    use super::print_expanded;
-    use std::alloc::Global;
-    use std::process::Abort;
-    use std::test::Fail;
-
-    // Rules, an argument, and what is printed; nothing where the definition or the call has an error.
-    static PRINTED: [(&str, &str, &str); 4] = [
-        (
-            "($x:ident = $t:tt;) => { pair ($t) $x }",
-            "a = 1;",
-            "SUBTREE $$ 1@0..6 1@0..6
+// Rules, an argument, and what is printed; nothing where the definition or the call has an error.
+pub const PRINTED: &str = rows![
+    (
+        "($x:ident = $t:tt;) => { pair ($t) $x }",
+        "a = 1;",
+        "SUBTREE $$ 1@0..6 1@0..6
   IDENT   pair 0@25..29
   SUBTREE () 0@30..31 0@33..34
     LITERAL Integer 1 1@4..5
   IDENT   a 1@0..1
 ",
-        ),
-        ("(a) => {}", "a", "SUBTREE $$ 1@0..1 1@0..1\n"),
-        ("(b) => {}", "a", ""),
-        ("($x:ident) => {$x} x", "a", ""),
-    ];
+    ),
+    ("(a) => {}", "a", "SUBTREE $$ 1@0..1 1@0..1\n"),
+    ("(b) => {}", "a", ""),
+    ("($x:ident) => {$x} x", "a", ""),
+];
 
-    fn assert_prints(
-        rt: &impl Abort,
-        alloc: Global,
-        (rules, argument): (&str, &str),
-        want: &str,
-    ) -> Result<(), Fail> {
-        assert!(rt; rules.len() < 1_000_000 && argument.len() < 1_000_000);
-        let mut out = Vec::new(alloc);
-        let printed = print_expanded(alloc, rules, argument, &mut out);
-        assert_eq!(rt; printed.is_ok(), !want.is_empty(), "{rules} on {argument}");
-        let output = String::from_utf8(out)?;
-        assert_eq!(rt; output.as_str(), want, "{rules} on {argument}");
-        Ok(())
+/// Whether that is printed.
+pub fn is_printed(
+    alloc: Global,
+    rules: &str,
+    argument: &str,
+    want: &str,
+) -> Result<bool, AllocError> {
+    if rules.len() > u32::MAX as usize || argument.len() > u32::MAX as usize {
+        return Err(AllocError);
     }
-
-    #[test]
-    fn the_example_prints_the_expansion(rt: HostRuntime) -> Result<(), Fail> {
-        for (rules, argument, want) in &PRINTED {
-            assert_prints(&rt, rt.alloc(), (rules, argument), want)?;
-        }
-        Ok(())
-    }
+    let mut out = Vec::new(alloc);
+    let printed = print_expanded(alloc, rules, argument, &mut out);
+    Ok(printed.is_ok() != want.is_empty() && out.as_slice() == want.as_bytes())
 }

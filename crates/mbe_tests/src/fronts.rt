@@ -1,9 +1,9 @@
 // What `expect_fragment` takes from the front of an iterator, and what it reports.
-use crate::fragments::taking;
-use crate::grammar::{NoMemory, Numbered, grammar_of};
+use crate::errors::is_error;
+use crate::grammar::{NoMemory, grammar_of};
 use crate::tokens::{at, byte};
 use crate::trees::lexed;
-use mbe::{ExpandError, ExpandErrorKind, ExpandResult, expect_fragment};
+use mbe::{ExpandResult, expect_fragment};
 use mbe_grammar::SampleGrammar;
 use mbe_tt::grammar::PrefixEntryPoint;
 use mbe_tt::grammar::PrefixEntryPoint::{
@@ -11,9 +11,7 @@ use mbe_tt::grammar::PrefixEntryPoint::{
 };
 use mbe_tt::span::{DelimSpan, Span};
 use mbe_tt::tt::TokenTreesView;
-use refusing::Refusing;
-use std::alloc::{AllocError, Allocator, Global};
-use std::rc::Rc;
+use std::alloc::{AllocError, Global};
 use test_rows::{Fields, Rows, rows};
 
 // The spans around the arguments of these tests.
@@ -22,13 +20,6 @@ fn around() -> DelimSpan {
         opening: at(1, 90, 91),
         close: at(1, 98, 99),
     }
-}
-
-fn binding_error(alloc: Global, text: &str, span: Span) -> Result<ExpandError, AllocError> {
-    let kind = ExpandErrorKind::BindingError(String::from_str(alloc, text)?);
-    Ok(ExpandError {
-        inner: Rc::new(alloc, (span, kind))?,
-    })
 }
 
 static ENTRIES: [(&str, PrefixEntryPoint); 10] = [
@@ -44,7 +35,7 @@ static ENTRIES: [(&str, PrefixEntryPoint); 10] = [
     ("Vis", Vis),
 ];
 
-pub fn entry_of(name: &str) -> Result<PrefixEntryPoint, AllocError> {
+fn entry_of(name: &str) -> Result<PrefixEntryPoint, AllocError> {
     for &(other, entry) in &ENTRIES {
         if other == name {
             return Ok(entry);
@@ -59,15 +50,6 @@ fn span_of(bytes: &str) -> Option<Span> {
     Some(at(1, byte(start), byte(end)))
 }
 
-// The error of a row, if there is one: its text and its bytes.
-fn error_of(alloc: Global, row: &str) -> Result<Option<ExpandError>, AllocError> {
-    let Some((rest, end)) = row.rsplit_once(' ') else {
-        return Ok(None);
-    };
-    let (text, start) = rest.rsplit_once(' ').unwrap_or(("", ""));
-    Ok(Some(binding_error(alloc, text, at(1, byte(start), byte(end)))?))
-}
-
 // Whether a front has so many trees and flat tokens, and that error.
 fn is_front(
     alloc: Global,
@@ -76,11 +58,11 @@ fn is_front(
     error: &str,
 ) -> Result<bool, AllocError> {
     let found = format!(in alloc; "{} {}", front.value.len(), front.value.flat_len())?;
-    Ok(found.as_str() == size && front.err == error_of(alloc, error)?)
+    Ok(found.as_str() == size && is_error(alloc, front.err.as_ref(), error)?)
 }
 
-// The grammar, if the table has none of its own, or `sample`, an entry point and a text, the numbers of trees and of flat tokens of its front, where the
-// next tree is, and the error with its place.
+// The grammar, or `sample`, an entry point and a text, the numbers of trees and of flat tokens of its front, where the
+// next tree is, and the error with its file and its bytes.
 #[derive(Clone, Copy)]
 pub struct Fronts;
 
@@ -93,9 +75,7 @@ impl Rows for Fronts {
         let argument = lexed(alloc, 1, text)?;
         let mut iter = argument.iter();
         let entry = entry_of(entry)?;
-        let front = if grammar.is_empty() {
-            expect_fragment(alloc, &Numbered, &mut iter, entry, around())?
-        } else if grammar == "sample" {
+        let front = if grammar == "sample" {
             expect_fragment(alloc, &SampleGrammar, &mut iter, entry, around())?
         } else {
             expect_fragment(alloc, &grammar_of(grammar), &mut iter, entry, around())?
@@ -110,7 +90,7 @@ pub const COUNTED: &str = rows![
     ("sample", "Vis", "", "0 0", "", ""),
     ("sample", "Vis", "pub(crate) x", "2 4", "11 12", ""),
     ("sample", "Ty", "&'a mut [u8] z", "5 7", "13 14", ""),
-    ("sample", "Expr", "", "0 0", "", "expected Expr 98 99"),
+    ("sample", "Expr", "", "0 0", "", "expected Expr 1 98 99"),
     // Whole trees.
     ("0", "Vis", "", "0 0", "", ""),
     ("0", "Vis", "x", "0 0", "0 1", ""),
@@ -118,61 +98,38 @@ pub const COUNTED: &str = rows![
     ("7", "Ty", "&'a mut [u8] z", "5 7", "13 14", ""),
     ("4", "Expr", "(a b) c", "1 4", "6 7", ""),
     ("9", "Expr", "(a b) c", "2 5", "", ""),
+    ("2", "Expr", "(a b) c", "1 4", "6 7", "expected Expr 1 0 1"),
     // A front that ends in a group takes all of it.
-    ("2", "Ty", "x[a{b}()] z", "2 9", "10 11", "expected Ty 0 1"),
-    ("3", "Ty", "x[a{b}()] z", "2 9", "10 11", "expected Ty 0 1"),
-    ("4", "Ty", "x[a{b}()] z", "2 9", "10 11", "expected Ty 0 1"),
-    ("5", "Ty", "x[a{b}()] z", "2 9", "10 11", "expected Ty 0 1"),
-    ("6", "Ty", "x[a{b}()] z", "2 9", "10 11", "expected Ty 0 1"),
-    ("7", "Ty", "x[a{b}()] z", "2 9", "10 11", "expected Ty 0 1"),
-    ("8", "Ty", "x[a{b}()] z", "2 9", "10 11", "expected Ty 0 1"),
+    ("2", "Ty", "x[a{b}()] z", "2 9", "10 11", "expected Ty 1 0 1"),
+    ("3", "Ty", "x[a{b}()] z", "2 9", "10 11", "expected Ty 1 0 1"),
+    ("4", "Ty", "x[a{b}()] z", "2 9", "10 11", "expected Ty 1 0 1"),
+    ("5", "Ty", "x[a{b}()] z", "2 9", "10 11", "expected Ty 1 0 1"),
+    ("6", "Ty", "x[a{b}()] z", "2 9", "10 11", "expected Ty 1 0 1"),
+    ("7", "Ty", "x[a{b}()] z", "2 9", "10 11", "expected Ty 1 0 1"),
+    ("8", "Ty", "x[a{b}()] z", "2 9", "10 11", "expected Ty 1 0 1"),
     ("9", "Ty", "x[a{b}()] z", "2 9", "10 11", ""),
     // A fault is reported by the name of its entry point.
-    ("0 fault", "Path", "", "0 0", "", "expected Path 98 99"),
-    ("1 fault", "Path", "a b", "1 1", "2 3", "expected Path 0 1"),
-    ("0 fault", "Expr", "", "0 0", "", "expected Expr 98 99"),
-    ("1 fault", "Expr", "a b", "1 1", "2 3", "expected Expr 0 1"),
-    ("0 fault", "Ty", "", "0 0", "", "expected Ty 98 99"),
-    ("1 fault", "Ty", "a b", "1 1", "2 3", "expected Ty 0 1"),
-    ("0 fault", "PatTop", "", "0 0", "", "expected PatTop 98 99"),
-    ("1 fault", "PatTop", "a b", "1 1", "2 3", "expected PatTop 0 1"),
-    ("0 fault", "Pat", "", "0 0", "", "expected Pat 98 99"),
-    ("1 fault", "Pat", "a b", "1 1", "2 3", "expected Pat 0 1"),
-    ("0 fault", "Stmt", "", "0 0", "", "expected Stmt 98 99"),
-    ("1 fault", "Stmt", "a b", "1 1", "2 3", "expected Stmt 0 1"),
-    ("0 fault", "Block", "", "0 0", "", "expected Block 98 99"),
-    ("1 fault", "Block", "a b", "1 1", "2 3", "expected Block 0 1"),
-    ("0 fault", "MetaItem", "", "0 0", "", "expected MetaItem 98 99"),
-    ("1 fault", "MetaItem", "a b", "1 1", "2 3", "expected MetaItem 0 1"),
-    ("0 fault", "Item", "", "0 0", "", "expected Item 98 99"),
-    ("1 fault", "Item", "a b", "1 1", "2 3", "expected Item 0 1"),
-    ("0 fault", "Vis", "", "0 0", "", "expected Vis 98 99"),
-    ("1 fault", "Vis", "a b", "1 1", "2 3", "expected Vis 0 1"),
+    ("0 fault", "Path", "", "0 0", "", "expected Path 1 98 99"),
+    ("1 fault", "Path", "a b", "1 1", "2 3", "expected Path 1 0 1"),
+    ("0 fault", "Expr", "", "0 0", "", "expected Expr 1 98 99"),
+    ("1 fault", "Expr", "a b", "1 1", "2 3", "expected Expr 1 0 1"),
+    ("0 fault", "Ty", "", "0 0", "", "expected Ty 1 98 99"),
+    ("1 fault", "Ty", "a b", "1 1", "2 3", "expected Ty 1 0 1"),
+    ("0 fault", "PatTop", "", "0 0", "", "expected PatTop 1 98 99"),
+    ("1 fault", "PatTop", "a b", "1 1", "2 3", "expected PatTop 1 0 1"),
+    ("0 fault", "Pat", "", "0 0", "", "expected Pat 1 98 99"),
+    ("1 fault", "Pat", "a b", "1 1", "2 3", "expected Pat 1 0 1"),
+    ("0 fault", "Stmt", "", "0 0", "", "expected Stmt 1 98 99"),
+    ("1 fault", "Stmt", "a b", "1 1", "2 3", "expected Stmt 1 0 1"),
+    ("0 fault", "Block", "", "0 0", "", "expected Block 1 98 99"),
+    ("1 fault", "Block", "a b", "1 1", "2 3", "expected Block 1 0 1"),
+    ("0 fault", "MetaItem", "", "0 0", "", "expected MetaItem 1 98 99"),
+    ("1 fault", "MetaItem", "a b", "1 1", "2 3", "expected MetaItem 1 0 1"),
+    ("0 fault", "Item", "", "0 0", "", "expected Item 1 98 99"),
+    ("1 fault", "Item", "a b", "1 1", "2 3", "expected Item 1 0 1"),
+    ("0 fault", "Vis", "", "0 0", "", "expected Vis 1 98 99"),
+    ("1 fault", "Vis", "a b", "1 1", "2 3", "expected Vis 1 0 1"),
 ];
-
-pub const NUMBERED: &str = rows![
-    ("", "Path", "a ", "1 1", "", ""),
-    ("", "Expr", "a a ", "2 2", "", ""),
-    ("", "Ty", "a a a ", "3 3", "", ""),
-    ("", "PatTop", "a a a a ", "4 4", "", ""),
-    ("", "Pat", "a a a a a ", "5 5", "", ""),
-    ("", "Stmt", "a a a a a a ", "6 6", "", ""),
-    ("", "Block", "a a a a a a a ", "7 7", "", ""),
-    ("", "MetaItem", "a a a a a a a a ", "8 8", "", ""),
-    ("", "Item", "a a a a a a a a a ", "9 9", "", ""),
-    ("", "Vis", "a a a a a a a a a a ", "10 10", "", ""),
-];
-
-/// Whether a front that ends in a group takes all of it.
-pub fn is_group_taken(alloc: Global) -> Result<bool, AllocError> {
-    let argument = lexed(alloc, 1, "(a b) c")?;
-    let group = argument.iter().next_as_view();
-    let mut iter = argument.iter();
-    let front = expect_fragment(alloc, &taking(2), &mut iter, Expr, around())?;
-    let error = binding_error(alloc, "expected Expr", at(1, 0, 1))?;
-    let is_taken = Some(front.value) == group && iter.next_span() == Some(at(1, 6, 7));
-    Ok(is_taken && front.err == Some(error))
-}
 
 /// Whether a grammar without memory moves nothing.
 pub fn moves_nothing(alloc: Global) -> Result<bool, AllocError> {
@@ -180,29 +137,4 @@ pub fn moves_nothing(alloc: Global) -> Result<bool, AllocError> {
     let mut iter = argument.iter();
     let front = expect_fragment(alloc, &NoMemory, &mut iter, Expr, around());
     Ok(front.is_err() && iter.remaining() == argument.iter().remaining())
-}
-
-// Whether memory ran out for the error of a front that ends in a group. Then nothing has moved; nothing where something has, or nothing
-// has though there was memory.
-fn runs_out<A: Allocator + Copy>(alloc: A) -> Result<Option<bool>, AllocError> {
-    let argument = lexed(alloc, 1, "(a b) c")?;
-    let mut iter = argument.iter();
-    let front = expect_fragment(alloc, &taking(2), &mut iter, Expr, around());
-    let has_moved = iter.remaining() != argument.iter().remaining();
-    Ok((has_moved == front.is_ok()).then_some(front.is_err()))
-}
-
-/// Whether each request is refused in turn, until none is, and more than one of them is of an error.
-pub fn are_refused(alloc: Global) -> bool {
-    let mut wanting = 0u64;
-    for request in 1..10_000u64 {
-        let alloc = Refusing::new(alloc, request);
-        match runs_out(&alloc) {
-            Ok(Some(true)) if alloc.has_refused() => wanting = wanting.saturating_add(1),
-            Ok(Some(false)) => return !alloc.has_refused() && wanting > 1,
-            Err(AllocError) if alloc.has_refused() => {}
-            _ => return false,
-        }
-    }
-    false
 }

@@ -1,7 +1,7 @@
 // The grammars that the tests hand in.
 ghost use Rattle.std.specs.Prelude.{◌≡◌};
 ghost use borrow.Author.Rules.{rules};
-ghost use Rattle.mbe_tests.specs.Counting.{may_be_empty, number_of};
+ghost use Rattle.mbe_tests.specs.Counting.{may_be_empty};
 
 use mbe_tt::grammar::{FragmentGrammar, Front, PrefixEntryPoint};
 use mbe_tt::tt::TokenTreesView;
@@ -89,58 +89,4 @@ fn may_be_empty(entry: PrefixEntryPoint) -> bool
     ensures { result ≡ may_be_empty entry }
 {
     matches!(entry, PrefixEntryPoint::Vis)
-}
-
-/// A grammar that takes another number of flat tokens for each entry point, and faults where there are fewer.
-#[derive(Clone, Copy)]
-pub struct Numbered;
-
-#[tactic(auto, using(mbe_tt::proofs::Places::CutLemmas::flat_length))]
-impl FragmentGrammar for Numbered {
-    ghost use Rattle.mbe_tests.specs.Counting.{numbered, numbered_lawful};
-
-    ghost grammar = { λ _. numbered };
-
-    ghost lawful = { λ _. numbered_lawful };
-
-    fn parse<A: Allocator>(
-        &self,
-        entry: PrefixEntryPoint,
-        tokens: TokenTreesView<'_, A>,
-    ) -> Result<Front, AllocError> {
-        let number = number_of(entry);
-        Ok(if tokens.flat_len() < number {
-            Front {
-                count: 0,
-                fault: true,
-            }
-        } else {
-            Front {
-                count: number,
-                fault: false,
-            }
-        })
-    }
-
-    fn is_keyword(&self, _text: &str) -> bool {
-        false
-    }
-}
-
-/// How many flat tokens `Numbered` takes.
-pub fn number_of(entry: PrefixEntryPoint) -> usize
-    ensures { result ≡ number_of entry }
-{
-    match entry {
-        PrefixEntryPoint::Path => 1,
-        PrefixEntryPoint::Expr => 2,
-        PrefixEntryPoint::Ty => 3,
-        PrefixEntryPoint::PatTop => 4,
-        PrefixEntryPoint::Pat => 5,
-        PrefixEntryPoint::Stmt => 6,
-        PrefixEntryPoint::Block => 7,
-        PrefixEntryPoint::MetaItem => 8,
-        PrefixEntryPoint::Item => 9,
-        PrefixEntryPoint::Vis => 10,
-    }
 }

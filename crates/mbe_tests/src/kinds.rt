@@ -1,7 +1,7 @@
 // Kinds of errors: copies, equality and hashes.
 use crate::errors::is_shown;
+use crate::tokens::at;
 use mbe::{CountError, ExpandError, ExpandErrorKind, ParseError};
-use mbe_tt::span::{Span, SyntaxContext};
 use std::alloc::{AllocError, Global};
 use std::error::Error;
 use std::hash::{DefaultHasher, Hash, Hasher};
@@ -36,13 +36,9 @@ fn are_same<T: Hash + PartialEq>(one: &T, two: &T) -> Option<bool> {
     (is_equal == (hash_of(one) == hash_of(two))).then_some(is_equal)
 }
 
-fn copy_of(alloc: Global, number: usize) -> Result<ExpandErrorKind, AllocError> {
-    kind(alloc, number)?.try_clone(alloc)
-}
-
 // Whether, of two kinds, a copy of the first equals the second exactly where they have one number, and is hashed alike then.
 fn are_compared(alloc: Global, (one, two): (usize, usize)) -> Result<bool, AllocError> {
-    let copy = copy_of(alloc, one)?;
+    let copy = kind(alloc, one)?.try_clone(alloc)?;
     Ok(are_same(&copy, &kind(alloc, two)?) == Some(one == two))
 }
 
@@ -56,19 +52,9 @@ pub fn are_all_compared(alloc: Global) -> Result<bool, AllocError> {
     Ok(true)
 }
 
-fn at(start: u32) -> Span {
-    Span {
-        file: 1,
-        ast: 0,
-        start,
-        end: 9,
-        ctx: SyntaxContext(0),
-    }
-}
-
 fn error(alloc: Global, start: u32, number: usize) -> Result<ExpandError, AllocError> {
     Ok(ExpandError {
-        inner: Rc::new(alloc, (at(start), kind(alloc, number)?))?,
+        inner: Rc::new(alloc, (at(1, start, 9), kind(alloc, number)?))?,
     })
 }
 
@@ -85,19 +71,15 @@ fn is_cloned(error: &ExpandError) -> Result<bool, AllocError> {
     Ok(are_same(&error.clone()?, error) == Some(true))
 }
 
-// Whether errors equal that one at byte 1 exactly where they have its place and its kind.
-fn are_kept_apart(alloc: Global, first: &ExpandError) -> Result<bool, AllocError> {
-    Ok(
-        is_cloned(first)?
-            && is_same(alloc, (1, 0), first)? == Some(true)
-            && is_same(alloc, (2, 0), first)? == Some(false)
-            && is_same(alloc, (1, 1), first)? == Some(false),
-    )
-}
-
-/// Whether errors are compared by place and kind.
+/// Whether errors equal one at byte 1 exactly where they have its place and its kind.
 pub fn are_errors_kept_apart(alloc: Global) -> Result<bool, AllocError> {
-    are_kept_apart(alloc, &error(alloc, 1, 0)?)
+    let first = error(alloc, 1, 0)?;
+    Ok(
+        is_cloned(&first)?
+            && is_same(alloc, (1, 0), &first)? == Some(true)
+            && is_same(alloc, (2, 0), &first)? == Some(false)
+            && is_same(alloc, (1, 1), &first)? == Some(false),
+    )
 }
 
 fn is_error_shown<E: Error>(alloc: Global, error: &E, want: &str) -> Result<bool, AllocError> {

@@ -1,9 +1,16 @@
-// Tests of the public calls of `mbe`, over trees that are built by calls; of each prefix of many definitions, equality and copies of macros,
-// the calls of results and errors, and derived texts.
+// Tests of the calls of `mbe`, `mbe_tt` and the program's `run` that a built program can't show: trees that no text gives, grammars and
+// markers that are handed in, rules that are kept beside a fault, equality, copies and derived texts, memory that runs out at any request,
+// and writers that fail at any call. What the program prints is tested by tests/mbex.
 #![tactic(auto)]
 
 #[cfg(test)]
+mod builders;
+#[cfg(test)]
+mod calls;
+#[cfg(test)]
 mod copies;
+#[cfg(test)]
+mod copying;
 #[cfg(test)]
 mod definitions;
 #[cfg(test)]
@@ -11,11 +18,7 @@ mod errors;
 #[cfg(test)]
 mod example;
 #[cfg(test)]
-mod expressions;
-#[cfg(test)]
-mod first_run;
-#[cfg(test)]
-mod fragments;
+mod expanding;
 #[cfg(test)]
 mod fronts;
 #[cfg(test)]
@@ -23,25 +26,17 @@ mod grammar;
 #[cfg(test)]
 mod kinds;
 #[cfg(test)]
-mod macro2;
-#[cfg(test)]
 mod marking;
 #[cfg(test)]
-mod matching;
+mod memory;
 #[cfg(test)]
 mod places;
 #[cfg(test)]
-mod prefixes;
+mod reading;
 #[cfg(test)]
-mod recovery;
-#[cfg(test)]
-mod refusals;
-#[cfg(test)]
-mod repetitions;
+mod requests;
 #[cfg(test)]
 mod results;
-#[cfg(test)]
-mod rounds;
 #[cfg(test)]
 mod runs;
 #[cfg(test)]
@@ -51,10 +46,12 @@ mod styles;
 #[cfg(test)]
 mod tables;
 #[cfg(test)]
-mod templates;
-#[cfg(test)]
 mod tokens;
 #[cfg(test)]
 mod trees;
 #[cfg(test)]
 mod verdicts;
+#[cfg(test)]
+mod worked;
+#[cfg(test)]
+mod writers;

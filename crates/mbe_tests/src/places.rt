@@ -1,9 +1,10 @@
 // Where errors are, and what is written beside them: the argument's opening, its closing and the call site are apart, and a
 // marker sets the context of what the template writes itself.
+use crate::errors::is_error;
 use crate::grammar::Counting;
 use crate::runs::{Expansion, defined};
 use crate::tokens::at;
-use crate::trees::{built_in_contexts, lexed};
+use crate::trees::{built_of, lexed};
 use mbe::{MacroCallStyle, ParseError};
 use mbe_tt::span::{Span, SyntaxContext};
 use mbe_tt::tt::{Delimiter, DelimiterKind, TopSubtree, TopSubtreeBuilder};
@@ -25,25 +26,25 @@ const MARKED: u32 = 7;
 // How many flat tokens the grammar takes without a fault, a definition, an argument, the rule, the error with its file and its bytes, and what
 // is written, each token with the number of its context.
 pub const MATCHES: &str = rows![
-    (1, "(a b) => {X}", "a c", 0, "unexpected token in input 1 2 3", "word X 0 10 11 7"),
+    (1, "(a b) => {X}", "a c", 0, "unexpected token in input 1 2 3", "word X 0:7 10 11"),
     // An error at the end of the argument, or of a group in it, is at the argument's closing.
-    (1, "(a b) => {X}", "a", 0, "expected ident: `b` 1 95 96", "word X 0 10 11 7"),
-    (1, "(a (b)) => {X}", "a ()", 0, "expected ident: `b` 1 95 96", "word X 0 12 13 7"),
+    (1, "(a b) => {X}", "a", 0, "expected ident: `b` 1 95 96", "word X 0:7 10 11"),
+    (1, "(a (b)) => {X}", "a ()", 0, "expected ident: `b` 1 95 96", "word X 0:7 12 13"),
     (1, "($(a)? $(a)?) => {}", "a", 0, "expected ident: `a` 1 95 96", ""),
     // A name that takes nothing is written as `missing` at its place, marked.
-    (1, "($x:ident) => {$x Y}", "", 0, "expected ident 1 95 96", "word missing 0 16 17 7
-word Y 0 18 19 7"),
+    (1, "($x:ident) => {$x Y}", "", 0, "expected ident 1 95 96", "word missing 0:7 16 17
+word Y 0:7 18 19"),
     // What no position reports is at the argument's opening.
-    (1, "(a) => {X}", "a b", 0, "leftover tokens 1 90 91", "word X 0 8 9 7"),
+    (1, "(a) => {X}", "a b", 0, "leftover tokens 1 90 91", "word X 0:7 8 9"),
     // Of two readings the one with a round comes first, so it is the one that is bound.
-    (0, "($($v:vis),*) => {$($v X)*}", "", 0, "unexpected token in input 1 90 91", "word X 0 23 24 7"),
+    (0, "($($v:vis),*) => {$($v X)*}", "", 0, "unexpected token in input 1 90 91", "word X 0:7 23 24"),
     // A group that doesn't fit reports nothing, so nothing is bound.
-    (1, "($x:ident (a)) => {$x}", "b c", 0, "leftover tokens 1 90 91", "alone $ 0 20 21 0
-word x 0 20 21 0"),
+    (1, "($x:ident (a)) => {$x}", "b c", 0, "leftover tokens 1 90 91", "alone $ 0 20 21
+word x 0 20 21"),
     // Both rules stop at the 1. The second has bound two names, in rounds; its first error is that no `;` comes first.
-    (1, "($a:ident, q; 2) => {A}; ($($x:ident),*; 2) => {B}", "p, q; 1", 1, "unexpected token in input 1 0 1", "word B 0 48 49 7"),
+    (1, "($a:ident, q; 2) => {A}; ($($x:ident),*; 2) => {B}", "p, q; 1", 1, "unexpected token in input 1 0 1", "word B 0:7 48 49"),
     // Here the first has, so it is as close as the second, and comes first.
-    (1, "($($x:ident),*; 2) => {A}; ($a:ident, $b:ident; 2) => {B}", "p, q; 1", 0, "unexpected token in input 1 0 1", "word A 0 23 24 7"),
+    (1, "($($x:ident),*; 2) => {A}; ($a:ident, $b:ident; 2) => {B}", "p, q; 1", 0, "unexpected token in input 1 0 1", "word A 0:7 23 24"),
     // No rule is for this style of call.
     (1, "attr() () => {A}", "", "", "no rule matches input tokens 2 40 44", ""),
 ];
@@ -51,34 +52,49 @@ word x 0 20 21 0"),
 pub const TEMPLATES: &str = rows![
     (1, "($($x:ident)*) => {$($x)+}", "", 0, "unexpected token in input 2 40 44", ""),
     (1, "($x:ident) => {$($x)*}", "a", 0, "Expand exceed limit 2 40 44", ""),
-    (1, "($($x:ident)*) => {$x Y}", "a b", 0, "expected simple binding, found nested binding `x` 0 20 21", "word Y 0 22 23 7"),
-    (1, "() => {${ignore($x)} Y}", "", 0, "could not find binding x 0 17 18", "word Y 0 21 22 7"),
-    (1, "() => {${count($x)} Y}", "", 0, "could not find binding x 2 40 44", "word Y 0 20 21 7"),
+    (1, "($($x:ident)*) => {$x Y}", "a b", 0, "expected simple binding, found nested binding `x` 0 20 21", "word Y 0:7 22 23"),
+    (1, "() => {${ignore($x)} Y}", "", 0, "could not find binding x 0 17 18", "word Y 0:7 21 22"),
+    (1, "() => {${count($x)} Y}", "", 0, "could not find binding x 2 40 44", "word Y 0:7 20 21"),
     // Numbers are at the call site, and aren't marked.
-    (1, "($($x:ident)*) => {${count($x)} $($x ${index()})*}", "a b", 0, "", "number 2 2 40 44 0
-word a 1 0 1 0
-number 0 2 40 44 0
-word b 1 2 3 0
-number 1 2 40 44 0"),
-    (3, "($e:expr) => {$e}", "1 + 2", 0, "", "open ( 0 15 16 7
-number 1 1 0 1 0
-alone + 1 2 3 0
-number 2 1 4 5 0
-close ) 0 15 16 7"),
-    (3, "($p:path) => {$p}", "V < u", 0, "", "word V 1 0 1 0
-joint : 2 40 44 0
-alone : 2 40 44 0
-alone < 1 2 3 0
-word u 1 4 5 0"),
-    (1, "() => {${concat(a, \"-\")} Y}", "", 0, "`${concat(..)}` is not generating a valid identifier 0 9 15", "word __ra_concat_dummy 0 9 15 7
-word Y 0 25 26 7"),
+    (1, "($($x:ident)*) => {${count($x)} $($x ${index()})*}", "a b", 0, "", "number 2 2 40 44
+word a 1 0 1
+number 0 2 40 44
+word b 1 2 3
+number 1 2 40 44"),
+    (3, "($e:expr) => {$e}", "1 + 2", 0, "", "open ( 0:7 15 16
+number 1 1 0 1
+alone + 1 2 3
+number 2 1 4 5
+close ) 0:7 15 16"),
+    (3, "($p:path) => {$p}", "V < u", 0, "", "word V 1 0 1
+joint : 2 40 44
+alone : 2 40 44
+alone < 1 2 3
+word u 1 4 5"),
+    (1, "() => {${concat(a, \"-\")} Y}", "", 0, "`${concat(..)}` is not generating a valid identifier 0 9 15", "word __ra_concat_dummy 0:7 9 15
+word Y 0:7 25 26"),
     // Of two parts without a text the first is reported.
-    (1, "($x:tt $y:tt) => {${concat($x, $y)}}", "(a) [b]", 0, "metavariables of `${concat(..)}` must be of type `ident`, `literal` or `tt` 0 28 29", "word __ra_concat_dummy 0 20 26 7"),
+    (1, "($x:tt $y:tt) => {${concat($x, $y)}}", "(a) [b]", 0, "metavariables of `${concat(..)}` must be of type `ident`, `literal` or `tt` 0 28 29", "word __ra_concat_dummy 0:7 20 26"),
     // Both rounds fault, and the first is reported; all of them are written but for what faults, without separators.
-    (1, "($($($x:ident)*;)*) => {$(Y $x Z),*}", "a ; ;", 0, "expected simple binding, found nested binding `x` 0 29 30", "word Y 0 26 27 7
-word Z 0 31 32 7
-word Y 0 26 27 7
-word Z 0 31 32 7"),
+    (1, "($($($x:ident)*;)*) => {$(Y $x Z),*}", "a ; ;", 0, "expected simple binding, found nested binding `x` 0 29 30", "word Y 0:7 26 27
+word Z 0:7 31 32
+word Y 0:7 26 27
+word Z 0:7 31 32"),
+    // What a template writes itself is marked.
+    (1, "($x:ident = $t:tt;) => { pair ($t) $x }", "a = 1;", 0, "", "word pair 0:7 25 29
+open ( 0:7 30 31
+number 1 1 4 5
+close ) 0:7 33 34
+word a 1 0 1"),
+    (1, "() => {1 + [a] $crate $$ $y}", "", 0, "", "number 1 0:7 7 8
+alone + 0:7 9 10
+open [ 0:7 11 12
+word a 0:7 12 13
+close ) 0:7 13 14
+word $crate 0:7 16 21
+alone $ 0:7 23 24
+alone $ 0 26 27
+word y 0 26 27"),
 ];
 
 fn span_of((file, start, end): Place) -> Span {
@@ -120,21 +136,6 @@ fn expansion_of(
     rules.expand(alloc, &grammar, &argument, marker, style, span_of(CALL))
 }
 
-// Whether the error is that one, there.
-fn is_error(alloc: Global, expansion: &Expansion<Global>, want: &str) -> Result<bool, AllocError> {
-    let Some(error) = &expansion.err else {
-        return Ok(want.is_empty());
-    };
-    let Span {
-        file,
-        start,
-        end,
-        ..
-    } = error.inner.0;
-    let shown = format!(in alloc; "{error} {file} {start} {end}")?;
-    Ok(shown.as_str() == want && error.inner.0 == at(file, start, end))
-}
-
 #[derive(Clone, Copy)]
 pub struct Places;
 
@@ -146,8 +147,8 @@ impl Rows for Places {
     ) -> Result<bool, AllocError> {
         let expansion = expansion_of(alloc, number(count), (definition, argument))?;
         let (tree, index) = &expansion.value;
-        let want = built_in_contexts(alloc, span_of(CALL), tokens)?;
+        let want = built_of(alloc, span_of(CALL), tokens)?;
         let is_so = *index == rule.parse::<u32>().ok() && *tree == want;
-        Ok(is_so && is_error(alloc, &expansion, error)?)
+        Ok(is_so && is_error(alloc, expansion.err.as_ref(), error)?)
     }
 }

@@ -17,8 +17,8 @@ fn are(answers: &[Counted], wanted: &[Want]) -> bool {
     answers.len() == wanted.len()
 }
 
-/// Whether results are made by each call.
-pub fn are_made() -> bool {
+// Whether results are made by each call.
+fn are_made() -> bool {
     let made = [
         ValueResult::new(3, Misplaced),
         ValueResult::ok(3),
@@ -38,8 +38,8 @@ pub fn are_made() -> bool {
     are(&made, &wanted)
 }
 
-/// Whether a result is the error where there is one.
-pub fn is_error() -> bool {
+// Whether a result is the error where there is one.
+fn is_error() -> bool {
     let failed: Counted = ValueResult::new(3, Misplaced);
     let fine: Counted = ValueResult::ok(3);
     failed.result() == Err(Misplaced) && fine.result() == Ok(3)
@@ -53,8 +53,8 @@ fn moved(answer: Counted) -> Counted {
     answer.map_err(|_err| OutOfBounds)
 }
 
-/// Whether values and errors are paired and mapped.
-pub fn are_mapped() -> bool {
+// Whether values and errors are paired and mapped.
+fn are_mapped() -> bool {
     let paired = Counted::new(3, Misplaced).zip_val(true);
     let is_paired = paired.value == (3, true) && paired.err == Some(Misplaced);
     let made = [
@@ -79,17 +79,22 @@ fn is_copied(answer: &Counted) -> Result<bool, AllocError> {
     Ok(is_lent && answer.try_clone()? == *answer)
 }
 
-/// Whether results are lent and copied.
-pub fn are_copied() -> bool {
+// Whether results are lent and copied.
+fn are_copied() -> bool {
     is_copied(&Counted::new(3, Misplaced)).unwrap_or(false)
         && is_copied(&Counted::ok(4)).unwrap_or(false)
 }
 
-/// Whether results are equal by both parts.
-pub fn are_compared() -> bool {
+// Whether results are equal by both parts.
+fn are_compared() -> bool {
     let answer: Counted = ValueResult::new(3, Misplaced);
     answer == ValueResult::new(3, Misplaced)
         && answer != Counted::new(4, Misplaced)
         && answer != Counted::new(3, OutOfBounds)
         && answer != Counted::ok(3)
+}
+
+/// Whether all of that is so.
+pub fn are_so() -> bool {
+    are_made() && is_error() && are_mapped() && are_copied() && are_compared()
 }

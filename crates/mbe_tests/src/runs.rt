@@ -2,8 +2,9 @@
 ghost use Rattle.mbe.specs.Macro.{IsChecked};
 ghost use Rattle.mbe.specs.MacroViews.{macro_of};
 
-use crate::grammar::{Counting, NOTHING};
-use crate::tokens::{at, byte};
+use crate::errors::is_error;
+use crate::grammar::{NOTHING, grammar_of};
+use crate::tokens::byte;
 use crate::trees::{built_of, lexed, read};
 use mbe::{
     DeclarativeMacro, ExpandError, ExpandErrorKind, ExpandResult, MacroCallStyle, MatchedArmIndex,
@@ -19,7 +20,7 @@ use test_rows::{Fields, Rows};
 pub type Expansion<A> = ExpandResult<(TopSubtree<A>, MatchedArmIndex), A>;
 
 /// The index of a rule and the tokens that it writes, each a line. Nothing where the first rule, which is the closest one, doesn't apply:
-/// an error is beside what it recovers.
+/// any error is beside what it recovers.
 pub type Want<'t> = Option<(u32, &'t str)>;
 
 /// That of a row.
@@ -40,7 +41,10 @@ pub fn parsed<A: Allocator + Copy>(
 }
 
 /// The same of a text, which is file 0.
-pub fn defined(alloc: Global, definition: &str) -> Result<DeclarativeMacro, AllocError> {
+pub fn defined<A: Allocator + Copy>(
+    alloc: A,
+    definition: &str,
+) -> Result<DeclarativeMacro<A>, AllocError> {
     parsed(alloc, &lexed(alloc, 0, definition)?)
 }
 
@@ -64,12 +68,12 @@ pub fn expanded<A: Allocator + Copy, G: FragmentGrammar>(
 }
 
 /// The expansion of a call like a function by a macro that was read without a fault.
-pub fn made<G: FragmentGrammar>(
-    alloc: Global,
+pub fn made<A: Allocator + Copy, G: FragmentGrammar>(
+    alloc: A,
     grammar: &G,
-    rules: &DeclarativeMacro,
-    argument: &TopSubtree,
-) -> Result<Expansion<Global>, AllocError> {
+    rules: &DeclarativeMacro<A>,
+    argument: &TopSubtree<A>,
+) -> Result<Expansion<A>, AllocError> {
     if rules.err().is_some() {
         return Err(AllocError);
     }
@@ -77,60 +81,46 @@ pub fn made<G: FragmentGrammar>(
     expanded(alloc, grammar, rules, argument, style)
 }
 
-/// Whether that is the expansion of a call from there.
-pub fn is_made<A: Allocator + Copy>(
-    alloc: A,
-    expansion: &Expansion<A>,
+/// Whether that is the expansion of a call from there, with the error that is wanted.
+pub fn is_made(
+    alloc: Global,
+    expansion: &Expansion<Global>,
     call_site: Span,
     want: Want<'_>,
+    error: &str,
 ) -> Result<bool, AllocError> {
     let (tree, index) = &expansion.value;
     match want {
         None => Ok(expansion.err.is_some() && *index == Some(0)),
         Some((arm, tokens)) => {
             let want = built_of(alloc, call_site, tokens)?;
-            Ok(expansion.err.is_none() && *index == Some(arm) && *tree == want)
+            let is_so = *index == Some(arm) && *tree == want;
+            Ok(is_so && is_error(alloc, expansion.err.as_ref(), error)?)
         }
     }
 }
 
-/// Whether the macro makes that of the argument by a grammar.
-pub fn makes<G: FragmentGrammar>(
-    alloc: Global,
-    grammar: &G,
-    rules: &DeclarativeMacro,
-    argument: &TopSubtree,
-    want: Want<'_>,
-) -> Result<bool, AllocError> {
-    let expansion = made(alloc, grammar, rules, argument)?;
-    is_made(alloc, &expansion, whole(argument), want)
-}
-
-/// Whether a definition makes that of an argument, which is file 1.
-pub fn makes_of_texts<G: FragmentGrammar>(
-    alloc: Global,
-    grammar: &G,
-    (definition, argument): (&str, &str),
-    want: Want<'_>,
-) -> Result<bool, AllocError> {
-    let rules = defined(alloc, definition)?;
-    let argument = lexed(alloc, 1, argument)?;
-    makes(alloc, grammar, &rules, &argument, want)
-}
-
-/// Rows of a definition, an argument, and what is made of it by a grammar: the index of a rule and the tokens, or nothing.
+/// Rows of how many flat tokens the grammar takes, and `fault` if it faults, a definition, an argument, the index of a rule, the tokens that it
+/// writes, and the error with its file and its bytes, if there is one. Without an index the first rule doesn't apply, with any error.
 #[derive(Clone, Copy)]
-pub struct Calls(pub Counting);
+pub struct Calls;
 
 impl Rows for Calls {
     fn is_so(
         &self,
         alloc: Global,
-        [definition, argument, arm, tokens, ..]: Fields,
+        [grammar, definition, argument, arm, tokens, error]: Fields,
     ) -> Result<bool, AllocError> {
         let rules = parsed(alloc, &read(alloc, 0, definition)?)?;
         let argument = read(alloc, 1, argument)?;
-        makes(alloc, &self.0, &rules, &argument, want(arm, tokens))
+        let expansion = made(alloc, &grammar_of(grammar), &rules, &argument)?;
+        is_made(
+            alloc,
+            &expansion,
+            whole(&argument),
+            want(arm, tokens),
+            error,
+        )
     }
 }
 
@@ -162,24 +152,6 @@ pub fn answers(
     let call_site = whole(&argument);
     match want {
         None => is_without_rule(alloc, &expansion, call_site),
-        Some(_) => is_made(alloc, &expansion, call_site, want),
+        Some(_) => is_made(alloc, &expansion, call_site, want, ""),
     }
-}
-
-/// Whether the rule of an index doesn't apply, that is recovered by an expansion from there, and the error beside it is that, with its bytes.
-pub fn is_recovered(
-    alloc: Global,
-    expansion: &Expansion<Global>,
-    call_site: Span,
-    (arm, tokens, want): (&str, &str, &str),
-) -> Result<bool, AllocError> {
-    let (tree, index) = &expansion.value;
-    let Some(error) = &expansion.err else {
-        return Ok(false);
-    };
-    let Span { start, end, .. } = error.inner.0;
-    let shown = format!(in alloc; "{error} {start} {end}")?;
-    let is_shown = shown.as_str() == want && error.inner.0 == at(1, start, end);
-    let built = built_of(alloc, call_site, tokens)?;
-    Ok(is_shown && *index == Some(byte(arm)) && *tree == built)
 }

@@ -42,8 +42,8 @@ const SPAN: Span = Span {
 
 const SPAN_TEXT: &str = "Span { file: 1, ast: 0, start: 2, end: 3, ctx: SyntaxContext(4) }";
 
-/// Whether spans and fronts are shown.
-pub fn are_spans_shown(alloc: Global) -> bool {
+// Whether spans and fronts are shown.
+fn are_spans_shown(alloc: Global) -> bool {
     let pair = DelimSpan::from_single(SPAN);
     let front = Front {
         count: 5,
@@ -75,14 +75,14 @@ fn are_borrows_shown(alloc: Global, tree: &TopSubtree) -> bool {
         && shows(alloc, &iter.next(), &["Subtree("])
 }
 
-/// Whether trees are shown.
-pub fn are_trees_shown(alloc: Global) -> Result<bool, AllocError> {
+// Whether trees are shown.
+fn are_trees_shown(alloc: Global) -> Result<bool, AllocError> {
     let tree = lexed(alloc, 0, "(a 1 +)")?;
     Ok(shows(alloc, &tree, &LEAVES) && are_borrows_shown(alloc, &tree))
 }
 
-/// Whether groups and builders are shown.
-pub fn are_groups_shown(alloc: Global) -> Result<bool, AllocError> {
+// Whether groups and builders are shown.
+fn are_groups_shown(alloc: Global) -> Result<bool, AllocError> {
     let subtree = Subtree {
         delimiter: Delimiter {
             kind: DelimiterKind::Brace,
@@ -106,8 +106,8 @@ fn is_binding_error_shown(alloc: Global) -> Result<bool, AllocError> {
     Ok(is_kind_shown && shows(alloc, &error, &["ExpandError { inner: (Span {"]))
 }
 
-/// Whether errors and results are shown.
-pub fn are_errors_shown(alloc: Global) -> Result<bool, AllocError> {
+// Whether errors and results are shown.
+fn are_errors_shown(alloc: Global) -> Result<bool, AllocError> {
     let result: ValueResult<u32, CountError> = ValueResult::new(6, CountError::Misplaced);
     let parse: ParseError = ParseError::Expected(String::from_str(alloc, "b")?);
     Ok(
@@ -120,8 +120,8 @@ pub fn are_errors_shown(alloc: Global) -> Result<bool, AllocError> {
     )
 }
 
-/// Whether macros and styles are shown.
-pub fn are_macros_shown(alloc: Global) -> Result<bool, AllocError> {
+// Whether macros and styles are shown.
+fn are_macros_shown(alloc: Global) -> Result<bool, AllocError> {
     let rules = defined(alloc, "attr() ($(a),*) => {}")?;
     Ok(
         shows(alloc, &MacroCallStyle::Derive, &["Derive"])
@@ -130,7 +130,7 @@ pub fn are_macros_shown(alloc: Global) -> Result<bool, AllocError> {
     )
 }
 
-fn are_shown(alloc: Global, handle: &Handle, bindings: &Bindings<'_>) -> bool {
+fn are_built(alloc: Global, handle: &Handle, bindings: &Bindings<'_>) -> bool {
     let parts = ["\"x\"", "Fragment(Tokens {", "origin: Raw"];
     shows(alloc, handle, &["Handle {"]) && shows(alloc, bindings, &parts)
 }
@@ -154,12 +154,23 @@ fn is_bound_shown(
     let mut handle = log.alloc()?;
     log.push_fragment(&mut handle, name, fragment)?;
     let bindings = log.build(&handle)?;
-    Ok(are_shown(alloc, &handle, &bindings))
+    Ok(are_built(alloc, &handle, &bindings))
 }
 
-/// Whether bindings are shown.
-pub fn are_bindings_shown(alloc: Global) -> Result<bool, AllocError> {
+// Whether bindings are shown.
+fn are_bindings_shown(alloc: Global) -> Result<bool, AllocError> {
     let name = Symbol::intern(alloc, "x")?;
     let tree = lexed(alloc, 0, "d")?;
     Ok(is_missing_shown(alloc) && is_bound_shown(alloc, &name, tree.view())?)
+}
+
+/// Whether all of that is shown.
+pub fn are_shown(alloc: Global) -> Result<bool, AllocError> {
+    let are_parts = are_spans_shown(alloc) && are_trees_shown(alloc)? && are_groups_shown(alloc)?;
+    Ok(
+        are_parts
+            && are_errors_shown(alloc)?
+            && are_macros_shown(alloc)?
+            && are_bindings_shown(alloc)?,
+    )
 }

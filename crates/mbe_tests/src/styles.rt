@@ -1,23 +1,31 @@
 // Styles of rules, and sets of styles.
-use crate::definitions::{Reported, is_read};
-use crate::runs::{answers, defined, parsed, want};
-use crate::trees::read;
+use crate::definitions::{Reported, is_read, read_as};
+use crate::runs::{answers, want};
 use bitflags::Flags;
 use mbe::{DeclarativeMacro, MacroCallStyle, MacroCallStyles, ParseError};
 use std::alloc::{AllocError, Global};
-use test_rows::{Fields, Rows, number, rows};
+use test_rows::{Fields, Rows, rows};
 
-// A definition and whether it has a fault, the argument of a call and its style, and what is made of it.
+// The sort of a definition, the definition, the argument of a call and its style, and what is made of it: nothing where no rule is of the style.
 pub const CALLS: &str = rows![
-    ("attr() () => {A}; () => {B}", "", "", "function", 1, "word B 0 25 26"),
-    ("attr() () => {A}; () => {B}", "", "", "attribute", 0, "word A 0 14 15"),
-    ("() => {A}; unsafe derive[x] () => {B}; derive() () => {C}", "", "", "derive", 1, "word B 0 35 36"),
-    ("($t:tt) => {$t}", "", "a", "attribute"),
-    ("($t:tt) => {$t}", "", "a", "derive"),
-    ("", "", "", "function"),
-    ("attr() () => {A}; () => {B}", "", "", "derive"),
+    ("rules", "attr() () => {A}; () => {B}", "", "attribute", 0, "word A 0 14 15"),
+    ("rules", "() => {A}; unsafe derive[x] () => {B}; derive() () => {C}", "", "derive", 1, "word B 0 35 36"),
+    ("rules", "($t:tt) => {$t}", "a", "attribute"),
+    ("rules", "($t:tt) => {$t}", "a", "derive"),
+    ("rules", "attr() () => {A}; () => {B}", "", "derive"),
     // The rules before a fault expand.
-    ("(a) => {A}; ($x) => {}", "faulty", "a", "function", 0, "word A 0 8 9"),
+    ("rules", "(a) => {A}; ($x) => {}", "a", "function", 0, "word A 0 8 9"),
+    // The rules of a body are tried in order; arguments and a body are one rule.
+    ("body", "(a) => {A}, ($x:ident) => {B $x}; (b) => {C}", "b", "function", 1, "word B 0 27 28
+word b 1 0 1"),
+    ("attr $x:ident", "[$x] => {}", "attr b", "function", 0, "open [ 0 0 1
+word b 1 5 6
+close ) 0 3 4
+joint = 0 5 6
+alone > 0 6 7
+open { 0 8 9
+close ) 0 9 10"),
+    ("attr $x:ident", "[$x] => {}", "attr b", "attribute"),
 ];
 
 fn style(name: &str) -> MacroCallStyle {
@@ -35,89 +43,29 @@ impl Rows for Calls {
     fn is_so(
         &self,
         alloc: Global,
-        [definition, fault, argument, name, arm, tokens]: Fields,
+        [sort, definition, argument, name, arm, tokens]: Fields,
     ) -> Result<bool, AllocError> {
-        let rules = defined(alloc, definition)?;
+        let rules = read_as(alloc, sort, definition)?;
         if matches!(rules.err(), Some(ParseError::RepetitionEmptyTokenTree)) {
             return Err(AllocError);
         }
-        let is_so = rules.err().is_none() == fault.is_empty();
-        let call = (argument, style(name));
-        Ok(is_so && answers(alloc, &rules, call, want(arm, tokens))?)
+        answers(alloc, &rules, (argument, style(name)), want(arm, tokens))
     }
 }
 
-pub const BITS: &str = rows![
-    ("attr() () => {A}; () => {B}", 3),
-    ("", 1),
-    ("x", 1),
-    ("() => {}", 1),
-    ("unsafe () => {}", 1),
-    ("attr() () => {}", 2),
-    ("unsafe attr() () => {}", 2),
-    ("attr() () => {}; attr() () => {}", 2),
-    ("derive() () => {}", 4),
-    ("derive() () => {}; x", 4),
-    ("() => {}; derive{a} () => {}", 5),
-    ("attr[] () => {}; unsafe derive() () => {}", 6),
-    ("derive() () => {}; attr() () => {}; () => {}", 7),
-];
-
-#[derive(Clone, Copy)]
-pub struct Bits;
-
-impl Rows for Bits {
-    fn is_so(&self, alloc: Global, [definition, bits, ..]: Fields) -> Result<bool, AllocError> {
-        let styles = defined(alloc, definition)?.rule_styles();
-        Ok(usize::from(styles.bits()) == number(bits))
-    }
-}
-
-pub const GROUPS: &str = rows![
-    ("attr => {}", 0, "expected", "expected `()`"),
-    ("derive => {}", 0, "expected", "expected `()`"),
-    ("unsafe attr", 0, "expected", "expected `()`"),
-    ("attr attr() () => {}", 0, "expected", "expected `()`"),
-    ("() => {}; attr => {}", 1, "expected", "expected `()`"),
-    ("attr() => {}", 0, "expected", "expected subtree"),
-    ("attr()", 0, "expected", "expected subtree"),
-    ("unsafe", 0, "expected", "expected subtree"),
-    ("unsafe unsafe () => {}", 0, "expected", "expected subtree"),
-    ("attr() unsafe () => {}", 0, "expected", "expected subtree"),
-    ("Attr() () => {}", 0, "expected", "expected subtree"),
-    ("attr() {}", 0, "expected", "expected `=`"),
-    ("unsafe attr() () => {}", 1),
-];
-
-/// Whether raw words count as well, as in `r#unsafe r#attr() () => {}`, with any spans.
-pub fn are_raw_counted(alloc: Global) -> Result<bool, AllocError> {
-    let tokens = "tokens 26
-raw unsafe 0 0 8
-raw attr 0 9 15
-open ( 0 15 16
-close ) 0 16 17
-open ( 0 18 19
-close ) 0 19 20
-joint = 0 21 22
-alone > 0 22 23
-open { 0 24 25
-close ) 0 25 26";
-    let rules = parsed(alloc, &read(alloc, 0, tokens)?)?;
-    Ok(rules.err().is_none() && rules.rule_styles() == MacroCallStyles::ATTR)
-}
-
-/// Whether a call of the macro of an error has no rule.
-pub fn has_no_rule(alloc: Global) -> Result<bool, AllocError> {
+// Whether a call of the macro of an error has no rule.
+fn has_no_rule(alloc: Global) -> Result<bool, AllocError> {
     let rules = DeclarativeMacro::from_err(alloc, ParseError::InvalidRepeat);
     let is_so = is_read(alloc, &rules, (0, Reported::InvalidRepeat))?
         && rules.rule_styles() == MacroCallStyles::FN_LIKE;
     Ok(is_so && answers(alloc, &rules, ("a", MacroCallStyle::FnLike), None)?)
 }
 
-/// The same of the macro of a refusal: it has no rules, so that it can be called.
-pub fn refused_has_no_rule(alloc: Global) -> Result<bool, AllocError> {
+/// Whether that is so, and the same of the macro of a refusal: it has no rules, so that it can be called.
+pub fn have_no_rule(alloc: Global) -> Result<bool, AllocError> {
     let rules = DeclarativeMacro::from_err(alloc, ParseError::RepetitionEmptyTokenTree);
-    answers(alloc, &rules, ("", MacroCallStyle::Attr), None)
+    let is_so = answers(alloc, &rules, ("", MacroCallStyle::Attr), None)?;
+    Ok(is_so && has_no_rule(alloc)?)
 }
 
 // The set of these bits, whether they are a style's or not.
@@ -129,8 +77,8 @@ fn has_bits(styles: MacroCallStyles, style: MacroCallStyle, bits: u8) -> bool {
     styles.bits() == bits && MacroCallStyles::from(style).bits() == bits
 }
 
-/// Whether styles have their bits.
-pub fn have_bits() -> bool {
+// Whether styles have their bits.
+fn have_bits() -> bool {
     has_bits(MacroCallStyles::FN_LIKE, MacroCallStyle::FnLike, 1)
         && has_bits(MacroCallStyles::ATTR, MacroCallStyle::Attr, 2)
         && has_bits(MacroCallStyles::DERIVE, MacroCallStyle::Derive, 4)
@@ -149,8 +97,8 @@ fn is_set(bits: u8) -> bool {
     is_found && set(bits).bits() == bits
 }
 
-/// Whether sets of styles are their bits.
-pub fn are_sets() -> bool {
+// Whether sets of styles are their bits.
+fn are_sets() -> bool {
     for bits in 0..=255u8 {
         if !is_set(bits) {
             return false;
@@ -240,8 +188,8 @@ pub fn is_answered(asked: &str, one: &str, two: &str, want: &str) -> bool {
     answer(asked, bits_of(one), bits_of(two)) == bits_of(want)
 }
 
-/// Whether sets of styles are changed as their bits are.
-pub fn are_changed() -> bool {
+// Whether sets of styles are changed as their bits are.
+fn are_changed() -> bool {
     let mut styles = MacroCallStyles::FN_LIKE;
     styles.insert(set(10));
     let is_inserted = styles == set(11);
@@ -253,4 +201,9 @@ pub fn are_changed() -> bool {
     let is_set = styles == set(7);
     styles.set(set(5), false);
     is_inserted && is_removed && is_toggled && is_set && styles == MacroCallStyles::ATTR
+}
+
+/// Whether all of that is so.
+pub fn are_so() -> bool {
+    have_bits() && are_sets() && are_changed()
 }

@@ -17,9 +17,6 @@ pub enum Lexeme<'a> {
     Close,
 }
 
-/// A token, its file, its start and its end.
-pub type Token<'a> = (Lexeme<'a>, u32, u32, u32);
-
 // The kind of a group by its opening; a group without one is invisible.
 fn kind(opening: &str) -> DelimiterKind {
     match opening.chars().next() {
@@ -59,15 +56,6 @@ pub fn byte(field: &str) -> u32 {
     field.parse::<u32>().unwrap_or(u32::MAX)
 }
 
-/// A token of a row: its sort, its text, its file, its start and its end.
-pub fn token(row: &str) -> Option<Token<'_>> {
-    let (row, end) = row.rsplit_once(' ')?;
-    let (row, start) = row.rsplit_once(' ')?;
-    let (row, file) = row.rsplit_once(' ')?;
-    let (sort, text) = row.split_once(' ')?;
-    Some((read_lexeme(sort, text), byte(file), byte(start), byte(end)))
-}
-
 /// The span of these bytes of a file.
 pub fn at(file: u32, start: u32, end: u32) -> Span {
     Span {
@@ -77,4 +65,18 @@ pub fn at(file: u32, start: u32, end: u32) -> Span {
         end,
         ctx: SyntaxContext(0),
     }
+}
+
+/// A token of a row: its sort, its text, its file, after a `:` the number of its context, its start and its end.
+pub fn token(row: &str) -> Option<(Lexeme<'_>, Span)> {
+    let (row, end) = row.rsplit_once(' ')?;
+    let (row, start) = row.rsplit_once(' ')?;
+    let (row, file) = row.rsplit_once(' ')?;
+    let (sort, text) = row.split_once(' ')?;
+    let (file, number) = file.split_once(':').unwrap_or((file, "0"));
+    let span = Span {
+        ctx: SyntaxContext(byte(number)),
+        ..at(byte(file), byte(start), byte(end))
+    };
+    Some((read_lexeme(sort, text), span))
 }

@@ -1,12 +1,8 @@
 // Builds the trees of the tests, of tokens or of a text.
-ghost use Rattle.std.specs.Prelude.{◌<◌, length};
-
-use crate::tokens::{Lexeme, Token, at, byte, token};
-use mbe_text::dialect::Dialect;
+use crate::tokens::{Lexeme, at, byte, token};
 use mbe_text::lexer::{LexError, lex};
-use mbe_text::scanner;
-use mbe_text::scanner::{Scanner, file_span};
-use mbe_tt::span::{Span, SyntaxContext};
+use mbe_text::printing::print_tree;
+use mbe_tt::span::Span;
 use mbe_tt::symbol::Symbol;
 use mbe_tt::tt::{
     Delimiter, Ident, IdentIsRaw, Leaf, LitKind, Literal, Punct, Spacing, TopSubtree,
@@ -16,9 +12,9 @@ use std::alloc::{AllocError, Allocator, Global};
 use test_rows::spelled;
 
 // Adds the token at the end of the innermost open group. A closing without an opening is left out.
-fn add<A: Allocator + Copy>(
-    builder: &mut TopSubtreeBuilder<A>,
-    alloc: A,
+fn add(
+    builder: &mut TopSubtreeBuilder,
+    alloc: Global,
     lexeme: Lexeme<'_>,
     span: Span,
 ) -> Result<(), AllocError> {
@@ -37,20 +33,16 @@ fn add<A: Allocator + Copy>(
     }
 }
 
-// The trees, with each open group closed with this span.
+/// The trees, with each open group closed with this span.
 #[tactic(auto, using(mbe_tt::proofs::Buffers::OpenGroups::closed_length))]
-fn finish<A: Allocator>(mut builder: TopSubtreeBuilder<A>, end: Span) -> TopSubtree<A> {
+pub fn finish<A: Allocator>(mut builder: TopSubtreeBuilder<A>, end: Span) -> TopSubtree<A> {
     'groups: while builder.open_kind().is_some() {
         builder.close(end);
     }
     builder.build()
 }
 
-fn leaf<A: Allocator + Copy>(
-    alloc: A,
-    lexeme: Lexeme<'_>,
-    span: Span,
-) -> Result<Option<Leaf<A>>, AllocError> {
+fn leaf(alloc: Global, lexeme: Lexeme<'_>, span: Span) -> Result<Option<Leaf>, AllocError> {
     Ok(match lexeme {
         Lexeme::Word(text) => Some(ident(alloc, text, IdentIsRaw::No, span)?),
         Lexeme::Raw(text) => Some(ident(alloc, text, IdentIsRaw::Yes, span)?),
@@ -64,7 +56,7 @@ fn leaf<A: Allocator + Copy>(
     })
 }
 
-fn punct<A: Allocator>(char: char, spacing: Spacing, span: Span) -> Leaf<A> {
+fn punct(char: char, spacing: Spacing, span: Span) -> Leaf {
     Leaf::Punct(Punct {
         char,
         spacing,
@@ -72,12 +64,7 @@ fn punct<A: Allocator>(char: char, spacing: Spacing, span: Span) -> Leaf<A> {
     })
 }
 
-fn ident<A: Allocator + Copy>(
-    alloc: A,
-    text: &str,
-    is_raw: IdentIsRaw,
-    span: Span,
-) -> Result<Leaf<A>, AllocError> {
+fn ident(alloc: Global, text: &str, is_raw: IdentIsRaw, span: Span) -> Result<Leaf, AllocError> {
     Ok(Leaf::Ident(Ident {
         sym: Symbol::intern(alloc, text)?,
         is_raw,
@@ -85,12 +72,12 @@ fn ident<A: Allocator + Copy>(
     }))
 }
 
-fn literal<A: Allocator + Copy>(
-    alloc: A,
+fn literal(
+    alloc: Global,
     (text, suffix_len): (&str, u8),
     kind: LitKind,
     span: Span,
-) -> Result<Leaf<A>, AllocError> {
+) -> Result<Leaf, AllocError> {
     Ok(Leaf::Literal(Literal {
         text_and_suffix: Symbol::intern(alloc, text)?,
         suffix_len,
@@ -99,112 +86,17 @@ fn literal<A: Allocator + Copy>(
     }))
 }
 
-/// The tokens in an invisible group with that span. Groups that are open at the end are closed with it.
-pub fn built<A: Allocator + Copy>(
-    alloc: A,
-    whole: Span,
-    tokens: &[Token<'_>],
-) -> Result<TopSubtree<A>, AllocError> {
-    let mut builder = TopSubtreeBuilder::new(alloc, Delimiter::invisible_spanned(whole))?;
-    for &(lexeme, file, start, end) in tokens {
-        add(&mut builder, alloc, lexeme, at(file, start, end))?;
-    }
-    Ok(finish(builder, whole))
-}
-
-/// The same of tokens of a row, each a line.
-pub fn built_of<A: Allocator + Copy>(
-    alloc: A,
-    whole: Span,
-    tokens: &str,
-) -> Result<TopSubtree<A>, AllocError> {
+/// The tokens of a row, each a line, in an invisible group with that span. Groups that are open at the end are closed with it.
+pub fn built_of(alloc: Global, whole: Span, tokens: &str) -> Result<TopSubtree, AllocError> {
     let mut builder = TopSubtreeBuilder::new(alloc, Delimiter::invisible_spanned(whole))?;
     for row in tokens.lines() {
-        let (lexeme, file, start, end) = token(row).ok_or(AllocError)?;
-        add(&mut builder, alloc, lexeme, at(file, start, end))?;
-    }
-    Ok(finish(builder, whole))
-}
-
-// A token of a row, after which is the number of its context.
-fn marked(row: &str) -> Option<(Lexeme<'_>, Span)> {
-    let (row, number) = row.rsplit_once(' ')?;
-    let (lexeme, file, start, end) = token(row)?;
-    let ctx = SyntaxContext(byte(number));
-    Some((
-        lexeme,
-        Span {
-            ctx,
-            ..at(file, start, end)
-        },
-    ))
-}
-
-/// The same, where each token has the context of that number.
-pub fn built_in_contexts(
-    alloc: Global,
-    whole: Span,
-    tokens: &str,
-) -> Result<TopSubtree, AllocError> {
-    let mut builder = TopSubtreeBuilder::new(alloc, Delimiter::invisible_spanned(whole))?;
-    for row in tokens.lines() {
-        let (lexeme, span) = marked(row).ok_or(AllocError)?;
+        let (lexeme, span) = token(row).ok_or(AllocError)?;
         add(&mut builder, alloc, lexeme, span)?;
     }
     Ok(finish(builder, whole))
 }
 
-// What the token of a scanned text is. A `~` stands for a `'` that is a joint punct by itself.
-fn scanned<'t>(text: &'t str, token: scanner::Token<'t>) -> Lexeme<'t> {
-    let after = text.get(token.span.end as usize..).unwrap_or("");
-    match token.lexeme {
-        scanner::Lexeme::Ident { name, is_raw } => match is_raw {
-            IdentIsRaw::No => Lexeme::Word(name),
-            IdentIsRaw::Yes => Lexeme::Raw(name),
-        },
-        scanner::Lexeme::Literal { text, .. } => Lexeme::Number(text),
-        scanner::Lexeme::Punct { char: '~', .. } => Lexeme::Joint('\''),
-        scanner::Lexeme::Punct { char, .. } if after.starts_with('~') => Lexeme::Alone(char),
-        scanner::Lexeme::Punct { char, spacing } => match spacing {
-            Spacing::Alone => Lexeme::Alone(char),
-            Spacing::Joint => Lexeme::Joint(char),
-        },
-        scanner::Lexeme::Open(kind) => Lexeme::Open(kind),
-        scanner::Lexeme::Close(_) => Lexeme::Close,
-        // (of the Rust dialect alone)
-        scanner::Lexeme::Lifetime { name, .. } => Lexeme::Word(name),
-        scanner::Lexeme::Doc { text, .. } => Lexeme::Text(text),
-    }
-}
-
-// The token trees of a text with a `'` that no name follows, which `lex` refuses: the scanner reads a `~` there. A text at
-// fault elsewhere is a slip of the test, which ends it.
-fn with_quotes<A: Allocator + Copy>(
-    alloc: A,
-    file: u32,
-    text: &str,
-) -> Result<TopSubtree<A>, AllocError> {
-    let marked = text.replace(alloc, "'", "~")?;
-    if marked.len() > u32::MAX as usize {
-        return Err(AllocError);
-    }
-    let end = marked.len() as u32;
-    let whole = Delimiter::invisible_spanned(file_span(file, 0, end));
-    let mut builder = TopSubtreeBuilder::new(alloc, whole)?;
-    let mut scanner = Scanner::new(Dialect::Sample, marked.as_str(), file);
-    'tokens: loop {
-        match scanner.token() {
-            Ok(Some(token)) => {
-                let lexeme = scanned(marked.as_str(), token);
-                add(&mut builder, alloc, lexeme, token.span)?;
-            }
-            Ok(None) => return Ok(finish(builder, file_span(file, end, end))),
-            Err(_fault) => return Err(AllocError),
-        }
-    }
-}
-
-/// The token trees of a text of words, numbers, puncts, lifetimes and groups. A `'` may be alone.
+/// The token trees of a text without fault.
 pub fn lexed<A: Allocator + Copy>(
     alloc: A,
     file: u32,
@@ -215,8 +107,7 @@ pub fn lexed<A: Allocator + Copy>(
     }
     match lex(alloc, text, file) {
         Ok(tree) => Ok(tree),
-        Err(LexError::OutOfMemory) => Err(AllocError),
-        Err(LexError::Fault(_)) => with_quotes(alloc, file, text),
+        Err(LexError::OutOfMemory | LexError::Fault(_)) => Err(AllocError),
     }
 }
 
@@ -229,4 +120,13 @@ pub fn read(alloc: Global, file: u32, trees: &str) -> Result<TopSubtree, AllocEr
             built_of(alloc, at(file, 0, byte(end)), tokens)
         }
     }
+}
+
+/// The tree as it is printed.
+pub fn printed<A: Allocator>(global: Global, tree: &TopSubtree<A>) -> Result<String, AllocError> {
+    let mut out = Vec::new(global);
+    if print_tree(tree, &mut out).is_err() {
+        return Err(AllocError);
+    }
+    String::from_utf8(out).map_err(|_| AllocError)
 }

@@ -1,41 +1,16 @@
 // Worked rows that are expanded while each request for memory is refused in turn.
-ghost use Rattle.mbe.specs.Macro.{IsChecked};
-ghost use Rattle.mbe.specs.MacroViews.{macro_of};
-
-use crate::reading::{defined, lexed, printed};
+use crate::grammar::{Counting, NOTHING};
 use crate::requests::{Ended, Work, refusals};
-use mbe::{
-    DeclarativeMacro, ExpandError, ExpandResult, MacroCallStyle, MatchedArmIndex, ParseError,
-    Verdict, expect_fragment,
-};
+use crate::runs::{Expansion, defined, made};
+use crate::trees::{lexed, printed};
+use crate::verdicts::explained;
+use mbe::{DeclarativeMacro, ExpandError, Verdict, expect_fragment};
 use mbe_grammar::SampleGrammar;
 use mbe_tt::grammar::PrefixEntryPoint;
 use mbe_tt::span::DelimSpan;
 use mbe_tt::tt::TopSubtree;
 use std::alloc::{AllocError, Allocator, Global};
 use test_rows::Fields;
-
-type Expansion<A> = ExpandResult<(TopSubtree<A>, MatchedArmIndex), A>;
-
-fn expanded<A: Allocator + Copy>(
-    alloc: A,
-    rules: &DeclarativeMacro<A>,
-    argument: &TopSubtree<A>,
-) -> Result<Expansion<A>, AllocError> {
-    if matches!(rules.err(), Some(ParseError::RepetitionEmptyTokenTree)) {
-        return Err(AllocError);
-    }
-    let call_site = argument.top_subtree().delimiter.opening;
-    let style = MacroCallStyle::FnLike;
-    rules.expand(
-        alloc,
-        &SampleGrammar,
-        argument,
-        |span| span,
-        style,
-        call_site,
-    )
-}
 
 // Whether the expansion is that: the error with its span, the rule's index and the tree.
 fn is_shown<A: Allocator>(
@@ -94,7 +69,7 @@ fn first_expanded<A: Allocator + Copy>(
 ) -> Result<(Result<Expansion<A>, AllocError>, bool), AllocError> {
     let rules_before = rules.try_clone(alloc)?;
     let argument_before = argument.try_clone()?;
-    let first = expanded(alloc, rules, argument);
+    let first = made(alloc, &SampleGrammar, rules, argument);
     Ok((
         first,
         *rules == rules_before && *argument == argument_before,
@@ -109,7 +84,7 @@ fn expands<A: Allocator + Copy>(
     argument: &TopSubtree<A>,
     want: &str,
 ) -> Result<bool, AllocError> {
-    let expansion = expanded(alloc, rules, argument)?;
+    let expansion = made(alloc, &SampleGrammar, rules, argument)?;
     is_shown(global, &expansion, want)
 }
 
@@ -118,46 +93,51 @@ pub fn is_refused(alloc: Global, fields: Fields) -> Result<bool, AllocError> {
     Ok(refusals(alloc, &Expanding(fields)).unwrap_or(0) > 3)
 }
 
-/// A fragment that the grammar refuses. The iterator is where it was, and is asked once more.
+/// What is taken from the front of a text by a grammar that takes so many flat tokens, and faults or ends in a group: some trees are left.
+/// Without memory the iterator is where it was, and is asked once more.
 #[derive(Drop)]
-pub struct Fragment;
+pub struct Fragment {
+    grammar: Counting,
+    text: &'static str,
+    left: usize,
+}
 
 impl Work for Fragment {
     fn ended<A: Allocator + Copy>(&self, _global: Global, alloc: A) -> Result<Ended, AllocError> {
-        let argument = lexed(alloc, 1, "let (a b) c")?;
+        let argument = lexed(alloc, 1, self.text)?;
         let mut iter = argument.iter();
         let entry = PrefixEntryPoint::Expr;
         let around = DelimSpan::from_single(argument.top_subtree().delimiter.opening);
-        match expect_fragment(alloc, &SampleGrammar, &mut iter, entry, around) {
+        match expect_fragment(alloc, &self.grammar, &mut iter, entry, around) {
             Ok(first) => {
                 let left = iter.remaining().len();
-                let is_so = first.err.is_some() && first.value.len() == 0 && left == 3;
-                Ok(Ended::answered(is_so))
+                Ok(Ended::answered(first.err.is_some() && left == self.left))
             }
             Err(AllocError) => {
                 let is_unmoved = iter.remaining() == argument.iter().remaining();
-                let again = expect_fragment(alloc, &SampleGrammar, &mut iter, entry, around)?;
+                let again = expect_fragment(alloc, &self.grammar, &mut iter, entry, around)?;
                 Ok(Ended::refused(is_unmoved && again.err.is_some()))
             }
         }
     }
 }
 
-// The verdict of each rule on the argument, in order.
-fn explained<A: Allocator + Copy>(
-    alloc: A,
-    rules: &DeclarativeMacro<A>,
-    argument: &TopSubtree<A>,
-) -> Result<Vec<Verdict, A>, AllocError> {
-    if matches!(rules.err(), Some(ParseError::RepetitionEmptyTokenTree)) {
-        return Err(AllocError);
-    }
-    let mut verdicts = Vec::new(alloc);
-    for rule in 0..rules.num_rules() {
-        verdicts.push(rules.explain(alloc, &SampleGrammar, argument, rule)?)?;
-    }
-    Ok(verdicts)
-}
+/// What a grammar refuses.
+pub static FAULTY: Fragment = Fragment {
+    grammar: NOTHING,
+    text: "let (a b) c",
+    left: 3,
+};
+
+/// What ends in a group, which is taken whole.
+pub static GROUP: Fragment = Fragment {
+    grammar: Counting {
+        count: 2,
+        fault: false,
+    },
+    text: "(a b) c",
+    left: 1,
+};
 
 /// The verdicts on an argument. The macro equals a copy made before, and has the verdicts once more.
 #[derive(Drop)]
@@ -188,7 +168,7 @@ fn explains<A: Allocator + Copy>(
     argument: &TopSubtree<A>,
     want: &[Verdict],
 ) -> Result<bool, AllocError> {
-    let verdicts = explained(alloc, rules, argument)?;
+    let verdicts = explained(alloc, &SampleGrammar, rules, argument)?;
     Ok(verdicts.as_slice() == want)
 }
 

@@ -1,7 +1,6 @@
 // The calls of `mbe_tt` that take memory, and what their builders hold where it is refused.
-use crate::reading::{lexed, printed};
 use crate::requests::{Ended, Work, refusals};
-use crate::texts::push_many;
+use crate::trees::{finish, lexed, printed};
 use mbe_text::scanner::file_span;
 use mbe_tt::span::{DelimSpan, Span};
 use mbe_tt::symbol::Symbol;
@@ -36,15 +35,6 @@ fn held<A: Allocator + Copy>(alloc: A, count: usize) -> Result<TopSubtreeBuilder
     let mut builder = TopSubtreeBuilder::new(alloc, Delimiter::invisible_spanned(whole()))?;
     builder.extend(words(alloc, count)?)?;
     Ok(builder)
-}
-
-// The trees, with each open group closed.
-#[tactic(auto, using(mbe_tt::proofs::Buffers::OpenGroups::closed_length))]
-fn finish<A: Allocator>(mut builder: TopSubtreeBuilder<A>) -> TopSubtree<A> {
-    'groups: while builder.open_kind().is_some() {
-        builder.close(whole());
-    }
-    builder.build()
 }
 
 /// A call of a builder.
@@ -96,7 +86,15 @@ fn written<A: Allocator + Copy>(
         return Err(AllocError);
     };
     let written = write(&mut builder, call, leaves, front);
-    Ok((written, finish(builder)))
+    Ok((written, finish(builder, whole())))
+}
+
+// The part so many times.
+fn push_many(text: &mut String, part: &str, count: usize) -> Result<(), AllocError> {
+    for _time in 0..count {
+        text.push_str(part)?;
+    }
+    Ok(())
 }
 
 // Whether so many words and those lines are printed of the tree.
@@ -107,7 +105,7 @@ fn is_printed<A: Allocator>(
     adds: &str,
 ) -> Result<bool, AllocError> {
     let mut want = String::from_str(global, "SUBTREE $$ 1@0..9 1@0..9\n")?;
-    push_many(&mut want, "  IDENT   x 1@0..1\n", count)?;
+    push_many(&mut want, WORD, count)?;
     want.push_str(adds)?;
     let shown = printed(global, tree)?;
     Ok(shown == want)
@@ -195,7 +193,7 @@ fn make_empty<A: Allocator + Copy>(global: Global, alloc: A) -> Result<Ended, Al
 
 fn make_builder<A: Allocator + Copy>(global: Global, alloc: A) -> Result<Ended, AllocError> {
     match TopSubtreeBuilder::new(alloc, Delimiter::invisible_spanned(whole())) {
-        Ok(builder) => is_empty(global, &finish(builder)),
+        Ok(builder) => is_empty(global, &finish(builder, whole())),
         Err(AllocError) => Ok(Ended::OutOfMemory),
     }
 }

@@ -1,6 +1,6 @@
 // Copies of errors, of macros and of results while each request for memory is refused in turn.
-use crate::reading::defined;
 use crate::requests::{Ended, Work, refusals};
+use crate::runs::defined;
 use mbe::{ExpandErrorKind, ParseError, ValueResult};
 use std::alloc::{AllocError, Allocator, Global};
 
@@ -80,8 +80,8 @@ fn is_refused<W: Work>(alloc: Global, work: &W, at_least: u64) -> Result<bool, A
     Ok(refusals(alloc, work).unwrap_or(0) >= at_least)
 }
 
-/// Whether errors are copied or refused.
-pub fn are_errors_copied(alloc: Global) -> Result<bool, AllocError> {
+// Whether errors are copied or refused.
+fn are_errors_copied(alloc: Global) -> Result<bool, AllocError> {
     Ok(
         is_refused(alloc, &Copied::Unexpected("so"), 1)?
             && is_refused(alloc, &Copied::Expected("expected ident"), 1)?
@@ -112,11 +112,6 @@ const EVERY_FORM: &str =
     "unsafe attr(x) ($a:ident $b:literal [c] 1 + $($d:expr),* $($e:ty)'f + $($g:tt)1? $(h)=>* \
     $(i)* $(k)and* $crate) => {$a $j [c] 1 + $($d $e);* $($g)? ${ignore($a)} ${index()} ${len(1)} ${count($d)} ${count($e, 1)} \
     ${concat(a, $a, 1)} $$ $crate $}; () => {}; x";
-
-/// Whether macros are copied or refused.
-pub fn are_macros_copied(alloc: Global) -> Result<bool, AllocError> {
-    is_refused(alloc, &Rules(EVERY_FORM), 11)
-}
 
 /// A number whose clones ask for memory.
 #[derive(Drop)]
@@ -175,7 +170,16 @@ impl Work for Copying {
     }
 }
 
-/// Whether results are copied or refused.
-pub fn are_results_copied(alloc: Global) -> bool {
+// Whether results are copied or refused.
+fn are_results_copied(alloc: Global) -> bool {
     refusals(alloc, &Copying::Lent) == Some(1) && refusals(alloc, &Copying::Whole) == Some(1)
+}
+
+/// Whether errors, macros and results are copied or refused.
+pub fn are_copied(alloc: Global) -> Result<bool, AllocError> {
+    Ok(
+        are_errors_copied(alloc)?
+            && is_refused(alloc, &Rules(EVERY_FORM), 11)?
+            && are_results_copied(alloc),
+    )
 }

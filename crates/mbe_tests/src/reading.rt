@@ -1,52 +1,12 @@
 // Definitions that are read while each request for memory is refused in turn.
 use crate::requests::{Ended, Work, refusals};
-use mbe::{DeclarativeMacro, MacroCallStyle};
-use mbe_text::lexer::{LexError, lex};
-use mbe_text::printing::print_tree;
+use crate::runs::parsed;
+use crate::trees::lexed;
+use mbe::DeclarativeMacro;
 use mbe_tt::span::Edition;
 use mbe_tt::tt::TopSubtree;
 use std::alloc::{AllocError, Allocator, Global};
 use test_rows::Fields;
-
-/// The token trees of a text without fault.
-pub fn lexed<A: Allocator + Copy>(
-    alloc: A,
-    file: u32,
-    text: &str,
-) -> Result<TopSubtree<A>, AllocError> {
-    if text.len() > u32::MAX as usize {
-        return Err(AllocError);
-    }
-    match lex(alloc, text, file) {
-        Ok(tree) => Ok(tree),
-        Err(LexError::OutOfMemory | LexError::Fault(_)) => Err(AllocError),
-    }
-}
-
-/// The tree as it is printed.
-pub fn printed<A: Allocator>(global: Global, tree: &TopSubtree<A>) -> Result<String, AllocError> {
-    let mut out = Vec::new(global);
-    if print_tree(tree, &mut out).is_err() {
-        return Err(AllocError);
-    }
-    String::from_utf8(out).map_err(|_| AllocError)
-}
-
-/// The macro of the definition, read in edition 2024.
-pub fn parsed<A: Allocator + Copy>(
-    alloc: A,
-    definition: &TopSubtree<A>,
-) -> Result<DeclarativeMacro<A>, AllocError> {
-    DeclarativeMacro::parse_macro_rules(alloc, definition, |_context| Edition::Edition2024)
-}
-
-/// The same of a text, which is file 0.
-pub fn defined<A: Allocator + Copy>(
-    alloc: A,
-    definition: &str,
-) -> Result<DeclarativeMacro<A>, AllocError> {
-    parsed(alloc, &lexed(alloc, 0, definition)?)
-}
 
 /// What is read, and by which call.
 #[derive(Clone, Copy)]
@@ -132,15 +92,12 @@ pub fn are_refused(alloc: Global, [definition, ..]: Fields) -> Result<bool, Allo
     )
 }
 
-/// The same of a `macro` with arguments.
-pub fn are_arguments_refused(alloc: Global) -> Result<bool, AllocError> {
-    is_refused(alloc, Reading::Arguments("$($x:ident),*", "$($x);*"), 2)
-}
-
-/// The same of definitions with every form.
-pub fn is_every_form_refused(alloc: Global) -> Result<bool, AllocError> {
+/// The same of a `macro` with arguments, and of definitions with every form.
+pub fn are_forms_refused(alloc: Global) -> Result<bool, AllocError> {
+    let arguments = Reading::Arguments("$($x:ident),*", "$($x);*");
     Ok(
-        is_refused(alloc, Reading::Rules(EVERY_FORM), 12)?
+        is_refused(alloc, arguments, 2)?
+            && is_refused(alloc, Reading::Rules(EVERY_FORM), 12)?
             && is_refused(alloc, Reading::Rules(EVERY_FORM_AND_A_FAULT), 2)?
             && is_refused(alloc, Reading::Body(EVERY_FORM_AND_A_FAULT), 2)?,
     )
