@@ -27,17 +27,19 @@ pub expand_op-expand_group-requires : goal.expand_op-expand_group-requires
 expand_op-expand_group-requires g t c κs within =
     let here = c.in-Subtree in
     let seen = ap op_weight (ap op_of here.is ∙ view-subtree here.tokens here.delimiter) in
-    let inside = ap (λ xs. ops_weight (ops_of xs)) c.deref.ensures.value in
-    (omega (arith, c.decreases, seen, inside),
-    (within.0, (within.1.0, (within.1.1, (c.requires.marks, c.requires.some_group)))))
+    let inside = ap (λ xs. ops_weight (ops_of xs)) c.deref.ensures.value in (
+      omega (arith, c.decreases, seen, inside),
+      (within.0, (within.1.0, (within.1.1, (c.requires.marks, c.requires.some_group)))),
+    )
 
 pub expand_op-expand_repeat-requires : goal.expand_op-expand_repeat-requires
 expand_op-expand_repeat-requires g t c κs within =
     let here = c.in-Repeat in
     let seen = ap op_weight (ap op_of here.is ∙ view-repeat here.tokens here.kind here.separator) in
-    let inside = ap (λ xs. ops_weight (ops_of xs)) c.deref-in-Repeat.ensures.value in
-    (omega (arith, c.decreases, seen, inside),
-    (within.0, (within.1.0, (within.1.1, (c.requires.marks, c.requires.some_group)))))
+    let inside = ap (λ xs. ops_weight (ops_of xs)) c.deref-in-Repeat.ensures.value in (
+      omega (arith, c.decreases, seen, inside),
+      (within.0, (within.1.0, (within.1.1, (c.requires.marks, c.requires.some_group)))),
+    )
 
 pub expand_op-returns-in-Literal-clause-wrote : goal.expand_op-returns-in-Literal-clause-wrote
 expand_op-returns-in-Literal-clause-wrote g t c =
