@@ -10,7 +10,6 @@ ghost use Rattle.mbe_tt.specs.Fragments.Grammar.{Grammar};
 ghost use Rattle.mbe_ops.specs.Views.{op_of, ops_of, separator_seen};
 ghost use Rattle.mbe_places.specs.declared.position.Outer.{Outer};
 ghost use Rattle.mbe_matcher.specs.Matched.{IsStackOf};
-ghost use Rattle.mbe_matcher.specs.Reports.{GoesAlone};
 ghost use Rattle.mbe_matcher.specs.Positions.{IsPosition, IsPlain, Keeps, GivesSteps, GivesStepsIn, GivesStepsOver, GivesStepsFor, GivesRoundSteps, GivesClosingSteps, GivesAlone, AreStepsOf, IsAtMostOver, IsSkip, over_steps};
 ghost use Rattle.mbe_matcher.specs.Reports.{StepsAlone};
 
