@@ -210,6 +210,7 @@ impl<A: Allocator> Model for Around<A> {
 impl<A: Allocator> Around<A> {
     /// The brackets of that delimiter. `AllocError` if out of memory: those that aren't one byte each, in one text and
     /// context, take some of `alloc`.
+    #[inline(never)]
     pub fn new(alloc: A, delimiter: Delimiter) -> Result<Around<A>, AllocError>
         ensures { IfOk result (λ around. around ≡ delimiter) }
     {
