@@ -36,6 +36,7 @@ a flat token of the text, of which a literal is one.
 import argparse
 import os
 import re
+import statistics
 import subprocess
 import tempfile
 import time
@@ -216,9 +217,14 @@ def requests(command):
 
 
 def peak(command):
-    """The most memory of a run, in bytes. A child of this script would count what the script itself takes, so `time` starts it."""
-    it = subprocess.run(["/usr/bin/time", "-f", "%M", *command], stdout=subprocess.DEVNULL, stderr=subprocess.PIPE, check=False)
-    return int(it.stderr.split()[-1]) * 1024
+    """The most memory of a run, in bytes: the median of nine, since how many pages of the program itself are there differs from run to
+    run. A child of this script would count what the script itself takes, so `time` starts it."""
+
+    def once():
+        it = subprocess.run(["/usr/bin/time", "-f", "%M", *command], stdout=subprocess.DEVNULL, stderr=subprocess.PIPE, check=False)
+        return int(it.stderr.split()[-1]) * 1024
+
+    return statistics.median(once() for _ in range(9))
 
 
 def nanoseconds(command):
