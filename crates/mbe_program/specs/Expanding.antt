@@ -8,6 +8,7 @@ use Rattle.mbe_tt.specs.Trees.Top.{Top}
 use Rattle.mbe_tt.specs.Fragments.Grammar.{Grammar}
 use Rattle.mbe_semantics.specs.Syntax.Definition.{Rule}
 use Rattle.mbe_semantics.specs.Expansion.Error.{ExpandError}
+use Rattle.mbe_semantics.specs.Expansion.Macro.{Macro}
 use Rattle.mbe_semantics.specs.Expansion.ReadAs.{IsReadAs}
 use Rattle.mbe_semantics.specs.Readings.Verdict.{Verdict, IsVerdict}
 use Rattle.mbe_semantics.specs.declared.macro_call_style.MacroCallStyle.{MacroCallStyle}
@@ -23,6 +24,11 @@ IsEdition edition context answer = answer ≡ edition
 -- a span is marked by itself
 abbrev pub IsItself : Span → Span → Type 0
 IsItself span marked = marked ≡ span
+
+-- The grammar of definitions reads this macro from the definition in that edition, and reports no fault.
+pub record IsMacroOf (edition : Edition) (definition : Forest) (m : Macro) : Type 0 where
+  pub read : IsReadAs (IsEdition edition) definition (record { rules = m.rules; err = None })
+  pub faultless : m.err ≡ None
 
 -- The answer to a call of that style with this argument, by the macro that the grammar of definitions reads from the
 -- definition in that edition, which reports no fault.

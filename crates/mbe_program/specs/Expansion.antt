@@ -7,11 +7,12 @@ use Rattle.mbe_tt.specs.Trees.Tree.{Forest}
 use Rattle.mbe_tt.specs.Trees.Top.{Top}
 use Rattle.mbe_grammar.specs.SampleGrammar.{sample}
 use Rattle.mbe_semantics.specs.Expansion.Error.{ExpandError}
+use Rattle.mbe_semantics.specs.Expansion.Macro.{Macro}
 use Rattle.mbe_semantics.specs.declared.macro_call_style.MacroCallStyle.TheVariants.{FnLike}
 use Rattle.mbe_text.specs.Tokens.{IsMade, bytes_of}
 use Rattle.mbe_text.specs.Division.{sample_trees}
 use Rattle.mbe_text.specs.Writing.{Takes}
-use Rattle.mbe_program.specs.Expanding.{ExpandsBy, HasNoMacro}
+use Rattle.mbe_program.specs.Expanding.{ExpandsBy, HasNoMacro, IsMacroOf}
 use Rattle.mbe_program.specs.Printed.{printed}
 use Rattle.mbe_program.specs.declared.expanding.Unread.{Unread}
 use Rattle.mbe_program.specs.declared.expanding.Unread.TheVariants as unread
@@ -49,6 +50,12 @@ pub record AreTrees (def_text arg_text : List ℕ) (definition argument : Top) :
   pub divided : both_trees def_text arg_text ≡ Ok (definition, argument)
   pub defined : IsMade 0 def_text definition
   pub given : IsMade 1 arg_text argument
+
+-- This is the macro of the definition's trees, without a fault, and these are the trees of the argument.
+pub record AreRead (edition : Edition) (def_text arg_text : List ℕ) (m : Macro) (argument : Top) : Type 0 where
+  pub definition : Top
+  pub trees : AreTrees def_text arg_text definition argument
+  pub macro_is : IsMacroOf edition definition.1 m
 
 -- The answer to a call with these texts: their trees have it, with all bytes of the argument as call site.
 pub record ExpandsTexts (edition : Edition) (def_text arg_text : List ℕ) (out : Forest) (index : Option ℕ)

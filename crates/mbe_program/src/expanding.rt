@@ -72,9 +72,9 @@ pub fn expansion_by<A: Allocator + Copy, G: FragmentGrammar>(
     Ok(expansion)
 }
 
-// The verdict on the argument of each rule, in order.
+/// The verdict on the argument of each rule of a checked macro, of every style, in order. `AllocError` if out of memory.
 #[tactic(auto, using(crate::proofs::VerdictLemmas::one_verdict_more, crate::proofs::VerdictLemmas::all_verdicts))]
-fn explained<A: Allocator + Copy, G: FragmentGrammar>(
+pub fn explained<A: Allocator + Copy, G: FragmentGrammar>(
     alloc: A,
     grammar: &G,
     rules: &DeclarativeMacro<A>,

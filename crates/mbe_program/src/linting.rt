@@ -1,38 +1,15 @@
 // Verdicts on the rules of a definition, a line for each.
-ghost use Rattle.std.specs.Prelude.{◌≡◌, ◌++◌, codes, map, Some, IfOk, IfErr};
+ghost use Rattle.std.specs.Prelude.{◌≡◌, ◌++◌, codes, map, Some, IfOk};
 ghost use Rattle.std.specs.String.{string_bytes};
 ghost use Rattle.mbe.specs.Matched.{verdict_seen};
 ghost use Rattle.mbe_text.specs.Writing.{Writes};
-ghost use Rattle.mbe_program.specs.Expansion.{IsRefused};
-ghost use Rattle.mbe_program.specs.Linting.{ExplainsTrees, line_of, lines_from};
+ghost use Rattle.mbe_program.specs.Linting.{line_of, lines_from};
 
-use crate::expanding::verdicts_by;
-use crate::program::Outcome;
 use mbe::Verdict;
-use mbe_grammar::SampleGrammar;
 use mbe_text::output::write_whole;
-use mbe_tt::span::Edition;
-use mbe_tt::tt::TopSubtree;
 use std::alloc::{AllocError, Allocator};
 use std::io::Write;
 use std::{fmt, io};
-
-/// The verdict on the argument of each rule of a definition, of every style, in order; or why there are none: the definition's
-/// error, or out of memory.
-#[tactic(auto, using(crate::proofs::OutcomeLemmas::no_macro))]
-pub fn verdicts<A: Allocator + Copy>(
-    alloc: A,
-    definition: &TopSubtree<A>,
-    argument: &TopSubtree<A>,
-    edition: Edition,
-) -> Result<Vec<Verdict, A>, Outcome<A>>
-    ensures explains { IfOk result (λ verdicts. ExplainsTrees edition definition.now.1
-        argument.now.1 (map verdict_seen verdicts.items)) }
-    ensures refused { IfErr result (IsRefused edition definition.now.1) }
-{
-    let verdicts = verdicts_by(alloc, &SampleGrammar, definition, argument, edition)?;
-    Ok(verdicts)
-}
 
 // A rule's index, and its verdict.
 #[derive(Clone, Copy)]

@@ -2,23 +2,25 @@
 ghost use Rattle.std.specs.Prelude.{◌≡◌, ◌<◌, ◌^◌, ◌⊎◌, length, map, true, false, Ok, IfErr, IfOk};
 ghost use Rattle.mbe_tt.specs.Trees.Top.{top_group};
 ghost use Rattle.mbe_errors.specs.ErrorViews.{errors_of};
+ghost use Rattle.mbe.specs.MacroViews.{macro_of};
 ghost use Rattle.mbe.specs.Matched.{verdict_seen};
 ghost use Rattle.mbe_text.specs.Tokens.{IsMade};
 ghost use Rattle.mbe_text.specs.Division.{sample_trees};
-ghost use Rattle.mbe_program.specs.Expansion.{AreTrees, ExpandsTrees, IsRefused, ExpandsTexts, EndsAs};
-ghost use Rattle.mbe_program.specs.Expansion.{IsAtFault, IsUnexpanded, IsUnlexed};
+ghost use Rattle.mbe_program.specs.Expanding.{HasNoMacro, IsMacroOf};
+ghost use Rattle.mbe_program.specs.Expansion.{AreRead, ExpandsTexts, EndsAs};
+ghost use Rattle.mbe_program.specs.Expansion.{IsAtFault, IsUnexpanded};
 ghost use Rattle.mbe_program.specs.Linting.{ExplainsTexts, Lints};
 ghost use Rattle.mbe_program.specs.Outcomes.{FaultsIn, IsSilent, status_of};
 
-use crate::expanding::{Expansion, Unread, defined, expansion_by};
-use crate::linting::{lines_of, print_lines, verdicts};
+use crate::expanding::{Expansion, Unread, defined, expansion_by, explained};
+use crate::linting::{lines_of, print_lines};
 use crate::printing::{head_of, print_expansion};
-use mbe::{MacroCallStyle, ParseError, Verdict};
+use mbe::{DeclarativeMacro, MacroCallStyle, ParseError, Verdict};
 use mbe_grammar::SampleGrammar;
 use mbe_text::lexer::{LexError, lex_in};
 use mbe_text::scanner::file_span;
 use mbe_text::symbols::SymbolTable;
-use mbe_tt::span::{Edition, Span};
+use mbe_tt::span::Edition;
 use mbe_tt::tt::TopSubtree;
 use std::alloc::{AllocError, Allocator};
 use std::io::Write;
@@ -101,47 +103,43 @@ fn lexed<A: Allocator + Copy>(
     }
 }
 
-// The trees of both texts, or the first fault; the definition is lexed first. A text that both have is kept once.
+// The macro of a definition, whose trees are given back.
+fn taken<A: Allocator + Copy>(
+    alloc: A,
+    definition: TopSubtree<A>,
+    edition: Edition,
+) -> Result<DeclarativeMacro<A>, Unread<A>>
+    ensures read { IfOk result (λ m. IsMacroOf edition definition.entry.1 (macro_of m)) }
+    ensures refused { IfErr result (HasNoMacro edition definition.entry.1) }
+{
+    defined(alloc, &definition, edition)
+}
+
+// The macro of the definition and the trees of the argument, or the first fault: a text that isn't
+// lexed comes before a definition that is refused. The definition's trees are given back before the
+// argument's are made, so memory never holds both. A long text that both have is kept once.
 #[tactic(auto, using(crate::proofs::Both::trees, crate::proofs::Both::first_fault, crate::proofs::Both::second_fault))]
-fn both_lexed<A: Allocator + Copy>(
+fn both_read<A: Allocator + Copy>(
     alloc: A,
     def: &str,
     arg: &str,
-) -> Result<(TopSubtree<A>, TopSubtree<A>), Outcome<A>>
+    edition: Edition,
+) -> Result<(DeclarativeMacro<A>, TopSubtree<A>), Outcome<A>>
     requires def { length def.now < 2 ^ 32 }
     requires arg { length arg.now < 2 ^ 32 }
-    ensures trees { IfOk result (λ r. AreTrees def.now arg.now r.0 r.1) }
-    ensures unlexed { IfErr result (IsUnlexed def.now arg.now) }
+    ensures read { IfOk result (λ r. AreRead edition def.now arg.now (macro_of r.0) r.1) }
+    ensures unexpanded { IfErr result (IsUnexpanded edition def.now arg.now) }
     ensures within { IfErr result (λ outcome.
         FaultsIn 0 (length def.now) outcome ⊎ FaultsIn 1 (length arg.now) outcome) }
 {
     let mut table = SymbolTable::new(alloc);
     let definition = lexed(&mut table, def, 0)?;
+    let rules = taken(alloc, definition, edition);
     let argument = lexed(&mut table, arg, 1)?;
-    Ok((definition, argument))
-}
-
-// What a definition makes of an argument, or why there is no expansion.
-#[tactic(auto, using(crate::proofs::OutcomeLemmas::no_macro))]
-fn expansion<A: Allocator + Copy>(
-    alloc: A,
-    definition: &TopSubtree<A>,
-    argument: &TopSubtree<A>,
-    edition: Edition,
-    call_site: Span,
-) -> Result<Expansion<A>, Outcome<A>>
-    ensures expands { IfOk result (λ r. ExpandsTrees edition definition.now.1 argument.now
-        call_site (top_group r.value.0) r.value.1 (errors_of r.err)) }
-    ensures refused { IfErr result (IsRefused edition definition.now.1) }
-{
-    let rules = defined(alloc, definition, edition)?;
-    let style = MacroCallStyle::FnLike;
-    let expansion = expansion_by(alloc, &SampleGrammar, &rules, argument, style, call_site)?;
-    Ok(expansion)
+    Ok((rules?, argument))
 }
 
 // What the text of a definition makes of that of an argument.
-#[tactic(auto, using(crate::proofs::OutcomeLemmas::unlexed, crate::proofs::OutcomeLemmas::refused))]
 fn texts_expansion<A: Allocator + Copy>(
     alloc: A,
     def: &str,
@@ -156,13 +154,14 @@ fn texts_expansion<A: Allocator + Copy>(
     ensures within { IfErr result (λ outcome.
         FaultsIn 0 (length def.now) outcome ⊎ FaultsIn 1 (length arg.now) outcome) }
 {
-    let (definition, argument) = both_lexed(alloc, def, arg)?;
+    let (rules, argument) = both_read(alloc, def, arg, edition)?;
     let call_site = file_span(1, 0, arg.len() as u32);
-    expansion(alloc, &definition, &argument, edition, call_site)
+    let style = MacroCallStyle::FnLike;
+    let expansion = expansion_by(alloc, &SampleGrammar, &rules, &argument, style, call_site)?;
+    Ok(expansion)
 }
 
 // The verdicts of the rules in the text of a definition on that of an argument.
-#[tactic(auto, using(crate::proofs::OutcomeLemmas::unlexed, crate::proofs::OutcomeLemmas::refused))]
 fn texts_verdicts<A: Allocator + Copy>(
     alloc: A,
     def: &str,
@@ -177,8 +176,9 @@ fn texts_verdicts<A: Allocator + Copy>(
     ensures within { IfErr result (λ outcome.
         FaultsIn 0 (length def.now) outcome ⊎ FaultsIn 1 (length arg.now) outcome) }
 {
-    let (definition, argument) = both_lexed(alloc, def, arg)?;
-    verdicts(alloc, &definition, &argument, edition)
+    let (rules, argument) = both_read(alloc, def, arg, edition)?;
+    let verdicts = explained(alloc, &SampleGrammar, &rules, &argument)?;
+    Ok(verdicts)
 }
 
 // A run that expands.
