@@ -4,13 +4,9 @@
 #![tactic(auto)]
 
 #[cfg(test)]
-mod builders;
-#[cfg(test)]
 mod calls;
 #[cfg(test)]
 mod copies;
-#[cfg(test)]
-mod copying;
 #[cfg(test)]
 mod definitions;
 #[cfg(test)]
@@ -24,19 +20,9 @@ mod fronts;
 #[cfg(test)]
 mod grammar;
 #[cfg(test)]
-mod kinds;
-#[cfg(test)]
 mod marking;
 #[cfg(test)]
-mod memory;
-#[cfg(test)]
 mod places;
-#[cfg(test)]
-mod reading;
-#[cfg(test)]
-mod requests;
-#[cfg(test)]
-mod results;
 #[cfg(test)]
 mod runs;
 #[cfg(test)]

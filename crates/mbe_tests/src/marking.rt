@@ -7,7 +7,7 @@ use mbe::{MacroCallStyle, ParseError};
 use mbe_tt::span::Span;
 use std::alloc::{AllocError, Global};
 use std::cell::Cell;
-use test_rows::{Fields, Rows, rows};
+use test_rows::{Fields, rows};
 
 // A definition, an argument, whether there is an error, and how often the marker is called.
 pub const ROWS: &str = rows![
@@ -43,16 +43,11 @@ fn calls(alloc: Global, definition: &str, argument: &str) -> Result<(bool, u32, 
     Ok((expansion.err.is_some(), own.get(), others.get()))
 }
 
-#[derive(Clone, Copy)]
-pub struct Marking;
-
-impl Rows for Marking {
-    fn is_so(
-        &self,
-        alloc: Global,
-        [definition, argument, fails, count, ..]: Fields,
-    ) -> Result<bool, AllocError> {
-        let found = calls(alloc, definition, argument)?;
-        Ok(found == (fails == "true", byte(count), 0))
-    }
+/// Whether a row is so.
+pub fn is_so(
+    alloc: Global,
+    [definition, argument, fails, count, ..]: Fields,
+) -> Result<bool, AllocError> {
+    let found = calls(alloc, definition, argument)?;
+    Ok(found == (fails == "true", byte(count), 0))
 }
