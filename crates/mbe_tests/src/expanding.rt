@@ -14,10 +14,8 @@ use test_rows::{AnyRows, Fields, rows};
 pub enum Doing {
     /// A definition and an argument are expanded, by a worked row.
     Expanding,
-    /// The rules of a `macro_rules!` are read, as text.
-    Rules,
-    /// The rules of a `macro` are read.
-    Body,
+    /// The rules of a `macro_rules!` are read, and the same as those of a `macro`.
+    Reading,
     /// Arguments, and then a body, are read as one rule.
     Arguments,
 }
@@ -77,13 +75,17 @@ fn reads_again<A: Allocator + Copy>(
     }
 }
 
+// Whether that is so of a definition in both forms.
+fn reads_both<A: Allocator + Copy>(alloc: A, definition: &str) -> Result<bool, AllocError> {
+    Ok(reads_again(alloc, "rules", definition)? && reads_again(alloc, "body", definition)?)
+}
+
 impl AnyRows for Doing {
     fn is_so<A: Allocator + Copy>(&self, alloc: A, fields: Fields) -> Result<bool, AllocError> {
         let [definition, ..] = fields;
         match self {
             Doing::Expanding => expands_again(alloc, fields),
-            Doing::Rules => reads_again(alloc, "rules", definition),
-            Doing::Body => reads_again(alloc, "body", definition),
+            Doing::Reading => reads_both(alloc, definition),
             Doing::Arguments => reads_again(alloc, "$($x:ident),*", definition),
         }
     }

@@ -1,4 +1,4 @@
-// On which spans a marker is called: those of what the template writes itself, once for each time that it is written.
+// How often a marker is called: once for each span of what the template writes itself, each time that it is written. On which, `places` shows.
 use crate::grammar::NOTHING;
 use crate::runs::defined;
 use crate::tokens::{at, byte};
@@ -23,24 +23,22 @@ pub const ROWS: &str = rows![
     ("(a) => {X $($y)+}; (a) => {Y Z $($y)+}", "a", true, 3),
 ];
 
-// How often a marker was called on spans of the definition, and of others.
-fn calls(alloc: Global, definition: &str, argument: &str) -> Result<(bool, u32, u32), AllocError> {
+// Whether there is an error, and how often a marker was called.
+fn calls(alloc: Global, definition: &str, argument: &str) -> Result<(bool, u32), AllocError> {
     let rules = defined(alloc, definition)?;
     if matches!(rules.err(), Some(ParseError::RepetitionEmptyTokenTree)) {
         return Err(AllocError);
     }
     let argument = lexed(alloc, 1, argument)?;
-    let own = Cell::new(0u32);
-    let others = Cell::new(0u32);
+    let count = Cell::new(0u32);
     let marker = |span: Span| {
-        let calls = if span.file == 0 { &own } else { &others };
-        calls.set(calls.get().saturating_add(1));
+        count.set(count.get().saturating_add(1));
         span
     };
     let style = MacroCallStyle::FnLike;
     let call_site = at(2, 40, 44);
     let expansion = rules.expand(alloc, &NOTHING, &argument, marker, style, call_site)?;
-    Ok((expansion.err.is_some(), own.get(), others.get()))
+    Ok((expansion.err.is_some(), count.get()))
 }
 
 /// Whether a row is so.
@@ -48,6 +46,5 @@ pub fn is_so(
     alloc: Global,
     [definition, argument, fails, count, ..]: Fields,
 ) -> Result<bool, AllocError> {
-    let found = calls(alloc, definition, argument)?;
-    Ok(found == (fails == "true", byte(count), 0))
+    Ok(calls(alloc, definition, argument)? == (fails == "true", byte(count)))
 }

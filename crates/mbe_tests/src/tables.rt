@@ -72,9 +72,7 @@ fn tables_are_as_their_rows_say(rt: HostRuntime) -> Result<(), Wrong> {
 fn each_request_refused(rt: HostRuntime) -> Result<(), Wrong> {
     let alloc = rt.alloc();
     each_refused(alloc, &Doing::Expanding, (worked::ROWS, 29), (10, true))?;
-    each_refused(alloc, &Doing::Rules, (worked::ROWS, 29), (4, true))?;
-    each_refused(alloc, &Doing::Body, (worked::ROWS, 29), (4, true))?;
-    each_refused(alloc, &Doing::Rules, (FORMS, 2), (12, true))?;
-    each_refused(alloc, &Doing::Body, (FORMS, 2), (12, true))?;
+    each_refused(alloc, &Doing::Reading, (worked::ROWS, 29), (6, true))?;
+    each_refused(alloc, &Doing::Reading, (FORMS, 2), (24, true))?;
     each_refused(alloc, &Doing::Arguments, (rows![("$($x);*")], 1), (4, true))
 }

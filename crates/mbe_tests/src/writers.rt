@@ -2,7 +2,7 @@
 use mbe_program::program::run;
 use mbe_tt::span::Edition;
 use refusing::Refusing;
-use std::alloc::{Allocator, Global};
+use std::alloc::Global;
 use std::io;
 use std::io::Write;
 use test_rows::{Fields, number};
@@ -58,7 +58,7 @@ enum Failing {
 }
 
 // The status of a run, which lints or expands; 6 for texts that are too long.
-fn status<A: Allocator + Copy>(alloc: A, [def, arg, ..]: Fields, lint: bool, out: &mut Slow) -> u8 {
+fn status(alloc: &Refusing<Global>, [def, arg, ..]: Fields, lint: bool, out: &mut Slow) -> u8 {
     if def.len() > u32::MAX as usize || arg.len() > u32::MAX as usize {
         return 6;
     }
