@@ -133,6 +133,16 @@ def defaults(program):
         prints(program, "DEFAULTS", row, run, printed("", f"expected {asked} at 1@0..0", 0, trees))
 
 
+def entries(program):
+    """What the grammar finds nothing of is reported at its first token, by the name of its entry point."""
+    for row in DEFAULTS:
+        specifier, asked, default = row
+        if asked[0].isupper():
+            run = ran(program, f"($x:{specifier}) => {{[$x]}}", "=")
+            trees = missing(len(specifier) + 10, default)
+            prints(program, "DEFAULTS, =", row, run, printed("=", f"expected {asked} at 1@0..1", 0, trees))
+
+
 def test(program):
     worked(program, "RECOVERED", RECOVERED)
     worked(program, "RECOVERED_BEFORE_2024", RECOVERED_BEFORE_2024, 2021)
@@ -141,3 +151,4 @@ def test(program):
     worked(program, "REPORTED", REPORTED)
     worked(program, "MISSING", MISSING)
     defaults(program)
+    entries(program)

@@ -1,12 +1,11 @@
 // Calls of which no text shows what they are: of trees that no text gives, and by grammars that are handed in.
-use crate::grammar::NoMemory;
-use crate::runs::{defined, is_made, made, whole};
-use crate::trees::lexed;
-use std::alloc::{AllocError, Global};
 use test_rows::rows;
 
-// Trees that no text gives.
-pub const OF_TREES: &str = rows![
+// How many flat tokens the grammar takes, and `fault` if it faults, or `out` if it is out of memory; a definition, an argument, the index
+// of a rule, the tokens that it writes, and the error with its file and its bytes, if there is one. Without an index the first rule doesn't
+// apply, with any error.
+pub const ROWS: &str = rows![
+    // Trees that no text gives.
     ("0 fault", "([a]) => {}", "tokens 10
 open none 1 0 1
 word a 1 1 2
@@ -174,9 +173,7 @@ close ) 1 2 3"),
 open none 1 0 1
 word a 1 1 2
 close ) 1 2 3", 0, "word a 1 1 2"),
-];
-
-pub const FRAGMENTS: &str = rows![
+    // Fragments.
     // A visibility may be nothing, a type not.
     (0, "($v:vis) => {[$v]}", "", 0, "open [ 0 13 14
 close ) 0 16 17"),
@@ -230,10 +227,7 @@ alone > 1 6 7"),
     // A grammar that faults after a group.
     ("4 fault", "($t:ty) => {}", "(a b)"),
     ("4 fault", "($e:expr) => {}", "(a) b"),
-];
-
-// Whether the first token is the beginning of an expression, of one of 2021, and of a type.
-pub const BEGINNINGS: &str = rows![
+    // Whether the first token is the beginning of an expression, of one of 2021, and of a type.
     (1, "($x:expr) => {}", "a", 0),
     (1, "($x:expr_2021) => {}", "a", 0),
     (1, "($x:ty) => {}", "a", 0),
@@ -261,9 +255,7 @@ pub const BEGINNINGS: &str = rows![
     (1, "($x:expr) => {}", "constant", 0),
     (1, "($x:expr_2021) => {}", "constant", 0),
     (1, "($x:ty) => {}", "constant", 0),
-];
-
-pub const RECOVERED: &str = rows![
+    // What is recovered.
     // Several positions meet at the end of either pattern. By the first of them the first rule binds most.
     (1, "($(a)* $(a $(: $y:ident)?)* c) => {R0}; ($(a $(: $x:ident)?)* $(a)* c) => {R1}", "a a a a c d", 0, "word R0 0 35 37", "unexpected token in input 1 0 1"),
     // At the quote of `($(b $(')?)'a*) => {}` one prefix goes on over one token, and one over two.
@@ -310,14 +302,7 @@ close ) 0 16 17", "expected Vis 1 0 0"),
     // The second rule leaves one word, the others leave two.
     (1, "($t:ty) => {A}; ($t:ty $x:ident) => {B $t}; ($x:tt) => {C}", "a b c", 1, "word B 0 37 38
 word a 1 0 1", "leftover tokens 1 0 5"),
+    // A grammar without memory, which is asked for an expression, and not for a name.
+    ("0 out", "($x:ident) => {}; ($e:expr) => {}", 1, "out of memory"),
+    ("0 out", "($x:ident) => {}; ($e:expr) => {}", "a", 0),
 ];
-
-/// Whether an expansion needs the memory of its grammar, where the argument needs the grammar, and no other does.
-pub fn needs_memory(alloc: Global) -> Result<bool, AllocError> {
-    let rules = defined(alloc, "($x:ident) => {}; ($e:expr) => {}")?;
-    let number = lexed(alloc, 1, "1")?;
-    let is_out = made(alloc, &NoMemory, &rules, &number).is_err();
-    let word = lexed(alloc, 1, "a")?;
-    let expansion = made(alloc, &NoMemory, &rules, &word)?;
-    Ok(is_out && is_made(alloc, &expansion, whole(&word), Some((0, "")), "")?)
-}

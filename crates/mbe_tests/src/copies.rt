@@ -5,14 +5,9 @@ use mbe::DeclarativeMacro;
 use std::alloc::{AllocError, Global};
 use test_rows::{nth, rows};
 
-/// Whether the macros of two definitions are equal.
-pub fn are_equal(alloc: Global, one: &str, two: &str) -> Result<bool, AllocError> {
-    let one = defined(alloc, one)?;
-    Ok(one == defined(alloc, two)?)
-}
-
-// Definitions whose macros differ from one another. All but the last two are at the same places.
-pub const DIFFERENT: &str = rows![
+// Definitions, of which the first thirteen have macros that differ from one another, and from those of the further ones. All but two of the
+// thirteen are at the same places. Then pairs that are equal: their separators are at different places.
+pub const ROWS: &str = rows![
     ("($($x:ident),*) => {}"),
     ("($($x:ident);*) => {}"),
     ("($($x:ident),+) => {}"),
@@ -26,21 +21,15 @@ pub const DIFFERENT: &str = rows![
     (""),
     ("attr() ($($x:ident),*) => {}"),
     ("( $($x:ident),*) => {}"),
-];
-
-/// Whether the macro of a text equals its own, and that of no other text.
-pub fn is_different(alloc: Global, text: &str) -> Result<bool, AllocError> {
-    for number in 0..13u64 {
-        let other = nth(DIFFERENT, number);
-        if are_equal(alloc, text, other)? != (text == other) {
-            return Ok(false);
-        }
-    }
-    Ok(true)
-}
-
-// Pairs whose separators are at different places.
-pub const SAME: &str = rows![
+    // With a fault, with a refusal, and with rules alone; and with groups or repetitions in one another as deep as may be, which
+    // docs/DECISIONS.md gives.
+    ("unsafe attr(x) ($a:ident $b:literal [c] 1 + $($d:expr),* $($e:ty)'f + $($g:tt)1? $(h)=>* \
+    $(i)* $(k)and* $crate) => {$a $j [c] 1 + $($d $e);* $($g)? ${ignore($a)} ${index()} ${len(1)} ${count($d)} ${count($e, 1)} \
+    ${concat(a, $a, 1)} $$ $crate $}; () => {}; x"),
+    ("($()*) => {}; ($x) => {}"),
+    ("attr(x) ($a:ident) => {$a}; ($($b:tt),*) => {[$($b)*]}"),
+    ("(«256 (»$x:ident«256 )») => {«256 (»$x«256 )»}"),
+    ("(«256 $(»$x:ident«256 )+») => {«256 $(»$x«256 )+»}"),
     ("($($x:ident),*) => {}", "($($x:ident) ,*) => {}"),
     ("($($x:ident)=>*) => {}", "($($x:ident) =>*) => {}"),
     ("($($x:ident)a*) => {}", "($($x:ident) a*) => {}"),
@@ -48,29 +37,23 @@ pub const SAME: &str = rows![
     ("($($x:ident)'a*) => {}", "($($x:ident) 'a*) => {}"),
 ];
 
-// With a fault, without rules, with a refusal, and with rules alone; and with groups or repetitions in one another as deep as may be, which
-// docs/DECISIONS.md gives.
-pub const COPIED: &str = rows![
-    ("unsafe attr(x) ($a:ident $b:literal [c] 1 + $($d:expr),* $($e:ty)'f + $($g:tt)1? $(h)=>* \
-    $(i)* $(k)and* $crate) => {$a $j [c] 1 + $($d $e);* $($g)? ${ignore($a)} ${index()} ${len(1)} ${count($d)} ${count($e, 1)} \
-    ${concat(a, $a, 1)} $$ $crate $}; () => {}; x"),
-    (""),
-    ("($()*) => {}; ($x) => {}"),
-    ("attr(x) ($a:ident) => {$a}; ($($b:tt),*) => {[$($b)*]}"),
-    ("(«256 (»$x:ident«256 )») => {«256 (»$x«256 )»}"),
-    ("(«256 $(»$x:ident«256 )+») => {«256 $(»$x«256 )+»}"),
-];
-
-fn are_alike(one: &DeclarativeMacro, two: &DeclarativeMacro) -> bool {
-    *one == *two
-        && one.num_rules() == two.num_rules()
-        && one.err() == two.err()
-        && one.rule_styles() == two.rule_styles()
+// Whether the macro of a text equals a copy of it, and of the thirteen only its own.
+fn is_different(alloc: Global, rules: &DeclarativeMacro, text: &str) -> Result<bool, AllocError> {
+    for number in 0..13u64 {
+        let other = nth(ROWS, number);
+        if (*rules == defined(alloc, other)?) != (text == other) {
+            return Ok(false);
+        }
+    }
+    Ok(rules.try_clone(alloc)? == *rules)
 }
 
-/// Whether a copy of a macro is equal.
-pub fn is_copied(alloc: Global, text: &str) -> Result<bool, AllocError> {
-    let rules = parsed(alloc, &read(alloc, 0, text)?)?;
-    let copy = rules.try_clone(alloc)?;
-    Ok(are_alike(&copy, &rules))
+/// Whether the macro of a text is so, or equals that of the other one.
+pub fn is_so(alloc: Global, one: &str, two: &str) -> Result<bool, AllocError> {
+    let rules = parsed(alloc, &read(alloc, 0, one)?)?;
+    if two.is_empty() {
+        is_different(alloc, &rules, one)
+    } else {
+        Ok(rules == defined(alloc, two)?)
+    }
 }

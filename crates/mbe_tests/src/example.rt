@@ -9,7 +9,7 @@ use mbe_text::printing::print_tree;
 use mbe_tt::span::Edition;
 use std::alloc::{AllocError, Global};
 use std::io::Write;
-use test_rows::rows;
+use test_rows::{Fields, rows};
 
 /// Prints what a call with this argument expands to.
 pub fn print_expanded<W: Write>(
@@ -55,12 +55,7 @@ pub const PRINTED: &str = rows![
 ];
 
 /// Whether that is printed.
-pub fn is_printed(
-    alloc: Global,
-    rules: &str,
-    argument: &str,
-    want: &str,
-) -> Result<bool, AllocError> {
+pub fn is_printed(alloc: Global, [rules, argument, want, ..]: Fields) -> Result<bool, AllocError> {
     if rules.len() > u32::MAX as usize || argument.len() > u32::MAX as usize {
         return Err(AllocError);
     }

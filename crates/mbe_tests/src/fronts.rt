@@ -1,18 +1,14 @@
 // What `expect_fragment` takes from the front of an iterator, and what it reports.
 use crate::errors::is_error;
-use crate::grammar::{NoMemory, grammar_of};
+use crate::grammar::grammar_of;
 use crate::tokens::{at, byte};
 use crate::trees::lexed;
 use mbe::{ExpandResult, expect_fragment};
-use mbe_grammar::SampleGrammar;
 use mbe_tt::grammar::PrefixEntryPoint;
-use mbe_tt::grammar::PrefixEntryPoint::{
-    Block, Expr, Item, MetaItem, Pat, PatTop, Path, Stmt, Ty, Vis,
-};
 use mbe_tt::span::{DelimSpan, Span};
 use mbe_tt::tt::TokenTreesView;
 use std::alloc::{AllocError, Global};
-use test_rows::{Fields, Rows, rows};
+use test_rows::{Fields, rows};
 
 // The spans around the arguments of these tests.
 fn around() -> DelimSpan {
@@ -22,26 +18,12 @@ fn around() -> DelimSpan {
     }
 }
 
-static ENTRIES: [(&str, PrefixEntryPoint); 10] = [
-    ("Path", Path),
-    ("Expr", Expr),
-    ("Ty", Ty),
-    ("PatTop", PatTop),
-    ("Pat", Pat),
-    ("Stmt", Stmt),
-    ("Block", Block),
-    ("MetaItem", MetaItem),
-    ("Item", Item),
-    ("Vis", Vis),
-];
-
-fn entry_of(name: &str) -> Result<PrefixEntryPoint, AllocError> {
-    for &(other, entry) in &ENTRIES {
-        if other == name {
-            return Ok(entry);
-        }
+fn entry_of(name: &str) -> PrefixEntryPoint {
+    match name.chars().next() {
+        Some('V') => PrefixEntryPoint::Vis,
+        Some('T') => PrefixEntryPoint::Ty,
+        _ => PrefixEntryPoint::Expr,
     }
-    Err(AllocError)
 }
 
 // The bytes of a row, if there are some.
@@ -61,36 +43,27 @@ fn is_front(
     Ok(found.as_str() == size && is_error(alloc, front.err.as_ref(), error)?)
 }
 
-// The grammar, or `sample`, an entry point and a text, the numbers of trees and of flat tokens of its front, where the
-// next tree is, and the error with its file and its bytes.
-#[derive(Clone, Copy)]
-pub struct Fronts;
-
-impl Rows for Fronts {
-    fn is_so(
-        &self,
-        alloc: Global,
-        [grammar, entry, text, size, next, error]: Fields,
-    ) -> Result<bool, AllocError> {
-        let argument = lexed(alloc, 1, text)?;
-        let mut iter = argument.iter();
-        let entry = entry_of(entry)?;
-        let front = if grammar == "sample" {
-            expect_fragment(alloc, &SampleGrammar, &mut iter, entry, around())?
-        } else {
-            expect_fragment(alloc, &grammar_of(grammar), &mut iter, entry, around())?
-        };
-        Ok(iter.next_span() == span_of(next) && is_front(alloc, &front, size, error)?)
+/// Whether a row is so.
+pub fn is_so(
+    alloc: Global,
+    [grammar, entry, text, size, next, error]: Fields,
+) -> Result<bool, AllocError> {
+    let argument = lexed(alloc, 1, text)?;
+    let mut iter = argument.iter();
+    let grammar = grammar_of(grammar);
+    let front = expect_fragment(alloc, &grammar, &mut iter, entry_of(entry), around());
+    if iter.next_span() != span_of(next) {
+        return Ok(false);
+    }
+    match front {
+        Ok(front) => is_front(alloc, &front, size, error),
+        Err(AllocError) => Ok(size == "out of memory"),
     }
 }
 
-// What is counted and whether the grammar faults, and what it takes.
-pub const COUNTED: &str = rows![
-    // By the sample grammar.
-    ("sample", "Vis", "", "0 0", "", ""),
-    ("sample", "Vis", "pub(crate) x", "2 4", "11 12", ""),
-    ("sample", "Ty", "&'a mut [u8] z", "5 7", "13 14", ""),
-    ("sample", "Expr", "", "0 0", "", "expected Expr 1 98 99"),
+// How many flat tokens the grammar takes, and its end, an entry point and a text, the numbers of trees and of flat tokens of its front, where
+// the next tree is, and the error with its file and its bytes.
+pub const ROWS: &str = rows![
     // Whole trees.
     ("0", "Vis", "", "0 0", "", ""),
     ("0", "Vis", "x", "0 0", "0 1", ""),
@@ -108,33 +81,12 @@ pub const COUNTED: &str = rows![
     ("7", "Ty", "x[a{b}()] z", "2 9", "10 11", "expected Ty 1 0 1"),
     ("8", "Ty", "x[a{b}()] z", "2 9", "10 11", "expected Ty 1 0 1"),
     ("9", "Ty", "x[a{b}()] z", "2 9", "10 11", ""),
-    // A fault is reported by the name of its entry point.
-    ("0 fault", "Path", "", "0 0", "", "expected Path 1 98 99"),
-    ("1 fault", "Path", "a b", "1 1", "2 3", "expected Path 1 0 1"),
+    // A fault is reported by the name of its entry point; those of the others are in tests/mbex.
     ("0 fault", "Expr", "", "0 0", "", "expected Expr 1 98 99"),
     ("1 fault", "Expr", "a b", "1 1", "2 3", "expected Expr 1 0 1"),
     ("0 fault", "Ty", "", "0 0", "", "expected Ty 1 98 99"),
     ("1 fault", "Ty", "a b", "1 1", "2 3", "expected Ty 1 0 1"),
-    ("0 fault", "PatTop", "", "0 0", "", "expected PatTop 1 98 99"),
-    ("1 fault", "PatTop", "a b", "1 1", "2 3", "expected PatTop 1 0 1"),
-    ("0 fault", "Pat", "", "0 0", "", "expected Pat 1 98 99"),
-    ("1 fault", "Pat", "a b", "1 1", "2 3", "expected Pat 1 0 1"),
-    ("0 fault", "Stmt", "", "0 0", "", "expected Stmt 1 98 99"),
-    ("1 fault", "Stmt", "a b", "1 1", "2 3", "expected Stmt 1 0 1"),
-    ("0 fault", "Block", "", "0 0", "", "expected Block 1 98 99"),
-    ("1 fault", "Block", "a b", "1 1", "2 3", "expected Block 1 0 1"),
-    ("0 fault", "MetaItem", "", "0 0", "", "expected MetaItem 1 98 99"),
-    ("1 fault", "MetaItem", "a b", "1 1", "2 3", "expected MetaItem 1 0 1"),
-    ("0 fault", "Item", "", "0 0", "", "expected Item 1 98 99"),
-    ("1 fault", "Item", "a b", "1 1", "2 3", "expected Item 1 0 1"),
     ("0 fault", "Vis", "", "0 0", "", "expected Vis 1 98 99"),
     ("1 fault", "Vis", "a b", "1 1", "2 3", "expected Vis 1 0 1"),
+    ("0 out", "Expr", "(a b) c", "out of memory", "0 1", ""),
 ];
-
-/// Whether a grammar without memory moves nothing.
-pub fn moves_nothing(alloc: Global) -> Result<bool, AllocError> {
-    let argument = lexed(alloc, 1, "(a b) c")?;
-    let mut iter = argument.iter();
-    let front = expect_fragment(alloc, &NoMemory, &mut iter, Expr, around());
-    Ok(front.is_err() && iter.remaining() == argument.iter().remaining())
-}

@@ -8,49 +8,22 @@ use mbe_tt::tt::TokenTreesView;
 use std::alloc::{AllocError, Allocator};
 use test_rows::number;
 
-/// A grammar that is always out of memory.
-#[derive(Clone, Copy)]
-pub struct NoMemory;
-
-impl FragmentGrammar for NoMemory {
-    ghost use Rattle.std.specs.Prelude.{true, false};
-
-    ghost grammar = { λ _. record { parse = λ entry tokens. record { count = 0; fault = true }; is_keyword = λ text. false } };
-
-    fn parse<A: Allocator>(
-        &self,
-        _entry: PrefixEntryPoint,
-        _tokens: TokenTreesView<'_, A>,
-    ) -> Result<Front, AllocError> {
-        Err(AllocError)
-    }
-
-    fn is_keyword(&self, _text: &str) -> bool {
-        false
-    }
-
-    ghost lawful = { λ _. Prim.search rules };
-}
-
 /// A grammar that takes so many flat tokens of everything, or all where there are fewer. It faults where it takes none, but
-/// for `Vis`, and everywhere if it is made so.
+/// for `Vis`, and everywhere if it is made so; or it is out of memory.
 #[derive(Clone, Copy)]
 pub struct Counting {
-    pub count: usize,
-    pub fault: bool,
+    count: usize,
+    fault: bool,
+    is_out: bool,
 }
 
-/// The grammar of a row: how many flat tokens it takes, and `fault` after a space if it faults.
+/// The grammar of a row: how many flat tokens it takes, and after a space `fault` if it faults, or `out` if it is out of memory.
 pub fn grammar_of(row: &str) -> Counting {
-    match row.split_once(' ') {
-        None => Counting {
-            count: number(row),
-            fault: false,
-        },
-        Some((count, _fault)) => Counting {
-            count: number(count),
-            fault: true,
-        },
+    let (count, end) = row.split_once(' ').unwrap_or((row, ""));
+    Counting {
+        count: number(count),
+        fault: end == "fault",
+        is_out: end == "out",
     }
 }
 
@@ -58,6 +31,7 @@ pub fn grammar_of(row: &str) -> Counting {
 pub const NOTHING: Counting = Counting {
     count: 0,
     fault: true,
+    is_out: false,
 };
 
 #[tactic(auto, using(mbe_tt::proofs::Places::CutLemmas::flat_length))]
@@ -73,6 +47,9 @@ impl FragmentGrammar for Counting {
         entry: PrefixEntryPoint,
         tokens: TokenTreesView<'_, A>,
     ) -> Result<Front, AllocError> {
+        if self.is_out {
+            return Err(AllocError);
+        }
         let count = self.count.min(tokens.flat_len());
         Ok(Front {
             count,

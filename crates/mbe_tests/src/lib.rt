@@ -1,16 +1,12 @@
-// Tests of the calls of `mbe`, `mbe_tt` and the program's `run` that a built program can't show: trees that no text gives, grammars and
-// markers that are handed in, rules that are kept beside a fault, equality, copies and derived texts, memory that runs out at any request,
-// and writers that fail at any call. What the program prints is tested by tests/mbex.
+// Tests of the calls of `mbe`, `mbe_tt` and the program's `run` that a built program can't show, and no contract says in as many words:
+// trees that no text gives, grammars and markers that are handed in, rules that are kept beside a fault, equality of macros, derived texts,
+// memory that runs out at any request, and writers that fail at any call. What the program prints is tested by tests/mbex.
 #![tactic(auto)]
 
-#[cfg(test)]
-mod builders;
 #[cfg(test)]
 mod calls;
 #[cfg(test)]
 mod copies;
-#[cfg(test)]
-mod copying;
 #[cfg(test)]
 mod definitions;
 #[cfg(test)]
@@ -24,19 +20,9 @@ mod fronts;
 #[cfg(test)]
 mod grammar;
 #[cfg(test)]
-mod kinds;
-#[cfg(test)]
 mod marking;
 #[cfg(test)]
-mod memory;
-#[cfg(test)]
 mod places;
-#[cfg(test)]
-mod reading;
-#[cfg(test)]
-mod requests;
-#[cfg(test)]
-mod results;
 #[cfg(test)]
 mod runs;
 #[cfg(test)]

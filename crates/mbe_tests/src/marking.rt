@@ -1,4 +1,4 @@
-// On which spans a marker is called: those of what the template writes itself, once for each time that it is written.
+// How often a marker is called: once for each span of what the template writes itself, each time that it is written. On which, `places` shows.
 use crate::grammar::NOTHING;
 use crate::runs::defined;
 use crate::tokens::{at, byte};
@@ -7,7 +7,7 @@ use mbe::{MacroCallStyle, ParseError};
 use mbe_tt::span::Span;
 use std::alloc::{AllocError, Global};
 use std::cell::Cell;
-use test_rows::{Fields, Rows, rows};
+use test_rows::{Fields, rows};
 
 // A definition, an argument, whether there is an error, and how often the marker is called.
 pub const ROWS: &str = rows![
@@ -23,36 +23,28 @@ pub const ROWS: &str = rows![
     ("(a) => {X $($y)+}; (a) => {Y Z $($y)+}", "a", true, 3),
 ];
 
-// How often a marker was called on spans of the definition, and of others.
-fn calls(alloc: Global, definition: &str, argument: &str) -> Result<(bool, u32, u32), AllocError> {
+// Whether there is an error, and how often a marker was called.
+fn calls(alloc: Global, definition: &str, argument: &str) -> Result<(bool, u32), AllocError> {
     let rules = defined(alloc, definition)?;
     if matches!(rules.err(), Some(ParseError::RepetitionEmptyTokenTree)) {
         return Err(AllocError);
     }
     let argument = lexed(alloc, 1, argument)?;
-    let own = Cell::new(0u32);
-    let others = Cell::new(0u32);
+    let count = Cell::new(0u32);
     let marker = |span: Span| {
-        let calls = if span.file == 0 { &own } else { &others };
-        calls.set(calls.get().saturating_add(1));
+        count.set(count.get().saturating_add(1));
         span
     };
     let style = MacroCallStyle::FnLike;
     let call_site = at(2, 40, 44);
     let expansion = rules.expand(alloc, &NOTHING, &argument, marker, style, call_site)?;
-    Ok((expansion.err.is_some(), own.get(), others.get()))
+    Ok((expansion.err.is_some(), count.get()))
 }
 
-#[derive(Clone, Copy)]
-pub struct Marking;
-
-impl Rows for Marking {
-    fn is_so(
-        &self,
-        alloc: Global,
-        [definition, argument, fails, count, ..]: Fields,
-    ) -> Result<bool, AllocError> {
-        let found = calls(alloc, definition, argument)?;
-        Ok(found == (fails == "true", byte(count), 0))
-    }
+/// Whether a row is so.
+pub fn is_so(
+    alloc: Global,
+    [definition, argument, fails, count, ..]: Fields,
+) -> Result<bool, AllocError> {
+    Ok(calls(alloc, definition, argument)? == (fails == "true", byte(count)))
 }

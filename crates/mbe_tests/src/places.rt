@@ -1,15 +1,14 @@
 // Where errors are, and what is written beside them: the argument's opening, its closing and the call site are apart, and a
 // marker sets the context of what the template writes itself.
-use crate::errors::is_error;
-use crate::grammar::Counting;
-use crate::runs::{Expansion, defined};
+use crate::grammar::grammar_of;
+use crate::runs::{Expansion, defined, is_made};
 use crate::tokens::at;
-use crate::trees::{built_of, lexed};
+use crate::trees::lexed;
 use mbe::{MacroCallStyle, ParseError};
 use mbe_tt::span::{Span, SyntaxContext};
 use mbe_tt::tt::{Delimiter, DelimiterKind, TopSubtree, TopSubtreeBuilder};
 use std::alloc::{AllocError, Global};
-use test_rows::{Fields, Rows, number, rows};
+use test_rows::{Fields, rows};
 
 // The file and the bytes of a span.
 type Place = (u32, u32, u32);
@@ -25,7 +24,7 @@ const MARKED: u32 = 7;
 
 // How many flat tokens the grammar takes without a fault, a definition, an argument, the rule, the error with its file and its bytes, and what
 // is written, each token with the number of its context.
-pub const MATCHES: &str = rows![
+pub const ROWS: &str = rows![
     (1, "(a b) => {X}", "a c", 0, "unexpected token in input 1 2 3", "word X 0:7 10 11"),
     // An error at the end of the argument, or of a group in it, is at the argument's closing.
     (1, "(a b) => {X}", "a", 0, "expected ident: `b` 1 95 96", "word X 0:7 10 11"),
@@ -47,9 +46,7 @@ word x 0 20 21"),
     (1, "($($x:ident),*; 2) => {A}; ($a:ident, $b:ident; 2) => {B}", "p, q; 1", 0, "unexpected token in input 1 0 1", "word A 0:7 23 24"),
     // No rule is for this style of call.
     (1, "attr() () => {A}", "", "", "no rule matches input tokens 2 40 44", ""),
-];
-
-pub const TEMPLATES: &str = rows![
+    // Templates.
     (1, "($($x:ident)*) => {$($x)+}", "", 0, "unexpected token in input 2 40 44", ""),
     (1, "($x:ident) => {$($x)*}", "a", 0, "Expand exceed limit 2 40 44", ""),
     (1, "($($x:ident)*) => {$x Y}", "a b", 0, "expected simple binding, found nested binding `x` 0 20 21", "word Y 0:7 22 23"),
@@ -116,7 +113,7 @@ fn argument_of(alloc: Global, text: &str) -> Result<TopSubtree, AllocError> {
 
 fn expansion_of(
     alloc: Global,
-    count: usize,
+    grammar: &str,
     (definition, argument): (&str, &str),
 ) -> Result<Expansion<Global>, AllocError> {
     let rules = defined(alloc, definition)?;
@@ -124,10 +121,7 @@ fn expansion_of(
         return Err(AllocError);
     }
     let argument = argument_of(alloc, argument)?;
-    let grammar = Counting {
-        count,
-        fault: false,
-    };
+    let grammar = grammar_of(grammar);
     let marker = |span: Span| Span {
         ctx: SyntaxContext(MARKED),
         ..span
@@ -136,19 +130,11 @@ fn expansion_of(
     rules.expand(alloc, &grammar, &argument, marker, style, span_of(CALL))
 }
 
-#[derive(Clone, Copy)]
-pub struct Places;
-
-impl Rows for Places {
-    fn is_so(
-        &self,
-        alloc: Global,
-        [count, definition, argument, rule, error, tokens]: Fields,
-    ) -> Result<bool, AllocError> {
-        let expansion = expansion_of(alloc, number(count), (definition, argument))?;
-        let (tree, index) = &expansion.value;
-        let want = built_of(alloc, span_of(CALL), tokens)?;
-        let is_so = *index == rule.parse::<u32>().ok() && *tree == want;
-        Ok(is_so && is_error(alloc, expansion.err.as_ref(), error)?)
-    }
+/// Whether a row is so.
+pub fn is_so(
+    alloc: Global,
+    [grammar, definition, argument, arm, error, tokens]: Fields,
+) -> Result<bool, AllocError> {
+    let expansion = expansion_of(alloc, grammar, (definition, argument))?;
+    is_made(alloc, &expansion, span_of(CALL), [arm, tokens, error])
 }

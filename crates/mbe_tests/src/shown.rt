@@ -2,8 +2,8 @@
 use crate::runs::defined;
 use crate::trees::lexed;
 use mbe::{
-    Binding, BindingLog, Bindings, CountError, ExpandError, ExpandErrorKind, ExprKind, Fragment,
-    Handle, MacroCallStyle, MacroCallStyles, MetaVarKind, ParseError, TokensOrigin, ValueResult,
+    Binding, BindingLog, CountError, ExpandError, ExpandErrorKind, ExprKind, Fragment,
+    MacroCallStyle, MacroCallStyles, MetaVarKind, ParseError, TokensOrigin, ValueResult,
 };
 use mbe_tt::grammar::{Front, PrefixEntryPoint};
 use mbe_tt::span::{DelimSpan, Edition, Span, SyntaxContext};
@@ -13,7 +13,6 @@ use mbe_tt::tt::{
 };
 use std::alloc::{AllocError, Global};
 use std::fmt::Debug;
-use std::rc::Rc;
 
 fn has_parts(text: &str, parts: &[&str]) -> bool {
     for part in parts {
@@ -42,46 +41,63 @@ const SPAN: Span = Span {
 
 const SPAN_TEXT: &str = "Span { file: 1, ast: 0, start: 2, end: 3, ctx: SyntaxContext(4) }";
 
-// Whether spans and fronts are shown.
+// Whether spans, fronts and styles are shown.
 fn are_spans_shown(alloc: Global) -> bool {
-    let pair = DelimSpan::from_single(SPAN);
     let front = Front {
         count: 5,
         fault: true,
     };
-    shows(alloc, &SPAN, &[SPAN_TEXT])
-        && shows(alloc, &pair, &["DelimSpan { opening: Span {"])
-        && shows(alloc, &front, &["Front { count: 5, fault: true }"])
-        && shows(alloc, &Edition::Edition2021, &["Edition2021"])
-        && shows(alloc, &PrefixEntryPoint::PatTop, &["PatTop"])
+    let pair = DelimSpan::from_single(SPAN);
+    let styles = (MacroCallStyle::Derive, MacroCallStyles::ATTR);
+    let shown = (
+        pair,
+        front,
+        Edition::Edition2021,
+        PrefixEntryPoint::PatTop,
+        styles,
+    );
+    let parts = [
+        SPAN_TEXT,
+        "DelimSpan { opening: Span {",
+        "Front { count: 5, fault: true }",
+        "Edition2021",
+        "PatTop",
+        "Derive",
+        "MacroCallStyles(2)",
+    ];
+    shows(alloc, &shown, &parts)
 }
 
-static LEAVES: [&str; 5] = [
-    "TopSubtree {",
-    "Ident(Ident { sym: \"a\", span: Span {",
-    "is_raw: No",
-    "Literal(Literal { text_and_suffix: \"1\", suffix_len: 0, kind: Integer",
-    "Punct(Punct { char: '+', spacing: Alone",
-];
-
-// Whether all that is borrowed from a tree is shown, where it holds one group.
-fn are_borrows_shown(alloc: Global, tree: &TopSubtree) -> bool {
-    let mut iter = tree.iter();
-    let view = iter.remaining();
-    shows(alloc, &iter, &["TtIter {"])
-        && shows(alloc, &view, &["TokenTreesView {"])
-        && shows(alloc, &view.cursor(), &["Cursor {"])
-        && shows(alloc, &view.try_into_subtree(), &["SubtreeView"])
-        && shows(alloc, &iter.next(), &["Subtree("])
-}
-
-// Whether trees are shown.
+// Whether a tree is shown that holds one group, and what is borrowed from it.
 fn are_trees_shown(alloc: Global) -> Result<bool, AllocError> {
     let tree = lexed(alloc, 0, "(a 1 +)")?;
-    Ok(shows(alloc, &tree, &LEAVES) && are_borrows_shown(alloc, &tree))
+    let mut iter = tree.iter();
+    let view = iter.remaining();
+    let next = iter.next();
+    let shown = (
+        &tree,
+        &iter,
+        view,
+        view.cursor(),
+        view.try_into_subtree(),
+        next,
+    );
+    let parts = [
+        "TopSubtree {",
+        "Ident(Ident { sym: \"a\", span: Span {",
+        "is_raw: No",
+        "Literal(Literal { text_and_suffix: \"1\", suffix_len: 0, kind: Integer",
+        "Punct(Punct { char: '+', spacing: Alone",
+        "TtIter {",
+        "TokenTreesView {",
+        "Cursor {",
+        "SubtreeView",
+        "Subtree(",
+    ];
+    Ok(shows(alloc, &shown, &parts))
 }
 
-// Whether groups and builders are shown.
+// Whether groups, builders and macros are shown.
 fn are_groups_shown(alloc: Global) -> Result<bool, AllocError> {
     let subtree = Subtree {
         delimiter: Delimiter {
@@ -89,55 +105,36 @@ fn are_groups_shown(alloc: Global) -> Result<bool, AllocError> {
             ..Delimiter::invisible_spanned(SPAN)
         },
     };
+    let builder = TopSubtreeBuilder::new(alloc, subtree.delimiter)?;
+    let rules = defined(alloc, "attr() ($(a),*) => {}")?;
     let parts = [
         "Subtree { delimiter: Delimiter { opening: Span {",
         "kind: Brace",
+        "TopSubtreeBuilder {",
+        "DeclarativeMacro {",
+        "style: Attr",
     ];
-    let builder = TopSubtreeBuilder::new(alloc, subtree.delimiter)?;
-    Ok(shows(alloc, &subtree, &parts) && shows(alloc, &builder, &["TopSubtreeBuilder {"]))
+    Ok(shows(alloc, &(subtree, builder, rules), &parts))
 }
 
-fn is_binding_error_shown(alloc: Global) -> Result<bool, AllocError> {
-    let kind: ExpandErrorKind = ExpandErrorKind::BindingError(String::from_str(alloc, "c")?);
-    let is_kind_shown = shows(alloc, &kind, &["BindingError(\"c\")"]);
-    let error: ExpandError = ExpandError {
-        inner: Rc::new(alloc, (SPAN, kind))?,
-    };
-    Ok(is_kind_shown && shows(alloc, &error, &["ExpandError { inner: (Span {"]))
-}
-
-// Whether errors and results are shown.
+// Whether errors and results are shown, and copies of them.
 fn are_errors_shown(alloc: Global) -> Result<bool, AllocError> {
     let result: ValueResult<u32, CountError> = ValueResult::new(6, CountError::Misplaced);
     let parse: ParseError = ParseError::Expected(String::from_str(alloc, "b")?);
-    Ok(
-        shows(
-            alloc,
-            &result,
-            &["ValueResult { value: 6, err: Some(Misplaced) }"],
-        ) && shows(alloc, &parse, &["Expected(\"b\")"])
-            && is_binding_error_shown(alloc)?,
-    )
-}
-
-// Whether macros and styles are shown.
-fn are_macros_shown(alloc: Global) -> Result<bool, AllocError> {
-    let rules = defined(alloc, "attr() ($(a),*) => {}")?;
-    Ok(
-        shows(alloc, &MacroCallStyle::Derive, &["Derive"])
-            && shows(alloc, &MacroCallStyles::ATTR, &["MacroCallStyles(2)"])
-            && shows(alloc, &rules, &["DeclarativeMacro {", "style: Attr"]),
-    )
-}
-
-fn are_built(alloc: Global, handle: &Handle, bindings: &Bindings<'_>) -> bool {
-    let parts = ["\"x\"", "Fragment(Tokens {", "origin: Raw"];
-    shows(alloc, handle, &["Handle {"]) && shows(alloc, bindings, &parts)
-}
-
-fn is_missing_shown(alloc: Global) -> bool {
-    let missing: Binding = Binding::Missing(MetaVarKind::Expr(ExprKind::Expr2021));
-    shows(alloc, &missing, &["Missing(Expr(Expr2021))"])
+    let kind: ExpandErrorKind = ExpandErrorKind::BindingError(String::from_str(alloc, "c")?);
+    let parts = [
+        "ValueResult { value: 6, err: Some(Misplaced) }",
+        "Expected(\"b\")",
+        "BindingError(\"c\")",
+        "ExpandError { inner: (Span {",
+    ];
+    let copies = (
+        result.try_clone()?,
+        parse.try_clone(alloc)?,
+        kind.try_clone(alloc)?,
+    );
+    let error: ExpandError = ExpandError::new(alloc, SPAN, kind)?;
+    Ok(shows(alloc, &(copies, error), &parts))
 }
 
 // Whether a handle that has bound the name to the tree is shown, and what is built of it.
@@ -154,23 +151,31 @@ fn is_bound_shown(
     let mut handle = log.alloc()?;
     log.push_fragment(&mut handle, name, fragment)?;
     let bindings = log.build(&handle)?;
-    Ok(are_built(alloc, &handle, &bindings))
+    let missing: Binding = Binding::Missing(MetaVarKind::Expr(ExprKind::Expr2021));
+    let parts = [
+        "Handle {",
+        "\"x\"",
+        "Fragment(Tokens {",
+        "origin: Raw",
+        "Missing(Expr(Expr2021))",
+    ];
+    Ok(shows(alloc, &(handle, bindings, missing), &parts))
 }
 
 // Whether bindings are shown.
 fn are_bindings_shown(alloc: Global) -> Result<bool, AllocError> {
     let name = Symbol::intern(alloc, "x")?;
     let tree = lexed(alloc, 0, "d")?;
-    Ok(is_missing_shown(alloc) && is_bound_shown(alloc, &name, tree.view())?)
+    is_bound_shown(alloc, &name, tree.view())
 }
 
 /// Whether all of that is shown.
 pub fn are_shown(alloc: Global) -> Result<bool, AllocError> {
-    let are_parts = are_spans_shown(alloc) && are_trees_shown(alloc)? && are_groups_shown(alloc)?;
     Ok(
-        are_parts
+        are_spans_shown(alloc)
+            && are_trees_shown(alloc)?
+            && are_groups_shown(alloc)?
             && are_errors_shown(alloc)?
-            && are_macros_shown(alloc)?
             && are_bindings_shown(alloc)?,
     )
 }

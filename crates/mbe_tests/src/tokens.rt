@@ -1,24 +1,11 @@
 // The tokens that the trees of the tests are made of, as tables hold them.
 use mbe_tt::span::{Span, SyntaxContext};
-use mbe_tt::tt::DelimiterKind;
+use mbe_tt::symbol::Symbol;
+use mbe_tt::tt::{DelimiterKind, Ident, IdentIsRaw, Leaf, LitKind, Literal, Punct, Spacing};
+use std::alloc::{AllocError, Global};
 
-/// What a token is. Literals have no suffix, but for `Suffixed`, an integer with a suffix of so many bytes.
-#[derive(Clone, Copy)]
-pub enum Lexeme<'a> {
-    Word(&'a str),
-    Raw(&'a str),
-    Number(&'a str),
-    Suffixed(&'a str, u8),
-    Float(&'a str),
-    Text(&'a str),
-    Alone(char),
-    Joint(char),
-    Open(DelimiterKind),
-    Close,
-}
-
-// The kind of a group by its opening; a group without one is invisible.
-fn kind(opening: &str) -> DelimiterKind {
+/// The kind of a group by its opening; a group without one is invisible.
+pub fn kind(opening: &str) -> DelimiterKind {
     match opening.chars().next() {
         Some('(') => DelimiterKind::Parenthesis,
         Some('[') => DelimiterKind::Bracket,
@@ -31,24 +18,6 @@ fn kind(opening: &str) -> DelimiterKind {
 fn suffix_len(sort: &str) -> u8 {
     let len = sort.strip_prefix("suffixed").unwrap_or("");
     len.parse::<u8>().unwrap_or(0)
-}
-
-// What a token of a row is, by the first letter of its sort: `word`, `raw`, `number`, `suffixed2` with a suffix of two bytes, `float`,
-// `text`, `alone`, `joint`, `open`, `close`.
-fn read_lexeme<'t>(sort: &str, text: &'t str) -> Lexeme<'t> {
-    let char = text.chars().next().unwrap_or(' ');
-    match sort.chars().next() {
-        Some('w') => Lexeme::Word(text),
-        Some('r') => Lexeme::Raw(text),
-        Some('n') => Lexeme::Number(text),
-        Some('s') => Lexeme::Suffixed(text, suffix_len(sort)),
-        Some('f') => Lexeme::Float(text),
-        Some('t') => Lexeme::Text(text),
-        Some('a') => Lexeme::Alone(char),
-        Some('j') => Lexeme::Joint(char),
-        Some('o') => Lexeme::Open(kind(text)),
-        _ => Lexeme::Close,
-    }
 }
 
 /// A number of a row.
@@ -67,8 +36,8 @@ pub fn at(file: u32, start: u32, end: u32) -> Span {
     }
 }
 
-/// A token of a row: its sort, its text, its file, after a `:` the number of its context, its start and its end.
-pub fn token(row: &str) -> Option<(Lexeme<'_>, Span)> {
+/// A token of a row: its sort and its text, its file, after a `:` the number of its context, its start and its end.
+pub fn token(row: &str) -> Option<(&str, &str, Span)> {
     let (row, end) = row.rsplit_once(' ')?;
     let (row, start) = row.rsplit_once(' ')?;
     let (row, file) = row.rsplit_once(' ')?;
@@ -78,5 +47,38 @@ pub fn token(row: &str) -> Option<(Lexeme<'_>, Span)> {
         ctx: SyntaxContext(byte(number)),
         ..at(byte(file), byte(start), byte(end))
     };
-    Some((read_lexeme(sort, text), span))
+    Some((sort, text, span))
+}
+
+fn punct(text: &str, spacing: Spacing, span: Span) -> Leaf {
+    Leaf::Punct(Punct {
+        char: text.chars().next().unwrap_or(' '),
+        spacing,
+        span,
+    })
+}
+
+/// The leaf of a token by the first letter of its sort: `word`, `raw`, `alone`, `joint`, `number`, or `suffixed2` with a suffix of two bytes.
+pub fn leaf(alloc: Global, sort: &str, text: &str, span: Span) -> Result<Leaf, AllocError> {
+    let sym = Symbol::intern(alloc, text)?;
+    Ok(match sort.chars().next() {
+        Some('w') => Leaf::Ident(Ident {
+            sym,
+            is_raw: IdentIsRaw::No,
+            span,
+        }),
+        Some('r') => Leaf::Ident(Ident {
+            sym,
+            is_raw: IdentIsRaw::Yes,
+            span,
+        }),
+        Some('a') => punct(text, Spacing::Alone, span),
+        Some('j') => punct(text, Spacing::Joint, span),
+        _ => Leaf::Literal(Literal {
+            text_and_suffix: sym,
+            suffix_len: suffix_len(sort),
+            kind: LitKind::Integer,
+            span,
+        }),
+    })
 }

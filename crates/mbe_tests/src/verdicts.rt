@@ -1,20 +1,19 @@
 // How each rule of a definition reads an argument.
-use crate::grammar::{NOTHING, NoMemory};
-use crate::runs::{defined, parsed};
-use crate::trees::{lexed, read};
+use crate::grammar::{Counting, grammar_of};
+use crate::runs::parsed;
+use crate::trees::read;
 use mbe::{DeclarativeMacro, ParseError, Verdict};
-use mbe_tt::grammar::FragmentGrammar;
 use mbe_tt::tt::TopSubtree;
-use std::alloc::{AllocError, Allocator, Global};
-use test_rows::{Fields, Rows, rows};
+use std::alloc::{AllocError, Global};
+use test_rows::{Fields, rows};
 
-/// The verdict of each rule on the argument, in order.
-pub fn explained<A: Allocator + Copy, G: FragmentGrammar>(
-    alloc: A,
-    grammar: &G,
-    rules: &DeclarativeMacro<A>,
-    argument: &TopSubtree<A>,
-) -> Result<Vec<Verdict, A>, AllocError> {
+// The verdict of each rule on the argument, in order.
+fn explained(
+    alloc: Global,
+    grammar: &Counting,
+    rules: &DeclarativeMacro,
+    argument: &TopSubtree,
+) -> Result<Vec<Verdict>, AllocError> {
     if matches!(rules.err(), Some(ParseError::RepetitionEmptyTokenTree)) {
         return Err(AllocError);
     }
@@ -25,10 +24,10 @@ pub fn explained<A: Allocator + Copy, G: FragmentGrammar>(
     Ok(verdicts)
 }
 
-// A definition, an argument, and the verdict of each rule. The grammar faults on everything.
-pub const VERDICTS: &str = rows![
+// How many flat tokens the grammar takes, and its end, a definition, an argument, and the verdict of each rule.
+pub const ROWS: &str = rows![
     // Over the quote, or over the whole separator, of `($(b $(')?)'a*) => {}`.
-    ("tokens 21
+    ("0 fault", "tokens 21
 open ( 0 0 1
 alone $ 0 1 2
 open ( 0 2 3
@@ -47,39 +46,27 @@ joint = 0 16 17
 alone > 0 17 18
 open { 0 19 20
 close } 0 20 21", "b 'a b", "[Ambiguous(1)]"),
-    ("($e:expr) => {}", "a", "[Stuck(0)]"),
-    ("(a) => {} b", "a", "[OneReading]"),
+    ("0 fault", "($e:expr) => {}", "a", "[Stuck(0)]"),
+    ("0 out", "($e:expr) => {}", "a", "out of memory"),
+    ("0 fault", "(a) => {} b", "a", "[OneReading]"),
     // The opening and the closing of an invisible group count too.
-    ("(a) => {}; ($x:tt b) => {}; ($x:tt $y:tt) => {}", "tokens 4
+    ("0 fault", "(a) => {}; ($x:tt b) => {}; ($x:tt $y:tt) => {}", "tokens 4
 open none 1 0 1
 word a 1 1 2
 close ) 1 2 3
 word c 1 3 4", "[Stuck(0), Stuck(3), OneReading]"),
 ];
 
-#[derive(Clone, Copy)]
-pub struct Verdicts;
-
-impl Rows for Verdicts {
-    fn is_so(
-        &self,
-        alloc: Global,
-        [definition, argument, want, ..]: Fields,
-    ) -> Result<bool, AllocError> {
-        let rules = parsed(alloc, &read(alloc, 0, definition)?)?;
-        let argument = read(alloc, 1, argument)?;
-        let verdicts = explained(alloc, &NOTHING, &rules, &argument)?;
-        let shown = format!(in alloc; "{:?}", verdicts.as_slice())?;
-        Ok(shown.as_str() == want)
-    }
-}
-
-/// Whether a grammar without memory gives no verdict, and another does.
-pub fn needs_memory(alloc: Global) -> Result<bool, AllocError> {
-    let rules = defined(alloc, "($e:expr) => {}")?;
-    let argument = lexed(alloc, 1, "a")?;
-    Ok(
-        explained(alloc, &NOTHING, &rules, &argument).is_ok()
-            && explained(alloc, &NoMemory, &rules, &argument).is_err(),
-    )
+/// Whether a row is so.
+pub fn is_so(
+    alloc: Global,
+    [grammar, definition, argument, want, ..]: Fields,
+) -> Result<bool, AllocError> {
+    let rules = parsed(alloc, &read(alloc, 0, definition)?)?;
+    let argument = read(alloc, 1, argument)?;
+    let Ok(verdicts) = explained(alloc, &grammar_of(grammar), &rules, &argument) else {
+        return Ok(want == "out of memory");
+    };
+    let shown = format!(in alloc; "{:?}", verdicts.as_slice())?;
+    Ok(shown.as_str() == want)
 }

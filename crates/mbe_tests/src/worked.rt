@@ -102,10 +102,6 @@ SUBTREE $$ 1@0..6 1@0..6
   IDENT   a 1@0..1
 "
     ),
-];
-
-// More of them.
-pub const MORE: &str = rows![
     (
         "\n($($e:expr_2021),* $(,)?) => {\n    $($e);* ;\n};\n",
         "\n    4,\n    \"literal\",\n    funcall(),\n    future.await,\n    break 'foo bar,\n",
