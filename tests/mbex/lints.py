@@ -90,7 +90,7 @@ def are_left(program):
         pattern, argument, trees, left = row
         if left < trees:
             program.check("LEFT", row, closest(program, pattern, argument, trees - left - 1), ("arm 0", 1, ""))
-        if left > 1:
+        if left > 0:
             program.check("LEFT", row, closest(program, pattern, argument, trees - left + 1), ("arm 1", 1, ""))
 
 
