@@ -78,20 +78,26 @@ FAILURES = (
 )
 
 
-def closest(program, pattern, argument, count):
-    """The arm of two rules: the pattern's, and one that takes so many trees of the argument, and no more."""
-    run = ran(program, f"({pattern}) => {{}}; ({'$t:tt ' * count}$u:unknown) => {{}}", argument)
-    return run.out.split("\n")[1], run.status, run.err
+def taking(count):
+    """A pattern that takes so many trees, and then stops."""
+    return "$t:tt " * count + "$u:unknown"
+
+
+def is_second_closer(program, first, second, argument):
+    run = ran(program, f"({first}) => {{}}; ({second}) => {{}}", argument)
+    return run.out.split("\n")[1:2] == ["arm 1"] and (run.status, run.err) == (1, "")
 
 
 def are_left(program):
-    """A rule that leaves one tree more isn't the closest one, and one that leaves one less is."""
+    """The rule is closer than one before it that leaves one tree more, and not than one after it that leaves one less."""
     for row in LEFT:
         pattern, argument, trees, left = row
         if left < trees:
-            program.check("LEFT", row, closest(program, pattern, argument, trees - left - 1), ("arm 0", 1, ""))
+            less = taking(trees - left - 1)
+            program.check("LEFT", row, is_second_closer(program, less, pattern, argument), True)
         if left > 0:
-            program.check("LEFT", row, closest(program, pattern, argument, trees - left + 1), ("arm 1", 1, ""))
+            more = taking(trees - left + 1)
+            program.check("LEFT", row, is_second_closer(program, pattern, more, argument), True)
 
 
 def test(program):

@@ -1,6 +1,5 @@
 // Users of the binding log, who see its contracts alone, and its tests.
 mod calls;
-mod model;
 pub mod rows;
 pub mod scripts;
 mod uses;

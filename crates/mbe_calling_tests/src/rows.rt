@@ -4,7 +4,7 @@ use crate::expansions::tests::{self, expands_nothing, is_expanded, is_marked};
 use crate::explaining::tests::are_explained;
 use crate::grammars::tests::are_handed_in;
 use crate::logs::rows::{Calls, ROWS, is_copied_short, is_last_of_many};
-use crate::logs::scripts::all_agree;
+use crate::logs::scripts::{SCRIPTS, is_digest};
 use crate::logs::values::{are_bindings, are_fragments, is_list};
 use crate::memory::count_requests;
 use crate::parting::{DEAD_ENDS, PARTING, Partings};
@@ -178,7 +178,7 @@ impl Rows for Below {
             Below::Bindings => are_bindings(alloc),
             Below::Fragments => are_fragments(alloc),
             Below::List => is_list(alloc),
-            Below::Scripts => all_agree(alloc, 500),
+            Below::Scripts => is_digest(alloc, fields),
             Below::Million => is_last_of_many(alloc, 500_000),
             Below::Parting => Partings.is_so(alloc, fields),
             Below::PartingRefused => {
@@ -212,11 +212,7 @@ static BELOW: [(Below, &str, usize); 12] = [
         1,
     ),
     (Below::List, rows![("a list prints what it has")], 1),
-    (
-        Below::Scripts,
-        rows![("random scripts agree with plain lists")],
-        1,
-    ),
+    (Below::Scripts, SCRIPTS, 20),
     (Below::Million, rows![("a log has a million lists")], 1),
     (Below::Parting, PARTING, 22),
     (Below::Parting, DEAD_ENDS, 3),
