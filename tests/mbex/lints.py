@@ -89,7 +89,7 @@ def is_second_closer(program, first, second, argument):
 
 
 def are_left(program):
-    """The rule is closer than one before it that leaves one tree more, and not than one after it that leaves one less."""
+    """The rule is closer than one before it that leaves a tree more, and not than one after it that leaves one less."""
     for row in LEFT:
         pattern, argument, trees, left = row
         if left < trees:
