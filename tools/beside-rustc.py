@@ -5,7 +5,7 @@
 
 Each row is compiled (edition 2021) and, where rustc takes it, run. It prints a line for each row where rustc doesn't say what
 the row has, and then how many rows there are; the status is 1 if one differs. What `mbe` says of the same calls is in
-crates/mbe_calling_tests/src/rustc.rt.
+tests/mbex/documented.py.
 """
 import os
 import subprocess

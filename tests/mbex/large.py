@@ -34,6 +34,21 @@ GROUPS = (
     ),
 )
 
+# Patterns as above, and how each reads an argument.
+VERDICTS = (
+    ("($($($();*);+);*) => {}", "«15 ;»", "several readings"),
+    ("($($($();*);+);*) => {}", "«30 ;»", "several readings"),
+    ("($($($();*);+);*) => {}", "«60 ;»", "several readings"),
+    (
+        "($($a:ident)* $($b:ident)* $($c:ident)* $($d:ident)* $($e:ident)* $($f:ident)* $($g:ident)* "
+        "$($h:ident)*) => {}",
+        "«1000 a »", "ambiguous at 0",
+    ),
+    ("($(a)* $(a)* $(a)* $(a)* $(a)* $(a)* $(a)* $(a)*) => {}", "«1000 a »", "several readings"),
+    ("(«100 (»a«100 )») => {}", "«100 (»a«100 )»", "one reading"),
+    ("($t:tt) => {}", "«10000 (»a«10000 )»", "one reading"),
+)
+
 # The names of a variable and of the argument, of 100,000 letters each; a name of 200,000 parts; and a rule after a
 # thousand that don't fit.
 LONG = (
@@ -66,7 +81,15 @@ def words_are_written(program, table, rows):
         prints(program, table, row, ran(program, spelled(definition), argument), printed(argument, "", 0, trees))
 
 
+def have_verdicts(program):
+    for row in VERDICTS:
+        definition, argument, verdict = row
+        run = ran(program, spelled(definition), spelled(argument), lint=True)
+        prints(program, "VERDICTS", row, run, (0, f"rule 0: {verdict}\n"))
+
+
 def test(program):
+    have_verdicts(program)
     worked(program, "SEMICOLONS", SEMICOLONS)
     worked(program, "ERRORS", ERRORS)
     worked(program, "GROUPS", GROUPS)

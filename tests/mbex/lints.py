@@ -45,6 +45,28 @@ LINTS = (
     ("attr() ([a]) => {}; derive() ([a b]) => {}", "[a c]", "rule 0: stuck at 2\nrule 1: stuck at 2\n"),
     # So does the closing.
     ("([$x:ident] b) => {}", "[x] c", "rule 0: stuck at 3\n"),
+    # Rounds, and what is between them.
+    ("($( b $(x)? )x*) => {}", "b x b", "rule 0: one reading\n"),
+    ("($(a)+*) => {}", "a *", "rule 0: one reading\n"),
+    ("($(a),?) => {}", "a", "rule 0: one reading\n"),
+    ("($(a),?) => {}", "a,", "rule 0: stuck at 1\n"),
+    ("($(a);;*) => {}", "a", "rule 0: one reading\n"),
+    ("($(a);;*) => {}", "a;;a", "rule 0: stuck at 1\n"),
+    ("($(a)+) => {}", "", "rule 0: stuck at 0\n"),
+    ("($(a),*) => {}", "a,", "rule 0: stuck at 2\n"),
+    ("($(),*) => {}", "", "rule 0: several readings\n"),
+    ("($(),*) => {}", ",", "rule 0: one reading\n"),
+    ("(($(a)*) b) => {}", "(a a) c", "rule 0: stuck at 4\n"),
+)
+
+# A pattern, an argument, how many trees that has, and how many of the current group are left where the match stops.
+LEFT = (
+    ("$(a),?", "a,", 2, 1),
+    ("$(a);;*", "a;;a", 4, 3),
+    ("$(a),*", "a,", 2, 0),
+    ("($(a)*) b", "(a a) c", 2, 1),
+    ("$($t:ident),* as $ty:ident", "as u32", 2, 2),
+    ("$($a:ident)* $b:ident", "x", 1, 1),
 )
 
 # Texts that come to no verdicts, and the status.
@@ -56,7 +78,30 @@ FAILURES = (
 )
 
 
+def taking(count):
+    """A pattern that takes so many trees, and then stops."""
+    return "$t:tt " * count + "$u:unknown"
+
+
+def is_second_closer(program, first, second, argument):
+    run = ran(program, f"({first}) => {{}}; ({second}) => {{}}", argument)
+    return run.out.split("\n")[1:2] == ["arm 1"] and (run.status, run.err) == (1, "")
+
+
+def are_left(program):
+    """The rule is closer than one before it that leaves a tree more, and not than one after it that leaves one less."""
+    for row in LEFT:
+        pattern, argument, trees, left = row
+        if left < trees:
+            less = taking(trees - left - 1)
+            program.check("LEFT", row, is_second_closer(program, less, pattern, argument), True)
+        if left > 0:
+            more = taking(trees - left + 1)
+            program.check("LEFT", row, is_second_closer(program, pattern, more, argument), True)
+
+
 def test(program):
+    are_left(program)
     for row in LINTS:
         definition, argument, lines = row
         prints(program, "LINTS", row, ran(program, definition, argument, lint=True), (0, lines))

@@ -83,6 +83,15 @@ REPORTED = (
     ),
 )
 
+# Three positions or more meet before each of the repetitions, and the match fails. At the pattern's end what the first
+# of them bound is written, and where `a` fails what the last did: `Y` for each of its rounds, and the `$x` of a round.
+MEETING = (
+    ("($(a)* $(a $(: $x:ident)?)* c) => {$(Y $($x)?)*}", "a a a a c d", "YYYY"),
+    ("($(a)* $(a $(: $x:ident)?)* c) => {$(Y $($x)?)*}", "a a a", "YY"),
+    ("($(a $(: $x:ident)?)* $(a)* c) => {$(Y $($x)?)*}", "a a : p a a a c d", "YYpY"),
+    ("($(a $(: $x:ident)?)* $(a)* c) => {$(Y $($x)?)*}", "a a a", "Y"),
+)
+
 # A missing binding in a metavariable expression.
 MISSING = (
     ("($x:ident) => {$(${concat(a, $x)})* b}", "1", "expected ident at 1@0..1", 0, "  IDENT   b 0@36..37\n"),
@@ -96,6 +105,7 @@ MISSING = (
         "  IDENT   a 0@14..20\n"
         "  IDENT   b 0@29..30\n",
     ),
+    ("($x:ident) => {$(${ignore($x)})* b}", "1", "expected ident at 1@0..1", 0, "  IDENT   b 0@33..34\n"),
 )
 
 # A specifier, what its variable asks for, and what is written for a fragment that is missing, at each place of the
@@ -143,7 +153,16 @@ def entries(program):
             prints(program, "DEFAULTS, =", row, run, printed("=", f"expected {asked} at 1@0..1", 0, trees))
 
 
+def are_meeting(program):
+    for row in MEETING:
+        run = ran(program, *row[:2])
+        error, *lines = run.out.splitlines()
+        names = "".join(line.split()[1] for line in lines[2:])
+        program.check("MEETING", row, (run.status, error[:7], lines[:1], names), (1, "error: ", ["arm 0"], row[2]))
+
+
 def test(program):
+    are_meeting(program)
     worked(program, "RECOVERED", RECOVERED)
     worked(program, "RECOVERED_BEFORE_2024", RECOVERED_BEFORE_2024, 2021)
     worked(program, "CLOSEST", CLOSEST)

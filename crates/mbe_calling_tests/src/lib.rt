@@ -1,4 +1,5 @@
-// The examples of docs/CALLING.md and docs/MACROS.md, word for word, and tests that run them.
+// The examples of docs/CALLING.md, word for word, and tests that run them; tests of what is below the expander and no program shows:
+// the binding log, where two readings part, templates under bindings that are made by hand.
 #![tactic(auto)]
 
 #[cfg(test)]
@@ -6,25 +7,27 @@ mod bindings;
 #[cfg(test)]
 mod definitions;
 #[cfg(test)]
-mod errors;
-#[cfg(test)]
 mod expansions;
 #[cfg(test)]
 mod explaining;
 #[cfg(test)]
 mod grammars;
 #[cfg(test)]
+mod logs;
+#[cfg(test)]
 mod memory;
+#[cfg(test)]
+mod parting;
 #[cfg(test)]
 mod results;
 #[cfg(test)]
 mod rows;
 #[cfg(test)]
-mod rustc;
-#[cfg(test)]
 mod small;
 #[cfg(test)]
 mod tables;
+#[cfg(test)]
+mod templates;
 #[cfg(test)]
 mod texts;
 #[cfg(test)]

@@ -1,29 +1,23 @@
 // What is tested of the rows of each table, and all tables. What the fields are is said at the tables.
 use crate::definitions::tests::{DESCRIBED, is_described, is_read};
-use crate::errors::ERRORS;
 use crate::expansions::tests::{self, expands_nothing, is_expanded, is_marked};
 use crate::explaining::tests::are_explained;
 use crate::grammars::tests::are_handed_in;
+use crate::logs::rows::{Calls, ROWS, is_copied_short, is_last_of_many};
+use crate::logs::scripts::{SCRIPTS, is_digest};
+use crate::logs::values::{are_bindings, are_fragments, is_list};
 use crate::memory::count_requests;
+use crate::parting::{DEAD_ENDS, PARTING, Partings};
 use crate::results::tests::{are_made, is_call_changed, is_type_found};
-use crate::rustc::BESIDE_RUSTC;
 use crate::small::tests::{are_read, is_bound_in_one};
 use crate::tables::sum_of;
 use crate::tables::tests::SUMS;
+use crate::templates::{WRITTEN, is_written};
 use crate::theorem::tests::{CALLS, becomes};
 use crate::viewing::tests::is_group_expanded;
 use crate::{bindings, texts, walks, writing};
 use std::alloc::{AllocError, Global};
-use test_rows::{Fields, Rows, Wrong, all, rows};
-
-#[derive(Clone, Copy)]
-enum Kind {
-    Expanded,
-    Error,
-    Described,
-    Applied,
-    Sum,
-}
+use test_rows::{AnyRows, Fields, Rows, Wrong, all, each_refused, rows};
 
 fn is_sum(alloc: Global, text: &str, count: &str) -> Option<bool> {
     if text.len() > 1_000_000 {
@@ -32,40 +26,13 @@ fn is_sum(alloc: Global, text: &str, count: &str) -> Option<bool> {
     Some(sum_of(alloc, text).ok()? == count.parse::<usize>().ok())
 }
 
-impl Rows for Kind {
-    fn is_so(
-        &self,
-        alloc: Global,
-        [one, two, three, four, five, _]: Fields,
-    ) -> Result<bool, AllocError> {
-        let is_so = match self {
-            Kind::Expanded => is_expanded(alloc, (one, two), three, (four, five)),
-            Kind::Error => is_expanded(alloc, (one, two), "0", (three, "")),
-            Kind::Described => is_described(alloc, one, (two, three), four),
-            Kind::Applied => becomes(alloc, one, two),
-            Kind::Sum => is_sum(alloc, one, two),
-        };
-        Ok(is_so.unwrap_or(false))
-    }
-}
-
-static TABLES: [(Kind, &str, usize); 6] = [
-    (Kind::Expanded, tests::CALLS, 3),
-    (Kind::Expanded, BESIDE_RUSTC, 9),
-    (Kind::Error, ERRORS, 11),
-    (Kind::Described, DESCRIBED, 5),
-    (Kind::Applied, CALLS, 4),
-    (Kind::Sum, SUMS, 4),
-];
-
-#[test]
-fn calls_do_what_their_rows_say(rt: HostRuntime) -> Result<(), Wrong> {
-    all(rt.alloc(), &TABLES)
-}
-
-// What is tested once, of calls.
+// What is tested of rows, and once.
 #[derive(Clone, Copy)]
 enum Call {
+    Expanded,
+    Described,
+    Applied,
+    Sum,
     Read,
     Refused,
     Marked,
@@ -79,8 +46,16 @@ enum Call {
 }
 
 impl Rows for Call {
-    fn is_so(&self, alloc: Global, _fields: Fields) -> Result<bool, AllocError> {
+    fn is_so(
+        &self,
+        alloc: Global,
+        [one, two, three, four, five, _]: Fields,
+    ) -> Result<bool, AllocError> {
         let is_so = match self {
+            Call::Expanded => is_expanded(alloc, (one, two), three, (four, five)),
+            Call::Described => is_described(alloc, one, (two, three), four),
+            Call::Applied => becomes(alloc, one, two),
+            Call::Sum => is_sum(alloc, one, two),
             Call::Read => is_read(alloc),
             Call::Refused => expands_nothing(alloc),
             Call::Marked => is_marked(alloc),
@@ -97,7 +72,11 @@ impl Rows for Call {
     }
 }
 
-static ONCE: [(Call, &str, usize); 10] = [
+static CALLED: [(Call, &str, usize); 14] = [
+    (Call::Expanded, tests::CALLS, 3),
+    (Call::Described, DESCRIBED, 5),
+    (Call::Applied, CALLS, 4),
+    (Call::Sum, SUMS, 4),
     (Call::Read, rows![("a macro is copied")], 1),
     (Call::Refused, rows![("refused patterns expand nothing")], 1),
     (Call::Marked, rows![("the template is marked")], 1),
@@ -109,11 +88,6 @@ static ONCE: [(Call, &str, usize); 10] = [
     (Call::Type, rows![("a type is found")], 1),
     (Call::Group, rows![("a group is an argument")], 1),
 ];
-
-#[test]
-fn calls_do_what_is_said(rt: HostRuntime) -> Result<(), Wrong> {
-    all(rt.alloc(), &ONCE)
-}
 
 // The same of trees and values.
 #[derive(Clone, Copy)]
@@ -178,7 +152,81 @@ static TREES: [(Tree, &str, usize); 13] = [
     (Tree::Group, rows![("groups are built")], 1),
 ];
 
+// What is below the expander.
+#[derive(Clone, Copy)]
+enum Below {
+    Log,
+    LogRefused,
+    Copied,
+    Bindings,
+    Fragments,
+    List,
+    Scripts,
+    Million,
+    Parting,
+    PartingRefused,
+    Written,
+}
+
+impl Rows for Below {
+    fn is_so(&self, alloc: Global, fields: Fields) -> Result<bool, AllocError> {
+        match self {
+            Below::Log => Calls.is_so(alloc, fields),
+            // The tree, the three names, their list, both lists of lists and that of handles are a request at least.
+            Below::LogRefused => Ok(each_refused(alloc, &Calls, (ROWS, 17), (8, false)).is_ok()),
+            Below::Copied => is_copied_short(alloc),
+            Below::Bindings => are_bindings(alloc),
+            Below::Fragments => are_fragments(alloc),
+            Below::List => is_list(alloc),
+            Below::Scripts => is_digest(alloc, fields),
+            Below::Million => is_last_of_many(alloc, 500_000),
+            Below::Parting => Partings.is_so(alloc, fields),
+            Below::PartingRefused => {
+                Ok(each_refused(alloc, &Partings, (DEAD_ENDS, 3), (0, true)).is_ok())
+            }
+            Below::Written => is_written(alloc, fields),
+        }
+    }
+}
+
+static BELOW: [(Below, &str, usize); 12] = [
+    (Below::Log, ROWS, 17),
+    (
+        Below::LogRefused,
+        rows![("each request of a log is refused")],
+        1,
+    ),
+    (
+        Below::Copied,
+        rows![("a copy of many commands is short")],
+        1,
+    ),
+    (
+        Below::Bindings,
+        rows![("bindings are equal in any order")],
+        1,
+    ),
+    (
+        Below::Fragments,
+        rows![("fragments are equal where trees and writing are")],
+        1,
+    ),
+    (Below::List, rows![("a list prints what it has")], 1),
+    (Below::Scripts, SCRIPTS, 20),
+    (Below::Million, rows![("a log has a million lists")], 1),
+    (Below::Parting, PARTING, 22),
+    (Below::Parting, DEAD_ENDS, 3),
+    (
+        Below::PartingRefused,
+        rows![("each request of a parting is refused")],
+        1,
+    ),
+    (Below::Written, WRITTEN, 8),
+];
+
 #[test]
-fn trees_and_values_are_what_is_said(rt: HostRuntime) -> Result<(), Wrong> {
-    all(rt.alloc(), &TREES)
+fn all_is_as_its_rows_say(rt: HostRuntime) -> Result<(), Wrong> {
+    all(rt.alloc(), &CALLED)?;
+    all(rt.alloc(), &TREES)?;
+    all(rt.alloc(), &BELOW)
 }

@@ -4,14 +4,11 @@ ghost use Rattle.mbe_semantics.specs.Bindings.Account.{environment_of_account, n
 ghost use Rattle.mbe_semantics.specs.Bindings.Account.{Command as Written};
 ghost use Rattle.mbe_log.specs.Accounts.{Held, HasAccounts};
 ghost use Rattle.mbe_log.specs.BindingViews.{bound_by as bound_in};
-ghost use Rattle.mbe_log.specs.Printed.{log_text};
 
 use mbe_log::bindings::Bindings;
-use mbe_log::fragment::Fragment;
 use mbe_log::log::BindingLog;
 use mbe_tt::symbol::Symbol;
-use mbe_tt::tt::{TokenTreesView, TopSubtree};
-use std::alloc::{AllocError, Allocator, Global};
+use std::alloc::{AllocError, Allocator};
 
 /// What the third position binds: neither what the first position binds nor what is pushed later. Other handles' accounts stay.
 pub fn split<'a, A: Allocator + Copy>(
@@ -52,31 +49,4 @@ pub fn numbers<A: Allocator + Copy>(
     log.push_default(&mut handle)?;
     let after = log.entries_of(&handle);
     Ok((before, after))
-}
-
-/// One who owns the log: what a single position binds.
-pub fn own<'a, A: Allocator + Copy>(
-    alloc: A,
-    name: &Symbol<A>,
-    input: &'a TopSubtree<A>,
-) -> Result<Bindings<'a, A>, AllocError> {
-    bind_one(&mut BindingLog::new(alloc), name, input.view())
-}
-
-/// What a single position binds.
-pub fn bind_one<'a, A: Allocator + Copy>(
-    log: &mut BindingLog<'a, A>,
-    name: &Symbol<A>,
-    tree: TokenTreesView<'a, A>,
-) -> Result<Bindings<'a, A>, AllocError> {
-    let mut handle = log.alloc()?;
-    log.push_fragment(&mut handle, name, Fragment::Expr(tree))?;
-    log.build(&handle)
-}
-
-/// What a log prints.
-pub fn text_of(alloc: Global, log: &BindingLog<'_>) -> Result<String, AllocError>
-    ensures { IfOk result (λ text. text.bytes.items ≡ log_text log.now) }
-{
-    format!(in alloc; "{log:?}")
 }

@@ -3,8 +3,8 @@ use mbe_log::log::{BindingLog, Handle};
 use mbe_tt::span::{DelimSpan, Span};
 use mbe_tt::symbol::Symbol;
 use mbe_tt::tt::TopSubtree;
-use std::alloc::{AllocError, Global};
-use test_rows::{Fields, number, rows};
+use std::alloc::{AllocError, Allocator, Global};
+use test_rows::{AnyRows, Fields, number, rows};
 
 // Calls, a handle, its two numbers of entries after them, and what it binds three names to.
 pub const ROWS: &str = rows![
@@ -33,13 +33,22 @@ pub const ROWS: &str = rows![
     ("alloc, tree 0 0, copy 0, tree 1 1", 0, 1, 0, "e.."),
     // Rounds within rounds.
     ("alloc, alloc, alloc, tree 0 0, default 0, optional 0 0, nested 1 0, default 1, skipped 1 0, nested 2 1", 2, 1, 0, "[[eo]-].."),
+    // Each call, on lists that end with the handle's entries and on lists that go on after them.
+    (
+        "alloc, tree 0 0, optional 0 1, copy 0, skipped 0 2, missing 1 2, default 1, tree 1 1, \
+        alloc, nested 2 1, copy 1, default 1, default 3, tree 3 0, nested 2 3, nested 0 2",
+        2,
+        2,
+        0,
+        "[eee][oeoe][??]",
+    ),
 ];
 
 // Whether the handle has such numbers of entries and binds that.
-fn is_bound(
-    alloc: Global,
-    book: &Book<'_>,
-    names: &[Symbol],
+fn is_bound<A: Allocator + Copy>(
+    alloc: A,
+    book: &Book<'_, A>,
+    names: &[Symbol<A>],
     handle: usize,
     (entries, binds): ((usize, usize), &str),
 ) -> Result<bool, AllocError> {
@@ -52,17 +61,23 @@ fn is_bound(
     Ok(built(alloc, &book.log, handle, names)?.as_str() == binds)
 }
 
-/// The same after all calls of a row.
-pub fn is_row(
-    alloc: Global,
-    [calls, handle, current, finished, binds, ..]: Fields,
-) -> Result<bool, AllocError> {
-    let tree = TopSubtree::empty(alloc, DelimSpan::from_single(Span::default()))?;
-    let names = names(alloc, 3)?;
-    let mut book = new_book(alloc);
-    let want = ((number(current), number(finished)), binds);
-    let made = make(&mut book, &names, tree.view(), calls, usize::MAX);
-    Ok(made == calls.split(',').count() && is_bound(alloc, &book, &names, number(handle), want)?)
+// The same after all calls of a row.
+#[derive(Clone, Copy)]
+pub struct Calls;
+
+impl AnyRows for Calls {
+    fn is_so<A: Allocator + Copy>(
+        &self,
+        alloc: A,
+        [calls, handle, current, finished, binds, _]: Fields,
+    ) -> Result<bool, AllocError> {
+        let tree = TopSubtree::empty(alloc, DelimSpan::from_single(Span::default()))?;
+        let names = names(alloc, 3)?;
+        let mut book = new_book(alloc);
+        let want = ((number(current), number(finished)), binds);
+        let are_made = make(&mut book, &names, tree.view(), calls)?;
+        Ok(are_made && is_bound(alloc, &book, &names, number(handle), want)?)
+    }
 }
 
 // Pushes a command for each name, where the handle is live before each.
@@ -116,4 +131,16 @@ pub fn is_copied_short(alloc: Global) -> Result<bool, AllocError> {
     is_copied(&mut BindingLog::new(alloc), &names)
 }
 
-// A copy of many commands has few entries, and doesn't see what is pushed after it.
+/// Whether the last of so many handles has no entry and one round, each of which has bound a name.
+pub fn is_last_of_many(alloc: Global, count: usize) -> Result<bool, AllocError> {
+    let name = Symbol::intern(alloc, "x")?;
+    let mut log = BindingLog::new(alloc);
+    for _handle in 0..count {
+        let mut handle = log.alloc()?;
+        log.push_empty(&mut handle, &name)?;
+    }
+    let mut last = log.alloc()?;
+    log.push_empty(&mut last, &name)?;
+    log.push_default(&mut last)?;
+    Ok(log.entries_of(&last) == (0, 1))
+}

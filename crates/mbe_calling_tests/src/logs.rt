@@ -1,9 +1,6 @@
 // Users of the binding log, who see its contracts alone, and its tests.
 mod calls;
-mod memory;
-mod model;
-mod rows;
-mod scripts;
-mod tables;
+pub mod rows;
+pub mod scripts;
 mod uses;
-mod values;
+pub mod values;

@@ -69,22 +69,19 @@ fn call_of(row: &str) -> Call {
     }
 }
 
-/// Makes the calls of a row, so many at most, up to one that is refused or whose handle isn't live. How many were made.
+/// Makes the calls of a row. `false` where a handle of one isn't live.
 pub fn make<'a, A: Allocator + Copy>(
     book: &mut Book<'a, A>,
     names: &[Symbol<A>],
     tree: TokenTreesView<'a, A>,
     calls: &str,
-    most: usize,
-) -> usize {
-    let mut made = 0usize;
+) -> Result<bool, AllocError> {
     for row in calls.split(',') {
-        if made == most || !apply(book, names, tree, call_of(row.trim_start())).unwrap_or(false) {
-            return made;
+        if !apply(book, names, tree, call_of(row.trim_start()))? {
+            return Ok(false);
         }
-        made = made.saturating_add(1);
     }
-    made
+    Ok(true)
 }
 
 /// Makes the call. `false` where no live handle is at the place.
@@ -183,21 +180,10 @@ pub fn built<A: Allocator + Copy>(
     names: &[Symbol<A>],
 ) -> Result<String<A>, AllocError> {
     let mut text = String::new(alloc);
-    show_built(log, handle, names, &mut text)?;
-    Ok(text)
-}
-
-/// The same, after what is in the text.
-pub fn show_built<A: Allocator + Copy>(
-    log: &BindingLog<'_, A>,
-    handle: &Handle,
-    names: &[Symbol<A>],
-    text: &mut String<A>,
-) -> Result<(), AllocError> {
-    if !log.has_entries_of(handle) {
-        return Ok(());
+    if log.has_entries_of(handle) {
+        show_all(&log.build(handle)?, names, &mut text)?;
     }
-    show_all(&log.build(handle)?, names, text)
+    Ok(text)
 }
 
 fn show_all<A: Allocator>(
