@@ -3,9 +3,9 @@ use crate::definitions::tests::{DESCRIBED, is_described, is_read};
 use crate::expansions::tests::{self, expands_nothing, is_expanded, is_marked};
 use crate::explaining::tests::are_explained;
 use crate::grammars::tests::are_handed_in;
-use crate::logs::rows::{Calls, ROWS, is_copied_short, is_last_of_many};
+use crate::logs::rows::{Calls, ROWS, is_last_of_many};
 use crate::logs::scripts::{SCRIPTS, is_digest};
-use crate::logs::values::{are_bindings, are_fragments, is_list};
+use crate::logs::values::{are_bindings, are_fragments};
 use crate::memory::count_requests;
 use crate::parting::{DEAD_ENDS, PARTING, Partings};
 use crate::results::tests::{are_made, is_call_changed, is_type_found};
@@ -157,10 +157,8 @@ static TREES: [(Tree, &str, usize); 13] = [
 enum Below {
     Log,
     LogRefused,
-    Copied,
     Bindings,
     Fragments,
-    List,
     Scripts,
     Million,
     Parting,
@@ -174,10 +172,8 @@ impl Rows for Below {
             Below::Log => Calls.is_so(alloc, fields),
             // The tree, the three names, their list, both lists of lists and that of handles are a request at least.
             Below::LogRefused => Ok(each_refused(alloc, &Calls, (ROWS, 17), (8, false)).is_ok()),
-            Below::Copied => is_copied_short(alloc),
             Below::Bindings => are_bindings(alloc),
             Below::Fragments => are_fragments(alloc),
-            Below::List => is_list(alloc),
             Below::Scripts => is_digest(alloc, fields),
             Below::Million => is_last_of_many(alloc, 500_000),
             Below::Parting => Partings.is_so(alloc, fields),
@@ -189,16 +185,11 @@ impl Rows for Below {
     }
 }
 
-static BELOW: [(Below, &str, usize); 12] = [
+static BELOW: [(Below, &str, usize); 10] = [
     (Below::Log, ROWS, 17),
     (
         Below::LogRefused,
         rows![("each request of a log is refused")],
-        1,
-    ),
-    (
-        Below::Copied,
-        rows![("a copy of many commands is short")],
         1,
     ),
     (
@@ -211,7 +202,6 @@ static BELOW: [(Below, &str, usize); 12] = [
         rows![("fragments are equal where trees and writing are")],
         1,
     ),
-    (Below::List, rows![("a list prints what it has")], 1),
     (Below::Scripts, SCRIPTS, 20),
     (Below::Million, rows![("a log has a million lists")], 1),
     (Below::Parting, PARTING, 22),

@@ -1,5 +1,5 @@
 use super::calls::{Book, built, make, names, new_book};
-use mbe_log::log::{BindingLog, Handle};
+use mbe_log::log::BindingLog;
 use mbe_tt::span::{DelimSpan, Span};
 use mbe_tt::symbol::Symbol;
 use mbe_tt::tt::TopSubtree;
@@ -78,57 +78,6 @@ impl AnyRows for Calls {
         let are_made = make(&mut book, &names, tree.view(), calls)?;
         Ok(are_made && is_bound(alloc, &book, &names, number(handle), want)?)
     }
-}
-
-// Pushes a command for each name, where the handle is live before each.
-fn push_all(
-    log: &mut BindingLog<'_>,
-    handle: &mut Handle,
-    names: &[Symbol],
-) -> Result<bool, AllocError> {
-    for name in names {
-        if !log.has_entries_of(handle) {
-            return Ok(false);
-        }
-        log.push_optional(handle, name)?;
-    }
-    Ok(true)
-}
-
-// Whether the handle is live, and how many names it binds then.
-fn binds(log: &BindingLog<'_>, handle: &Handle, count: usize) -> Result<bool, AllocError> {
-    if !log.has_entries_of(handle) {
-        return Ok(false);
-    }
-    Ok(log.build(handle)?.len() == count)
-}
-
-// Whether the handle is live, and has few entries.
-fn is_short(log: &BindingLog<'_>, handle: &Handle) -> bool {
-    log.has_entries_of(handle) && matches!(log.entries_of(handle), (0..=3, 0..=3))
-}
-
-// Whether a handle of the first thousand names has a short copy, which doesn't see what is pushed after it.
-fn is_copied(log: &mut BindingLog<'_>, names: &[Symbol]) -> Result<bool, AllocError> {
-    let (front, last) = names.split_at(names.len().min(1_000));
-    let mut handle = log.alloc()?;
-    if !push_all(log, &mut handle, front)? || !log.has_entries_of(&handle) {
-        return Ok(false);
-    }
-    let copy = log.copy(&handle)?;
-    let is_pushed = push_all(log, &mut handle, last)?;
-    Ok(
-        is_pushed
-            && is_short(log, &copy)
-            && binds(log, &copy, 1_000)?
-            && binds(log, &handle, 1_001)?,
-    )
-}
-
-/// Whether a copy of many commands has few entries, and doesn't see what is pushed after it.
-pub fn is_copied_short(alloc: Global) -> Result<bool, AllocError> {
-    let names = names(alloc, 1_001)?;
-    is_copied(&mut BindingLog::new(alloc), &names)
 }
 
 /// Whether the last of so many handles has no entry and one round, each of which has bound a name.

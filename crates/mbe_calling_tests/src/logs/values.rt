@@ -5,15 +5,8 @@ use mbe_tt::span::{DelimSpan, Span};
 use mbe_tt::symbol::Symbol;
 use mbe_tt::tt::{TokenTreesView, TopSubtree};
 use std::alloc::{AllocError, Global};
-use std::fmt::Debug;
 
-// Whether the text is all that is written of it to look for faults.
-fn prints<T: Debug>(alloc: Global, value: &T, text: &str) -> Result<bool, AllocError> {
-    let written = format!(in alloc; "{value:?}")?;
-    Ok(written.as_str() == text)
-}
-
-// Names in the order of their binding, each with the kind of expression that is missing, or empty.
+// Names in the order of their binding, each with the kind of expression that is missing, or a list.
 type Bound = &'static [(&'static str, Option<ExprKind>)];
 
 const ONE: Bound = &[("x", None), ("y", Some(ExprKind::Expr))];
@@ -27,27 +20,36 @@ const OTHER_KIND: Bound = &[
     ("y", Some(ExprKind::Expr2021)),
 ];
 
-fn bound<'a>(missing: Option<ExprKind>) -> Binding<'a> {
+fn list(alloc: Global) -> Result<Binding<'static>, AllocError> {
+    let mut list = Vec::new(alloc);
+    list.push(Binding::Fragment(Fragment::Empty))?;
+    list.push(Binding::Empty)?;
+    Ok(Binding::Nested(list))
+}
+
+fn bound(alloc: Global, missing: Option<ExprKind>) -> Result<Binding<'static>, AllocError> {
     match missing {
-        Some(kind) => Binding::Missing(MetaVarKind::Expr(kind)),
-        None => Binding::Empty,
+        Some(kind) => Ok(Binding::Missing(MetaVarKind::Expr(kind))),
+        None => list(alloc),
     }
 }
 
-fn bindings<'a>(alloc: Global, names: Bound) -> Result<Bindings<'a>, AllocError> {
+fn bindings(alloc: Global, names: Bound) -> Result<Bindings<'static>, AllocError> {
     let mut bindings = Bindings::new(alloc);
     for &(name, missing) in names {
         let name = Symbol::intern(alloc, name)?;
-        bindings.insert(&name, bound(missing))?;
+        bindings.insert(&name, bound(alloc, missing)?)?;
     }
     Ok(bindings)
 }
 
+const PRINTED: &str = "{\"x\": Nested([Fragment(Empty), Empty, ]), \"y\": Missing(Expr(Expr)), }";
+
 /// Whether bindings are equal in any order, and print their names in that of their binding.
 pub fn are_bindings(alloc: Global) -> Result<bool, AllocError> {
     let one = bindings(alloc, ONE)?;
-    let are_equal = one == bindings(alloc, OTHER_WAY)? && one != bindings(alloc, OTHER_KIND)?;
-    Ok(are_equal && prints(alloc, &one, "{\"x\": Empty, \"y\": Missing(Expr(Expr)), }")?)
+    let are_compared = one == bindings(alloc, OTHER_WAY)? && one != bindings(alloc, OTHER_KIND)?;
+    Ok(are_compared && format!(in alloc; "{one:?}")?.as_str() == PRINTED)
 }
 
 fn tokens<'a>(tree: TokenTreesView<'a>, origin: TokensOrigin) -> Fragment<'a> {
@@ -66,13 +68,4 @@ pub fn are_fragments(alloc: Global) -> Result<bool, AllocError> {
     let (raw, found) = (TokensOrigin::Raw, TokensOrigin::Ast);
     let is_raw = is_one(&tokens(tree.view(), raw), &tokens(tree.view(), found))?;
     Ok(is_raw && is_one(&Fragment::Expr(tree.view()), &Fragment::Path(tree.view()))?)
-}
-
-/// Whether a list prints what it has.
-pub fn is_list(alloc: Global) -> Result<bool, AllocError> {
-    let mut list: Vec<Binding<'static>> = Vec::new(alloc);
-    list.push(Binding::Fragment(Fragment::Empty))?;
-    list.push(Binding::Empty)?;
-    let list = Binding::Nested(list);
-    Ok(prints(alloc, &list, "Nested([Fragment(Empty), Empty, ])")? && list != Binding::Empty)
 }
