@@ -1,10 +1,11 @@
 #!/usr/bin/env python3
-"""Prints what random scripts of calls of a binding log come to, by a plain model: the rows of crates/mbe_calling_tests/src/logs/scripts.rt.
+"""Prints what random scripts of calls of a binding log come to, by a plain model: the rows of `mbe_calling_tests`
+(src/logs/scripts.rt).
 
     python3 tools/log-scripts.py
 
-In the model each account is a list of its own, which a copy clones. A row has the first of 25 seeds, and a number: the texts of what all handles
-bind after every eighth call of these scripts, as FNV-1a makes it of their bytes.
+In the model each account is a list of its own, which a copy clones. A row has the first of 25 seeds, and a number: the texts
+of what all handles bind after every eighth call of these scripts, as FNV-1a makes it of their bytes.
 """
 NAMES, HANDLES, STEPS, SCRIPTS, ROWS = 3, 6, 40, 25, 20
 WHATS = "eo-?"
@@ -16,7 +17,7 @@ def next_of(state):
 
 
 def call(accounts, number):
-    """Makes the call that the number stands for. An account is its finished rounds, each with its end, and the current round."""
+    """Makes the call that the number stands for. An account is its finished rounds, each with its end, and the current one."""
     number >>= 33
     count, kind = len(accounts), number % 16
     if count == 0 or kind == 0 and count < HANDLES:
@@ -45,7 +46,7 @@ class Frame:
         return f"[{self.text}]" if self.count is not None else self.text or "."
 
     def grow(self, inner):
-        """A round gives its value to the name's list, which has empty lists for the rounds before it. A value that is no list stays."""
+        """A round gives its value to the name's list, after empty lists for rounds before it. A value that is no list stays."""
         if inner.written() == "." or self.text and self.count is None:
             return
         count = self.count or 0

@@ -3,4 +3,5 @@ pub mod EditionLemmas
 pub mod LintLemmas
 pub mod MarkLemmas
 pub mod OutcomeLemmas
+pub mod Reading
 pub mod VerdictLemmas

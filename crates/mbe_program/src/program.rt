@@ -104,6 +104,7 @@ fn lexed<A: Allocator + Copy>(
 }
 
 // The macro of a definition, whose trees are given back.
+#[tactic(auto, using(crate::proofs::Reading::macro_is))]
 fn taken<A: Allocator + Copy>(
     alloc: A,
     definition: TopSubtree<A>,
@@ -118,7 +119,7 @@ fn taken<A: Allocator + Copy>(
 // The macro of the definition and the trees of the argument, or the first fault: a text that isn't
 // lexed comes before a definition that is refused. The definition's trees are given back before the
 // argument's are made, so memory never holds both. A long text that both have is kept once.
-#[tactic(auto, using(crate::proofs::Both::trees, crate::proofs::Both::first_fault, crate::proofs::Both::second_fault))]
+#[tactic(auto, using(crate::proofs::Both::trees, crate::proofs::Both::first_fault, crate::proofs::Both::second_fault, crate::proofs::OutcomeLemmas::unlexed, crate::proofs::Reading::both_are, crate::proofs::Reading::unread))]
 fn both_read<A: Allocator + Copy>(
     alloc: A,
     def: &str,
@@ -140,6 +141,7 @@ fn both_read<A: Allocator + Copy>(
 }
 
 // What the text of a definition makes of that of an argument.
+#[tactic(auto, using(crate::proofs::Reading::faultless, crate::proofs::Reading::expands))]
 fn texts_expansion<A: Allocator + Copy>(
     alloc: A,
     def: &str,
@@ -162,6 +164,7 @@ fn texts_expansion<A: Allocator + Copy>(
 }
 
 // The verdicts of the rules in the text of a definition on that of an argument.
+#[tactic(auto, using(crate::proofs::Reading::faultless, crate::proofs::Reading::explains))]
 fn texts_verdicts<A: Allocator + Copy>(
     alloc: A,
     def: &str,
