@@ -1,6 +1,5 @@
 -- A definition that is read, and the argument beside it: what they make, or why there is nothing.
-use Rattle.std.proofs.Common.{◌≡◌, ℕ, List, length, Option, None, Some, absurd, sym, ◌∙◌}
-use Rattle.std.proofs.lemmas.Option.{none-some}
+use Rattle.std.proofs.Common.{◌≡◌, ℕ, List, length, Option, None}
 use Rattle.mbe_tt.specs.declared.span.Edition.{Edition}
 use Rattle.mbe_tt.specs.Trees.Tree.{Forest}
 use Rattle.mbe_tt.specs.Trees.Top.{Top}

@@ -110,8 +110,8 @@ fn taken<A: Allocator + Copy>(
     definition: TopSubtree<A>,
     edition: Edition,
 ) -> Result<DeclarativeMacro<A>, Unread<A>>
-    ensures read { IfOk result (λ m. IsMacroOf edition definition.entry.1 (macro_of m)) }
-    ensures refused { IfErr result (HasNoMacro edition definition.entry.1) }
+    ensures read { IfOk result (λ m. IsMacroOf edition definition.1 (macro_of m)) }
+    ensures refused { IfErr result (HasNoMacro edition definition.1) }
 {
     defined(alloc, &definition, edition)
 }
