@@ -26,7 +26,7 @@ fn add(
 
 // The trees, with each open group closed with this span.
 #[tactic(auto, using(mbe_tt::proofs::Buffers::OpenGroups::closed_length))]
-fn finish(mut builder: TopSubtreeBuilder, end: Span) -> TopSubtree {
+fn finish<A: Allocator>(mut builder: TopSubtreeBuilder<A>, end: Span) -> TopSubtree<A> {
     'groups: while builder.open_kind().is_some() {
         builder.close(end);
     }
