@@ -3,6 +3,7 @@ pub mod BindingViews
 pub mod Building
 pub mod Chain
 pub mod Collected
+pub mod Compacting
 pub mod Entries
 pub mod Growing
 pub mod Printed

@@ -3,6 +3,7 @@
 
 pub mod bindings;
 mod chain;
+pub mod compact;
 mod counting;
 pub mod fragment;
 pub mod log;

@@ -29,6 +29,10 @@ ghost use Rattle.mbe_semantics.specs.Bindings.Account.{no_command_rounds, comman
 ghost use Rattle.mbe_semantics.specs.Bindings.Account.{PartGivesRounds, Command as Written};
 ghost use Rattle.mbe_semantics.specs.Bindings.Account.{HasOneListMore};
 ghost use Rattle.mbe_semantics.specs.Bindings.Environment.{fragment};
+ghost use Rattle.mbe_log.specs.Compacting.{Sends, IsMoved, FitsIn};
+ghost use Rattle.mbe_log.specs.Shared.{IsKept};
+ghost use Rattle.std.specs.Prelude.{IfSome};
+ghost use Rattle.mbe_semantics.specs.Bindings.Account.{Handle as Held, Log};
 ghost use Rattle.mbe_log.specs.Shared.{IsGiven, IsChanged, IsAtEnd, WritesOne, WritesRound};
 ghost use Rattle.mbe_log.specs.Shared.{current_len, finished_len, IsPlain, IsEmptied};
 ghost use Rattle.mbe_log.specs.BindingViews.{bound_by};
@@ -42,6 +46,7 @@ ghost use Rattle.mbe_log.specs.Rows.{entry_name, entry_row, entry_rows, names_of
 ghost use Rattle.mbe_log.specs.BindingViews.{fragment_seen};
 
 use crate::bindings::{Binding, Bindings};
+use crate::compact::{Compacted, Extent};
 use crate::chain::{Linked, extend, is_within, only, places, two, unlinked};
 use crate::fragment::Fragment;
 use mbe_semantics::kinds::MetaVarKind;
@@ -341,6 +346,21 @@ impl<'a, A: Allocator + Copy> BindingLog<'a, A> {
         Ok(())
     }
 
+    /// A log that has what the handles stand for, and the lists of that extent as they are, where it has at most half as many
+    /// lists as this one. `AllocError` if out of memory.
+    pub fn compacted(
+        &self,
+        _extent: Extent,
+        _handles: &[Handle],
+    ) -> Result<Option<Compacted<'a, A>>, AllocError>
+        ensures moved { IfOk result (λ c. IfSome c (λ c. (h k : Held) → Sends c.moves h k
+            → IsMoved self.now c.log h k)) }
+        ensures kept { (first : Log) → IsKept first self.now → FitsIn _extent first
+            → IfOk result (λ c. IfSome c (λ c. IsKept first c.log)) }
+    {
+        Ok(None)
+    }
+
     /// The environment of the current commands. `AllocError` if out of memory.
     pub fn build(&self, handle: &Handle) -> Result<Bindings<'a, A>, AllocError>
         requires { HasEntriesOf self.now handle.now }
@@ -378,6 +398,20 @@ impl<'a, A: Allocator> BindingLog<'a, A> {
         ensures { (order : Order) × IsOrdered self.now order }
     {
         let _ = &self.alloc;
+    }
+
+    /// How many lists it has of each sort.
+    #[inline(always)]
+    pub fn extent(&self) -> Extent
+        ensures { result ≡ record {
+          commands = length self.now.commands;
+          rounds = length self.now.rounds;
+        } }
+    {
+        Extent {
+            commands: self.commands.len(),
+            rounds: self.rounds.len(),
+        }
     }
 
     /// How many entries of its current list are the handle's, and of its list of finished rounds: all, if nothing else was
