@@ -22,6 +22,7 @@ use Rattle.mbe_places.specs.declared.position.Waiting.{Waiting}
 use Rattle.mbe_places.specs.After.{IsLeft}
 use Rattle.mbe_places.specs.Stops.{position_after, stop_at, verdict_in, reading_in}
 use Rattle.mbe_matcher.specs.Positions.{Each, Shows, Keeps, IsBelow}
+use Rattle.mbe_matcher.specs.Compacting.{PositionsStay}
 use Rattle.mbe_matcher.specs.Matched.{IsStack, IsAtStart, AreSettled, Binds}
 use Rattle.mbe_matcher.proofs.Keeping.{each_weaker, shows_keep}
 use Rattle.mbe_matcher.proofs.StepLemmas.{only_cut}
@@ -71,6 +72,16 @@ came_on {old = old} {new = new} {before = before} {after = after} {todo = todo} 
   spots = came.spots;
   shown = each_weaker (Shows old before) (Shows new after) (shows_keep old new before after kept) todo came.spots
       came.shown;
+  comes = came.comes;
+}
+
+-- and where positions stand for the same in another log, with other open items
+abbrev pub came_still : {A : Type 0} {g : Grammar} {pattern : Ops} {argument : Forest} {q : ℕ} {old new : Log}
+    {before after : List (Outer A)} {ps qs : List (Position A)} → PositionsStay old new before after ps qs
+    → CameTo g pattern argument q old before ps → CameTo g pattern argument q new after qs
+came_still stay came = record {
+  spots = came.spots;
+  shown = stay came.spots came.shown;
   comes = came.comes;
 }
 

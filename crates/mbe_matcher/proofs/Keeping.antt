@@ -1,5 +1,6 @@
 -- What positions stand for in a log, with outer items, they stand for in a later one.
-use Rattle.std.proofs.Common.{◌≡◌, ◌∙◌, ◌++◌, ℕ, zero, suc, List, [], ◌∷◌, Option, Some, None, option_to_list, sym, ap, append_assoc, append-nil}
+use Rattle.std.proofs.Common.{◌≡◌, ◌∙◌, ◌++◌, ◌+◌, ◌<◌, ℕ, zero, suc, List, [], ◌∷◌, length, take, get_or, Option, Some, None, option_to_list, sym, ap, subst, append_assoc, append-nil}
+use Rattle.std.proofs.lemmas.List.{take_more}
 use Rattle.std.specs.Prelude.{slice_get}
 use Rattle.std.proofs.lemmas.Option.{none-some}
 use Rattle.mbe_tt.specs.Trees.Tree.{Forest}
@@ -43,6 +44,14 @@ each_append P [] us [] vs e f = f
 each_append P [] us (y ∷ ys) vs e f = absurd e
 each_append P (x ∷ xs) us [] vs e f = absurd e
 each_append P (x ∷ xs) us (y ∷ ys) vs e f = (e.0, each_append P xs us ys vs e.1 f)
+
+-- one member more of the first list was looked at
+pub each_next : {X Y : Type 0} (P : X → Y → Type 0) (xs : List X) (i : ℕ) (x : X) (ys : List Y) (y : Y) (zs : List Y)
+    → i < length xs → x ≡ get_or xs i x → Each P (take i xs) ys → P x y → zs ≡ ys ++ y ∷ []
+    → Each P (take (i + 1) xs) zs
+each_next P xs i x ys y zs l at e p is =
+    subst (λ us. Each P us zs) (ap (λ u. take i xs ++ u ∷ []) at ∙ sym (take_more xs i x l))
+    (subst (Each P (take i xs ++ x ∷ [])) (sym is) (each_append P (take i xs) (x ∷ []) ys (y ∷ []) e (p, tt)))
 
 pub both_weaker : {X Y : Type 0} (P Q : X → Y → Type 0) → ((x : X) (y : Y) → P x y → Q x y)
     → (x : Option X) (y : Option Y) → Both P x y → Both Q x y

@@ -21,3 +21,4 @@ pub mod Turning
 pub mod WantedLemmas
 pub mod Looking
 pub mod Starts
+pub mod Carrying

@@ -9,3 +9,4 @@ pub mod TwoEnds
 pub mod Met
 pub mod EndsMatched
 pub mod Wanted
+pub mod Compacting

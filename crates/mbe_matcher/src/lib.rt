@@ -1,6 +1,7 @@
 // Matches arguments against patterns. A layer of `mbe`: use that crate.
 #![tactic(auto)]
 
+mod compacting;
 pub mod eat;
 mod ends;
 pub mod fronts;

@@ -12,6 +12,7 @@ ghost use Rattle.mbe_matcher.specs.Reports.{IsReportIn};
 ghost use Rattle.mbe_matcher.specs.Matched.{IsAtStart, Binds};
 ghost use Rattle.mbe_matcher.specs.Positions.{IsBelow, open_items};
 
+use crate::compacting::{Room, tidy};
 use crate::report::Report;
 use crate::settle::{Settled, State, settle};
 use crate::skipping::dots_of;
@@ -120,6 +121,7 @@ pub(crate) fn follow<'a, A: Allocator + Copy, G: FragmentGrammar>(
         (trees argument.entry) log.new) }
 {
     let dots = dots_of(&pattern.0).ok_or(AllocError)?;
+    let mut room = Room::new(log);
     let mut state = State::new(alloc, dots)?;
     let mut todo = Todo::new(&alloc);
     let position = at_start(pattern, dots, log)?;
@@ -139,5 +141,6 @@ pub(crate) fn follow<'a, A: Allocator + Copy, G: FragmentGrammar>(
         }
         source = after_step(source, &settled.waiting[0])?;
         come(&settled.waiting, &mut todo)?;
+        tidy(alloc, log, &mut state, &mut todo, &mut room)?;
     }
 }

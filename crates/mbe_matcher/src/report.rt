@@ -1,6 +1,6 @@
 // What a match that doesn't fit reports (as in rust-analyzer): the first error that a position
 // noted, and what the last one had bound.
-ghost use Rattle.std.specs.Prelude.{ℕ, List, ◌≡◌, [], ◌++◌, if◌then◌else◌, IfOk, IfSome, OnOk, Some, option_map};
+ghost use Rattle.std.specs.Prelude.{ℕ, List, ◌≡◌, [], ◌++◌, if◌then◌else◌, IfOk, IfSome, IsTrue, OnOk, Some, false, option_map};
 ghost use Rattle.std.specs.String.{string_bytes};
 ghost use Rattle.mbe_tt.specs.declared.span.Span.{Span};
 ghost use Rattle.mbe_semantics.specs.Bindings.Account.{Account, IsAccount, HasEntriesOf, pushed};
@@ -10,9 +10,11 @@ ghost use Rattle.mbe_errors.specs.ErrorViews.{error_of, errors_of, kind_of};
 ghost use Rattle.mbe_ops.specs.Views.{op_of};
 ghost use Rattle.mbe_matcher.specs.Rewriting.{IsRewritten};
 ghost use Rattle.mbe_matcher.specs.Failures.{is_noted};
+ghost use Rattle.mbe_matcher.specs.Compacting.{CarriesReport};
 
 use crate::eat::is_refused;
 use mbe_errors::error::{ExpandError, ExpandErrorKind};
+use mbe_log::compact::Moves;
 use mbe_log::fragment::of_kind;
 use mbe_log::log::{BindingLog, Handle, again};
 use mbe_ops::ops::Op;
@@ -275,6 +277,33 @@ impl<'a, A: Allocator> Report<'a, A> {
             handle: again(end),
             misfit: None,
         });
+    }
+
+    // What the last position that is reported had bound, if there is one.
+    pub(crate) fn last_handle(&self) -> Option<Handle>
+        ensures { result ≡ option_map (λ l. l.handle) self.now.last }
+    {
+        let last = self.last.as_ref()?;
+        Some(again(&last.handle))
+    }
+
+    // The same in another log, if what is bound is there.
+    pub(crate) fn follow(&mut self, moves: &Moves<A>) -> bool
+        ensures carries { IsTrue result → CarriesReport moves.now self.old self.new }
+        ensures still { result ≡ false → self.new ≡ self.old }
+    {
+        let Some(last) = self.last.take() else {
+            return true;
+        };
+        let Some(handle) = moves.get(&last.handle) else {
+            self.last = Some(last);
+            return false;
+        };
+        self.last = Some(Last {
+            handle,
+            misfit: last.misfit,
+        });
+        true
     }
 }
 

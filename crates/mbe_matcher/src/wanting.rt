@@ -18,6 +18,7 @@ ghost use Rattle.mbe_matcher.specs.Matched.{IsStack, verdict_seen};
 ghost use Rattle.mbe_places.specs.Stops.{verdict_in};
 ghost use Rattle.mbe_matcher.specs.Wanted.{AreWays, AreLooked, AreWanted, ClashThere, wanted_seen, pair_seen, way_seen, outline_wants, read_next, before_round, clashes, clash_with, first_clash, next_in};
 
+use crate::compacting::{Room, tidy};
 use crate::matching::{Verdict, verdict_of};
 use crate::places::at_start;
 use crate::settle::{Settled, State, settle};
@@ -220,6 +221,7 @@ fn reach_ways<'a, A: Allocator + Copy, G: FragmentGrammar>(
         (verdict_in r.stop) r.ways.items) }
 {
     let number = dots_of(&pattern.0).ok_or(AllocError)?;
+    let mut room = Room::new(log);
     let mut state = State::new(alloc, number)?;
     let mut todo = Todo::new(&alloc);
     let position = at_start(pattern, number, log)?;
@@ -236,6 +238,7 @@ fn reach_ways<'a, A: Allocator + Copy, G: FragmentGrammar>(
         }
         source = after_step(source, &settled.waiting[0])?;
         come(&settled.waiting, &mut todo)?;
+        tidy(alloc, log, &mut state, &mut todo, &mut room)?;
     }
 }
 

@@ -1,4 +1,4 @@
-use Rattle.std.proofs.Common.{◌≡◌, ◌<◌, ◌∙◌, ◌++◌, ◌∷◌, ℕ, false, Some, None, List, [], map, get_or, reverse, refl, sym, ap, subst, arith}
+use Rattle.std.proofs.Common.{◌≡◌, ◌<◌, ◌∙◌, ◌++◌, ◌∷◌, ℕ, false, Some, None, List, [], map, get_or, reverse, length, refl, sym, ap, subst, arith}
 use Rattle.std.specs.Prelude.{IfSome, IsSome}
 use Rattle.mbe_tt.specs.Views.View.{trees}
 use Rattle.mbe_tt.specs.Trees.Tree.{flat_len, tree_count, rest_at}
@@ -12,18 +12,22 @@ use Rattle.mbe_semantics.specs.Matching.Outline.{outline, erase}
 use Rattle.mbe_semantics.specs.Matching.Settled.{after_of}
 use Rattle.mbe_semantics.proofs.InputLemmas.{lawful_input}
 use Rattle.mbe_ops.specs.Views.{ops_of, template_of}
+use Rattle.mbe_log.specs.declared.compact.Extent.{Extent}
+use Rattle.mbe_log.specs.Compacting.{FitsIn}
 use Rattle.mbe_log.specs.Shared.{IsKept}
 use Rattle.mbe_log.proofs.ClientLemmas.{kept-on}
 use Rattle.mbe_bounds.specs.Loop.Kept.{kept, kept_moves}
 use Rattle.mbe_matcher.specs.declared.places.Reached.{Reached}
 use Rattle.mbe_matcher.specs.declared.settle.State.{State}
+use Rattle.mbe_places.specs.declared.counts.Counts.{Counts}
 use Rattle.mbe_places.specs.declared.position.Waiting.{Waiting}
+use Rattle.mbe_places.specs.Counts.{AreBlankFrom}
 use Rattle.mbe_matcher.specs.Positions.{open_items}
 use Rattle.mbe_matcher.specs.Failures.{Notes, no_notes, noted_at, AreNotes}
 use Rattle.mbe_matcher.specs.Reports.{IsReportOf, IsReportIn, Settles, GoesAlone, StepsAlone}
 use Rattle.mbe_matcher.specs.Matched.{Binds, IsStackOf, dots_in}
 use Rattle.mbe_places.specs.Stops.{position_after, stop_at, verdict_in, reading_in}
-use Rattle.mbe_matcher.proofs.Arriving.{came_first, came_stack, came_on, came_cut, came_next, SettledAt, Onward, stop_seen, settled_verdict, settled_place, settled_binds, settled_some, settled_onward}
+use Rattle.mbe_matcher.proofs.Arriving.{came_first, came_stack, came_on, came_cut, came_still, came_next, SettledAt, Onward, stop_seen, settled_verdict, settled_place, settled_binds, settled_some, settled_onward}
 use Rattle.mbe_matcher.proofs.Alone.{waits_on}
 use Rattle.mbe_matcher.proofs.StepLemmas.{below_open, leads_within}
 use Rattle.mbe_matcher.proofs.Reporting.{notes_keep}
@@ -60,6 +64,7 @@ places-init g c =
       blank = λ q l. c.in_ok-state.ensures.blank q (omega arith);
       size = c.in_ok-state.ensures.size ∙ counted g (goal.at.places-init g c).In_ok-dots;
       kept = c.in_ok-position.ensures.kept;
+      start = c.new-room.ensures;
     }
 
 -- ---- where an only position goes on
@@ -180,6 +185,7 @@ places-preserved-in-Some g c =
       blank = λ q l. inv.blank q (omega (arith, l, at, some));
       size = inv.size;
       kept = kept-on c.args.log.now c.places.log c.step_alone.new.log inv.kept c.in_ok-alone.ensures.kept.log;
+      start = inv.start;
     }
 
 -- ---- at a place
@@ -391,26 +397,28 @@ places-preserved g c =
     let inv = c.places.invariant in
     let spots = inv.comes.0.spots in
     let ws = c.settle.new.settled.waiting.items in
-    let log = c.settle.new.log in
     let step = c.index-deref-0.result in
     let n = onward g here.In_default-stopped step c.deref-in-places-3.result.now c.deref-in-places-3.ensures
     c.index-deref-0.is in
     let some = n.some in
     let at = c.in_ok-source-2.ensures.place in
     let place = here.In_ok-settle in
+    let tidied = c.in_ok-tidy.ensures in
     let arrived : c.come.new.todo.items ≡ map position_after ws =
     c.in_ok-come.ensures ∙ ap (λ l. c.settle.new.todo.items ++ map position_after l) c.deref-in-places-4.ensures
     ∙ ap (λ l. l ++ map position_after ws) c.in_ok-settle.ensures.done in
     record {
       comes = (
-        came_next (settled g place) step n (trees c.in_ok-source-2.source.whole)
+        came_still tidied.positions
+            (came_next (settled g place) step n (trees c.in_ok-source-2.source.whole)
             (ap (λ x. trees x) c.in_ok-source-2.ensures.whole) c.in_ok-source-2.source.place at
-            c.come.new.todo.items arrived,
+            c.come.new.todo.items arrived),
         noted g place,
-        subst (λ x. IsReportOf log (trees x) c.settle.new.state.report [] (noted g place))
-            (sym c.in_ok-source-2.ensures.whole) ((settles g place).notes inv.comes.1 (reported g place)),
+        subst (λ x. IsReportOf c.tidy.new.log (trees x) c.tidy.new.state.report [] (noted g place))
+            (sym c.in_ok-source-2.ensures.whole)
+            (tidied.report (trees s.whole) [] (noted g place) ((settles g place).notes inv.comes.1 (reported g place))),
         λ clean.
-            let all = whole g place clean in
+            let all = whole g place (sym tidied.dropped ∙ clean) in
             subst (λ x. WholeWith (input_of h (trees x)) pat c.in_ok-source-2.source.place
             (map after_of (kept_moves i (dots pat) s.place (reverse spots))) (noted g place))
             (sym c.in_ok-source-2.ensures.whole)
@@ -418,7 +426,10 @@ places-preserved g c =
             all.1 c.in_ok-source-2.source.place step.width n.goes_over n.agrees at),
       );
       whole = c.in_ok-source-2.ensures.whole ∙ inv.whole;
-      blank = λ q l. c.in_ok-settle.ensures.blank q (omega (arith, l, at, some));
-      size = c.in_ok-settle.ensures.size ∙ inv.size;
-      kept = kept_here g place;
+      blank = subst (λ (k : Counts g.row.A.Denot). AreBlankFrom k.marks.items c.in_ok-source-2.source.place)
+          (sym tidied.counts) (λ q l. c.in_ok-settle.ensures.blank q (omega (arith, l, at, some)));
+      size = ap (λ (k : Counts g.row.A.Denot). length k.marks.items) tidied.counts ∙ c.in_ok-settle.ensures.size
+          ∙ inv.size;
+      kept = tidied.start c.args.log.now (kept_here g place) inv.start;
+      start = subst (λ (e : Extent). FitsIn e c.args.log.now) (sym tidied.extent) inv.start;
     }

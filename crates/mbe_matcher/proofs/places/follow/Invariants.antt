@@ -3,6 +3,7 @@ use Rattle.mbe_tt.specs.Views.View.{trees}
 use Rattle.mbe_tt.specs.Trees.Tree.{flat_len}
 use Rattle.mbe_semantics.specs.Matching.Dots.{dots}
 use Rattle.mbe_semantics.specs.Readings.Input.{input_of}
+use Rattle.mbe_log.specs.Compacting.{FitsIn}
 use Rattle.mbe_log.specs.Shared.{IsKept}
 use Rattle.mbe_ops.specs.Views.{template_of}
 use Rattle.mbe_places.specs.Counts.{AreBlankFrom}
@@ -24,6 +25,7 @@ invariant-places g l = record {
   blank : AreBlankFrom l.state.counts.marks.items l.source.place;
   size : length l.state.counts.marks.items ≡ dots (template_of l.pattern);
   kept : IsKept l.fn.log l.log;
+  start : FitsIn l.room.extent l.fn.log;
 }
 
 abbrev pub decreases-places : goal.decreases-places

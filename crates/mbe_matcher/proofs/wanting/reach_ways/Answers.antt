@@ -1,4 +1,4 @@
-use Rattle.std.proofs.Common.{◌≡◌, ◌∙◌, ◌++◌, ◌∷◌, Some, None, List, [], map, get_or, sym, ap, subst, arith}
+use Rattle.std.proofs.Common.{◌≡◌, ◌∙◌, ◌++◌, ◌∷◌, Some, None, List, [], map, get_or, length, sym, ap, subst, arith}
 use Rattle.std.specs.Prelude.{IfSome}
 use Rattle.mbe_tt.specs.Views.View.{trees}
 use Rattle.mbe_tt.specs.Trees.Tree.{flat_len}
@@ -7,11 +7,13 @@ use Rattle.mbe_semantics.specs.Readings.Verdict.{IsVerdict, stop_of}
 use Rattle.mbe_semantics.specs.Matching.Dots.{dots}
 use Rattle.mbe_semantics.proofs.InputLemmas.{lawful_input}
 use Rattle.mbe_ops.specs.Views.{ops_of, template_of}
+use Rattle.mbe_places.specs.declared.counts.Counts.{Counts}
 use Rattle.mbe_places.specs.declared.position.Waiting.{Waiting}
+use Rattle.mbe_places.specs.Counts.{AreBlankFrom}
 use Rattle.mbe_matcher.specs.Matched.{IsStack}
 use Rattle.mbe_places.specs.Stops.{position_after, stop_at, verdict_in}
 use Rattle.mbe_matcher.specs.Wanted.{AreWays}
-use Rattle.mbe_matcher.proofs.Arriving.{came_first, came_stack, came_next, SettledAt, Onward, stop_seen, settled_verdict, settled_place, settled_some, settled_onward}
+use Rattle.mbe_matcher.proofs.Arriving.{came_first, came_stack, came_still, came_next, SettledAt, Onward, stop_seen, settled_verdict, settled_place, settled_some, settled_onward}
 use Rattle.mbe_matcher.proofs.Looking.{stack_kept}
 use Rattle.mbe_matcher.proofs.WantedLemmas.{ways_are}
 use Rattle.mbe_matcher.proofs.wanting.reach_ways.Goals as goal
@@ -177,10 +179,15 @@ loop-source-preserved g c =
     let arrived : c.come.new.todo.items ≡ map position_after ws =
     c.in_ok-come.ensures ∙ ap (λ l. c.settle.new.todo.items ++ map position_after l) c.deref-in-loop-source-5.ensures
     ∙ ap (λ l. l ++ map position_after ws) c.in_ok-settle.ensures.done in
+    let tidied = c.in_ok-tidy.ensures in
     record {
-      comes = came_next (settled g here.In_ok-settle) step n (trees c.in_ok-source.source.whole)
-          (ap (λ x. trees x) c.in_ok-source.ensures.whole) c.in_ok-source.source.place at c.come.new.todo.items arrived;
+      comes = came_still tidied.positions
+          (came_next (settled g here.In_ok-settle) step n (trees c.in_ok-source.source.whole)
+          (ap (λ x. trees x) c.in_ok-source.ensures.whole) c.in_ok-source.source.place at c.come.new.todo.items
+          arrived);
       whole = c.in_ok-source.ensures.whole ∙ inv.whole;
-      blank = λ q l. c.in_ok-settle.ensures.blank q (omega (arith, l, at, some));
-      size = c.in_ok-settle.ensures.size ∙ inv.size;
+      blank = subst (λ (k : Counts g.row.A.Denot). AreBlankFrom k.marks.items c.in_ok-source.source.place)
+          (sym tidied.counts) (λ q l. c.in_ok-settle.ensures.blank q (omega (arith, l, at, some)));
+      size = ap (λ (k : Counts g.row.A.Denot). length k.marks.items) tidied.counts ∙ c.in_ok-settle.ensures.size
+          ∙ inv.size;
     }

@@ -1,0 +1,47 @@
+use Rattle.std.proofs.Common.{◌≡◌, ◌∙◌, ◌∷◌, [], Some, option_map, length, length-append, refl, ap, sym, subst, arith}
+use Rattle.std.specs.Prelude.{slice_get}
+use Rattle.std.proofs.lemmas.Option.{slice_get_read}
+use Rattle.mbe_semantics.specs.Bindings.Account.{Log}
+use Rattle.mbe_log.specs.declared.compact.Moves.{Moves}
+use Rattle.mbe_matcher.specs.Compacting.{AreHandles, AreCarried}
+use Rattle.mbe_matcher.proofs.Carrying.{carried_more}
+use Rattle.mbe_matcher.proofs.compacting.Moved.take_outers.Goals as goal
+
+pub loop-outer-preserved : goal.loop-outer-preserved
+loop-outer-preserved g c =
+    let was = c.loop-outer.self in
+    let now = c.push.new.self in
+    let inv = c.loop-outer.invariant in
+    let pushed = c.in_ok-push.ensures in
+    let outers = c.args.outers.now in
+    let item = c.outer-item.result in
+    let there = slice_get_read outers (length outers) c.loop-outer.outer-index item refl c.loop-outer-test.true
+    c.outer-item.is in
+    let at : slice_get outers (length was.numbers.items) ≡ Some item =
+    ap (slice_get outers) inv.count ∙ there in
+    record {
+      log = pushed.log ∙ inv.log;
+      moves = pushed.moves ∙ inv.moves;
+      count =
+          let one = ap length pushed.numbers in
+          let more = length-append was.numbers.items (option_map (λ _. length was.outers.items) c.next-next.result ∷ []) in
+          let count = inv.count in
+          omega (arith, one, more, count);
+      carried = λ old handles.
+          let before : AreHandles was.moves old was.log =
+          subst (λ (x : Moves g.row.A.Denot). AreHandles x old was.log) pushed.moves
+          (subst (λ (x : Log). AreHandles now.moves old x) pushed.log handles) in
+          subst (λ (x : Log). AreCarried old x outers now.outers.items now.numbers.items) (sym pushed.log)
+          (carried_more old was.log outers was.outers.items was.moves was.numbers.items before
+          (inv.carried old before) item c.next-next.result now.outers.items now.numbers.items at c.next-next.ensures
+          pushed.outers pushed.numbers);
+    }
+
+pub returns-clause-carries : goal.returns-clause-carries
+returns-clause-carries g c = λ old handles.
+    let m = c.loop-outer.self in
+    let inv = c.loop-outer.invariant in
+    let here : AreHandles m.moves old m.log =
+    subst (λ (x : Moves g.row.A.Denot). AreHandles x old m.log) (sym inv.moves)
+    (subst (λ (x : Log). AreHandles c.args.self.now.moves old x) (sym inv.log) handles) in
+    record { handles = here; items = inv.carried old here }
