@@ -3,6 +3,7 @@ pub mod BuildLemmas
 pub mod CallLemmas
 pub mod ChainLemmas
 pub mod ClientLemmas
+pub mod CompactLemmas
 pub mod CountLemmas
 pub mod CodeLemmas
 pub mod LogLemmas
