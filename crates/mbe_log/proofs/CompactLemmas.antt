@@ -11,8 +11,9 @@ use Rattle.mbe_log.specs.Accounts.{Every}
 use Rattle.mbe_log.specs.Shared.{IsKept}
 use Rattle.mbe_log.specs.Sound.{depth, rounds_depth, IsGrounded, IsSound, HasOrder}
 use Rattle.mbe_log.specs.Compacting.{Table, moved, number_in, IsKeptIn, IsMoved, Sends, FitsIn}
-use Rattle.mbe_log.specs.KeptLists.{moved_entry, moved_round, StandsForKept, RoundStandsForKept, moved_command, CommandStandsForKept, cut_list, IsCutKept, kept_lists, AreCutKept, IsNumbered, Stay}
+use Rattle.mbe_log.specs.KeptLists.{moved_entry, moved_round, StandsForKept, RoundStandsForKept, moved_command, CommandStandsForKept, cut_list, IsCutKept, kept_lists, AreCutKept, IsNumbered, Stay, IsWhole}
 use Rattle.mbe_log.specs.declared.compact.Extent.{Extent}
+use Rattle.mbe_log.specs.declared.compact.Moves.{Moves}
 use Rattle.mbe_log.proofs.ChainLemmas.{in_range, link_some}
 use Rattle.mbe_log.proofs.BuildLemmas.{get-map, map-get, take-none, commands_len, rounds_len}
 use Rattle.mbe_log.proofs.CallLemmas.{grounded-part, grounded-rounds-part}
@@ -41,9 +42,12 @@ kept_at all f (None ∷ t) (x ∷ ls) n (suc i) k l w s e =
     let a = kept_at all f t ls n i k l w s e in (a.0, a.1, a.2, ap suc a.3)
 kept_at all f (Some q ∷ t) (x ∷ ls) n zero k l w s e =
     let p : q ≡ k = cc in
-    let y : x ≡ l = cc in
-    (0, (let u = w.0 in let v = ap (λ (z : Part). z.list) p in omega (arith, u, v)),
-    ap (λ z. Some (cut_list all f z.first x)) p ∙ ap (λ z. Some (cut_list all f k.first z)) y, refl)
+    let y : x ≡ l = cc in (
+      0,
+      (let u = w.0 in let v = ap (λ (z : Part). z.list) p in omega (arith, u, v)),
+      ap (λ z. Some (cut_list all f z.first x)) p ∙ ap (λ z. Some (cut_list all f k.first z)) y,
+      refl,
+    )
 kept_at all f (Some q ∷ t) (x ∷ ls) n (suc i) k l w s e =
     let a = kept_at all f t ls (suc n) i k l w.1 s e in
     (suc a.0, (let u = a.1 in omega (arith, u)), a.2, ap suc a.3)
@@ -294,8 +298,7 @@ module _ {T : Type 0} (f : T → T) (P : T → Type 0) (t : Table) (L : List (Ch
   within_new q k =
       let l = w q.list k.0 k.1 in
       let a = kept_at t f t L 0 q.list k.0 l.0 n k.1 l.1 in
-      let at : (moved t q).list ≡ a.0 = (let u = number_of t q k.0 k.1 in let v = a.1 in omega (arith, u, v)) in
-      (
+      let at : (moved t q).list ≡ a.0 = (let u = number_of t q k.0 k.1 in let v = a.1 in omega (arith, u, v)) in (
         cut_list t f k.0.first l.0,
         ap (slice_get (kept_lists t f t L)) at ∙ a.2,
         (let u = cut_len t f k.0.first l.0 l.2.fits in let v = k.2 in omega (arith, u, v)),
@@ -350,9 +353,8 @@ module _ {A : Type 0} (C : List (Chain (code.Command A))) (R : List (Chain Part)
       let fs = commands_seen (cut_list c (moved_command c r) k.0.first l.0) in
       let seen : fs ≡ map (moved_entry c r) (take k.0.first (commands_seen l.0)) = cut_seen c r k.0.first l.0 in
       let len : length fs ≡ k.0.first =
-          commands_len new_commands new_rounds (cut_list c (moved_command c r) k.0.first l.0)
-          ∙ cut_len c (moved_command c r) k.0.first l.0 l.2.fits in
-      (
+      commands_len new_commands new_rounds (cut_list c (moved_command c r) k.0.first l.0)
+      ∙ cut_len c (moved_command c r) k.0.first l.0 l.2.fits in (
         fs,
         ap (slice_get new_log.commands) n
             ∙ map-get commands_seen new_commands a.0 (cut_list c (moved_command c r) k.0.first l.0) a.2,
@@ -375,9 +377,8 @@ module _ {A : Type 0} (C : List (Chain (code.Command A))) (R : List (Chain Part)
       let fs = rounds_seen (cut_list r (moved c) k.0.first l.0) in
       let seen : fs ≡ map (moved_round c r) (take k.0.first (rounds_seen l.0)) = cut_rounds_seen c r k.0.first l.0 in
       let len : length fs ≡ k.0.first =
-          rounds_len new_commands new_rounds (cut_list r (moved c) k.0.first l.0)
-          ∙ cut_len r (moved c) k.0.first l.0 l.2.fits in
-      (
+      rounds_len new_commands new_rounds (cut_list r (moved c) k.0.first l.0)
+      ∙ cut_len r (moved c) k.0.first l.0 l.2.fits in (
         fs,
         ap (slice_get new_log.rounds) n
             ∙ map-get rounds_seen new_rounds a.0 (cut_list r (moved c) k.0.first l.0) a.2,
@@ -408,22 +409,22 @@ module _ {A : Type 0} (C : List (Chain (code.Command A))) (R : List (Chain Part)
       let p : Part = record { list = origin c j; first = a.0.first } in
       let at = map-get commands_seen C (origin c j) l.0 l.1 in
       let fits : p.first ≤ length (commands_seen l.0) =
-          (let u = commands_len C R l.0 in let v = l.2.fits in omega (arith, u, v)) in
+      (let u = commands_len C R l.0 in let v = l.2.fits in omega (arith, u, v)) in
       let d = grounded-part old_log most g p (commands_seen l.0, at, fits) in
       let kept = is_kept_itself c (origin c j) a.0 a.2 in
       let new = renumbered_commands p (commands_seen l.0) kept at in
       let number : (moved c p).list ≡ j =
-          (let u = number_of c p a.0 a.2 in let v = a.4 in omega (arith, u, v)) in
+      (let u = number_of c p a.0 a.2 in let v = a.4 in omega (arith, u, v)) in
       let same : new.0 ≡ fs = (let u = new.1 in let v = ap (slice_get new_log.commands) number in cc) in
       let x = entries_of_new (part c r old_log new_log renumbered d.1 kept) in
       let y : x.0 ≡ fs = (let u = x.1 in let v = ap (slice_get new_log.commands) number in cc) in
       let long : length fs ≤ p.first =
-          (let u = ap length (sym m.2) ∙ ap (λ q. length (commands_seen q)) a.5
-          ∙ commands_len new_commands new_rounds (cut_list c (moved_command c r) a.0.first a.1) in
-          let same_list : l.0 ≡ a.1 = (let p = l.1 in let q = a.3 in cc) in
-          let v = cut_len c (moved_command c r) a.0.first a.1
-          (subst (λ q. a.0.first ≤ chain_len q) same_list l.2.fits) in
-          omega (arith, u, v)) in
+      (let u = ap length (sym m.2) ∙ ap (λ q. length (commands_seen q)) a.5
+      ∙ commands_len new_commands new_rounds (cut_list c (moved_command c r) a.0.first a.1) in
+      let same_list : l.0 ≡ a.1 = (let p = l.1 in let q = a.3 in cc) in
+      let v = cut_len c (moved_command c r) a.0.first a.1
+      (subst (λ q. a.0.first ≤ chain_len q) same_list l.2.fits) in
+      omega (arith, u, v)) in
       (d.0, subst (λ xs. Gives new_log no_commands xs d.0) (ap (take p.first) y ∙ take_all p.first fs long) x.2, d.2)
     where
       entries_of_new : {cs : Commands} {q : Part} → PartGives new_log no_commands q cs
@@ -440,22 +441,25 @@ module _ {A : Type 0} (C : List (Chain (code.Command A))) (R : List (Chain Part)
       let p : Part = record { list = origin r j; first = a.0.first } in
       let at = map-get rounds_seen R (origin r j) l.0 l.1 in
       let fits : p.first ≤ length (rounds_seen l.0) =
-          (let u = rounds_len C R l.0 in let v = l.2.fits in omega (arith, u, v)) in
+      (let u = rounds_len C R l.0 in let v = l.2.fits in omega (arith, u, v)) in
       let d = grounded-rounds-part old_log most g p (rounds_seen l.0, at, fits) in
       let kept = is_kept_itself r (origin r j) a.0 a.2 in
       let number : (moved r p).list ≡ j =
-          (let u = number_of r p a.0 a.2 in let v = a.4 in omega (arith, u, v)) in
+      (let u = number_of r p a.0 a.2 in let v = a.4 in omega (arith, u, v)) in
       let x = entries_of_new (rounds_part c r old_log new_log renumbered d.1 kept) in
       let y : x.0 ≡ fs = (let u = x.1 in let v = ap (slice_get new_log.rounds) number in cc) in
       let long : length fs ≤ p.first =
-          (let u = ap length (sym m.2) ∙ ap (λ q. length (rounds_seen q)) a.5
-          ∙ rounds_len new_commands new_rounds (cut_list r (moved c) a.0.first a.1) in
-          let same_list : l.0 ≡ a.1 = (let p = l.1 in let q = a.3 in cc) in
-          let v = cut_len r (moved c) a.0.first a.1
-          (subst (λ q. a.0.first ≤ chain_len q) same_list l.2.fits) in
-          omega (arith, u, v)) in
-      (d.0, subst (λ xs. GivesRounds new_log no_command_rounds xs d.0)
-      (ap (take p.first) y ∙ take_all p.first fs long) x.2, d.2)
+      (let u = ap length (sym m.2) ∙ ap (λ q. length (rounds_seen q)) a.5
+      ∙ rounds_len new_commands new_rounds (cut_list r (moved c) a.0.first a.1) in
+      let same_list : l.0 ≡ a.1 = (let p = l.1 in let q = a.3 in cc) in
+      let v = cut_len r (moved c) a.0.first a.1
+      (subst (λ q. a.0.first ≤ chain_len q) same_list l.2.fits) in
+      omega (arith, u, v)) in (
+        d.0,
+        subst (λ xs. GivesRounds new_log no_command_rounds xs d.0)
+            (ap (take p.first) y ∙ take_all p.first fs long) x.2,
+        d.2,
+      )
     where
       entries_of_new : {rs : CommandRounds} {q : Part} → PartGivesRounds new_log no_command_rounds q rs
           → (es : List RoundEntry) × (slice_get new_log.rounds q.list ≡ Some es)
@@ -472,8 +476,10 @@ module _ {A : Type 0} (C : List (Chain (code.Command A))) (R : List (Chain Part)
     }
 
     below : (n : ℕ) (p : Part) → IsKeptIn c p → IsBelow old_log order n p → IsBelow new_log new_order n (moved c p)
-    below n p k b = (in_new c r old_log new_log renumbered p k b.0,
-        λ j l. subst (λ i. order.commands i j < n) (sym (was p k)) (b.1 j l))
+    below n p k b = (
+      in_new c r old_log new_log renumbered p k b.0,
+      λ j l. subst (λ i. order.commands i j < n) (sym (was p k)) (b.1 j l),
+    )
       where
         was : (p : Part) → IsKeptIn c p → origin c (moved c p).list ≡ p.list
         was p k =
@@ -484,8 +490,10 @@ module _ {A : Type 0} (C : List (Chain (code.Command A))) (R : List (Chain Part)
 
     rounds_below : (n : ℕ) (p : Part) → IsKeptIn r p → AreRoundsBelow old_log order n p
         → AreRoundsBelow new_log new_order n (moved r p)
-    rounds_below n p k b = (in_new_rounds c r old_log new_log renumbered p k b.0,
-        λ j l. subst (λ i. order.rounds i j < n) (sym (was p k)) (b.1 j l))
+    rounds_below n p k b = (
+      in_new_rounds c r old_log new_log renumbered p k b.0,
+      λ j l. subst (λ i. order.rounds i j < n) (sym (was p k)) (b.1 j l),
+    )
       where
         was : (p : Part) → IsKeptIn r p → origin r (moved r p).list ≡ p.list
         was p k =
@@ -517,12 +525,12 @@ module _ {A : Type 0} (C : List (Chain (code.Command A))) (R : List (Chain Part)
         let same : l.0 ≡ a.1 = (let p = l.1 in let q = a.3 in cc) in
         let es = commands_seen a.1 in
         let seen : fs ≡ map (moved_entry c r) (take a.0.first es) =
-            sym m.2 ∙ ap commands_seen a.5 ∙ cut_seen c r a.0.first a.1 in
+        sym m.2 ∙ ap commands_seen a.5 ∙ cut_seen c r a.0.first a.1 in
         let b = get-map (moved_entry c r) (take a.0.first es) x e (subst (λ y. slice_get y x ≡ Some e) seen h) in
         let old = o.commands (origin c j) x es b.0 (map-get commands_seen C (origin c j) a.1 a.3)
-            (taken-there a.0.first es x b.0 b.1) in
+        (taken-there a.0.first es x b.0 b.1) in
         let kept = every-here (StandsForKept c r) (take a.0.first es) x b.0
-            (cut_kept c r a.0.first a.1 (subst (IsCutKept c (CommandStandsForKept c r) a.0.first) same l.2)) b.1 in
+        (cut_kept c r a.0.first a.1 (subst (IsCutKept c (CommandStandsForKept c r) a.0.first) same l.2)) b.1 in
         subst (NamesLower new_log new_order (new_order.commands j x)) b.2
         (lower (order.commands (origin c j) x) b.0 kept old)
 
@@ -535,12 +543,12 @@ module _ {A : Type 0} (C : List (Chain (code.Command A))) (R : List (Chain Part)
         let same : l.0 ≡ a.1 = (let p = l.1 in let q = a.3 in cc) in
         let es = rounds_seen a.1 in
         let seen : fs ≡ map (moved_round c r) (take a.0.first es) =
-            sym m.2 ∙ ap rounds_seen a.5 ∙ cut_rounds_seen c r a.0.first a.1 in
+        sym m.2 ∙ ap rounds_seen a.5 ∙ cut_rounds_seen c r a.0.first a.1 in
         let b = get-map (moved_round c r) (take a.0.first es) x e (subst (λ y. slice_get y x ≡ Some e) seen h) in
         let old = o.rounds (origin r j) x es b.0 (map-get rounds_seen R (origin r j) a.1 a.3)
-            (taken-there a.0.first es x b.0 b.1) in
+        (taken-there a.0.first es x b.0 b.1) in
         let kept = every-here (RoundStandsForKept c r) (take a.0.first es) x b.0
-            (cut_rounds_kept c r a.0.first a.1 (subst (IsCutKept r (IsKeptIn c) a.0.first) same l.2)) b.1 in
+        (cut_rounds_kept c r a.0.first a.1 (subst (IsCutKept r (IsKeptIn c) a.0.first) same l.2)) b.1 in
         subst (RoundNamesLower new_log new_order (new_order.rounds j x)) b.2
         (round_lower (order.rounds (origin r j) x) b.0 kept old)
 
@@ -573,9 +581,10 @@ module _ {A : Type 0} (C : List (Chain (code.Command A))) (R : List (Chain Part)
         let e : i.0 ≡ commands_seen s.0 = (let u = i.1 in cc) in
         let len = commands_len C R s.0 in
         let same = ap length e in
-        let room = i.2 in
-        ((record { list = p.list; first = chain_len s.0 }, s.2, omega (arith, len, same, room)),
-        ap (λ n. record { list = n; first = p.first }) (number_of c p (record { list = p.list; first = chain_len s.0 }) s.2))
+        let room = i.2 in (
+          (record { list = p.list; first = chain_len s.0 }, s.2, omega (arith, len, same, room)),
+          ap (λ n. record { list = n; first = p.first }) (number_of c p (record { list = p.list; first = chain_len s.0 }) s.2),
+        )
 
     still_rounds : (p : Part) → p.list < extent.rounds → IsIn old_log.rounds p → IsKeptIn r p × (moved r p ≡ p)
     still_rounds p h i =
@@ -584,9 +593,10 @@ module _ {A : Type 0} (C : List (Chain (code.Command A))) (R : List (Chain Part)
         let e : i.0 ≡ rounds_seen s.0 = (let u = i.1 in cc) in
         let len = rounds_len C R s.0 in
         let same = ap length e in
-        let room = i.2 in
-        ((record { list = p.list; first = chain_len s.0 }, s.2, omega (arith, len, same, room)),
-        ap (λ n. record { list = n; first = p.first }) (number_of r p (record { list = p.list; first = chain_len s.0 }) s.2))
+        let room = i.2 in (
+          (record { list = p.list; first = chain_len s.0 }, s.2, omega (arith, len, same, room)),
+          ap (λ n. record { list = n; first = p.first }) (number_of r p (record { list = p.list; first = chain_len s.0 }) s.2),
+        )
 
     there_new : (i : ℕ) → i < extent.commands → i < length new_log.commands
     there_new i h =
@@ -617,8 +627,10 @@ module _ {A : Type 0} (C : List (Chain (code.Command A))) (R : List (Chain Part)
 
     pub kept_new : IsKept first new_log
     kept_new = record {
-      stays = λ h live. (there_new h.current.list (let u = live.0 in let v = f.0 in omega (arith, u, v)),
-          there_new_rounds h.finished.list (let u = live.1 in let v = f.1 in omega (arith, u, v)));
+      stays = λ h live. (
+        there_new h.current.list (let u = live.0 in let v = f.0 in omega (arith, u, v)),
+        there_new_rounds h.finished.list (let u = live.1 in let v = f.1 in omega (arith, u, v)),
+      );
       entries = λ h i. let live = lists_there first h i in let j = k.entries h i in (same_handle h live j).entries j;
       others = λ h a i. let e = has_entries first h a i in
           (same_handle h (lists_there first h e) (k.entries h e)).account a (k.others h a i);
@@ -628,3 +640,34 @@ module _ {A : Type 0} (C : List (Chain (code.Command A))) (R : List (Chain Part)
   pub sent : (h k : Handle) → IsKeptIn c h.current × IsKeptIn r h.finished
       × (k ≡ record { current = moved c h.current; finished = moved r h.finished }) → IsMoved old_log new_log h k
   sent h k s = is_moved c r old_log new_log renumbered h k s.0 s.1 s.2
+
+-- ---- a log that is written by what was looked through
+
+module _ {A : Type 0} (C : List (Chain (code.Command A))) (R : List (Chain Part)) (extent : Extent) (moves : Moves A)
+    (cn : IsNumbered 0 moves.commands.items) (rn : IsNumbered 0 moves.rounds.items) (w : IsWhole C R extent moves)
+    (K : List (Chain (code.Command A))) (L : List (Chain Part))
+    (kept : K ≡ kept_lists moves.commands.items (moved_command moves.commands.items moves.rounds.items)
+    moves.commands.items C)
+    (kept_rounds : L ≡ kept_lists moves.rounds.items (moved moves.commands.items) moves.rounds.items R) where
+  pub written_sound : (most : ℕ) → IsSound C R most → IsSound K L most
+  written_sound most s = subst (λ x. IsSound x L most) (sym kept)
+      (subst (λ x. IsSound (new_commands C R moves.commands.items moves.rounds.items cn rn w.commands_kept w.rounds_kept) x most)
+      (sym kept_rounds)
+      (sound_new C R moves.commands.items moves.rounds.items cn rn w.commands_kept w.rounds_kept most s))
+
+  is_new : new_log C R moves.commands.items moves.rounds.items cn rn w.commands_kept w.rounds_kept ≡ log_of K L
+  is_new = ap (λ x. log_of x (new_rounds C R moves.commands.items moves.rounds.items cn rn w.commands_kept w.rounds_kept))
+      (sym kept) ∙ ap (log_of K) (sym kept_rounds)
+
+  pub written_moved : (old : Log) → log_of C R ≡ old → (h k : Handle) → Sends moves h k → IsMoved old (log_of K L) h k
+  written_moved old e h k s =
+      subst (λ x. IsMoved x (log_of K L) h k) e
+      (subst (λ x. IsMoved (log_of C R) x h k) is_new
+      (sent C R moves.commands.items moves.rounds.items cn rn w.commands_kept w.rounds_kept h k s))
+
+  pub written_kept : (old first : Log) → log_of C R ≡ old → IsKept first old → FitsIn extent first
+      → IsKept first (log_of K L)
+  written_kept old first e k f =
+      subst (IsKept first) is_new
+      (kept_new C R moves.commands.items moves.rounds.items cn rn w.commands_kept w.rounds_kept extent w.commands_stay
+      w.rounds_stay first (subst (IsKept first) (sym e) k) f)

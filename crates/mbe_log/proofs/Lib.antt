@@ -4,6 +4,7 @@ pub mod CallLemmas
 pub mod ChainLemmas
 pub mod ClientLemmas
 pub mod CompactLemmas
+pub mod CompactSteps
 pub mod CountLemmas
 pub mod CodeLemmas
 pub mod LogLemmas

@@ -5,6 +5,8 @@ use Rattle.mbe_semantics.specs.Bindings.Account.{Entry, RoundEntry}
 use Rattle.mbe_log.specs.declared.log.Command as code
 use Rattle.mbe_log.specs.Chain.{Chain, chain_len, link_in, own_in}
 use Rattle.mbe_log.specs.Entries.{entry_seen}
+use Rattle.mbe_log.specs.declared.compact.Extent.{Extent}
+use Rattle.mbe_log.specs.declared.compact.Moves.{Moves}
 use Rattle.mbe_log.specs.Compacting.{Table, moved, IsKeptIn}
 
 -- ---- entries, by the tables of the lists of commands and of rounds
@@ -59,6 +61,10 @@ module _ {T : Type 0} (table : Table) where
     own = map f (take (own_in l.link first) l.own);
   }
 
+  -- the list has that many entries, and its link, if it is one of them, is kept
+  abbrev pub IsLinkKept : ℕ → Chain T → Type 0
+  IsLinkKept first l = (first ≤ chain_len l) × ((q : Part) → link_in l.link first ≡ Some q → IsKeptIn table q)
+
   -- the list has that many entries, and what these stand for is kept
   pub record IsCutKept (P : T → Type 0) (first : ℕ) (l : Chain T) : Type 0 where
     pub fits : first ≤ chain_len l
@@ -71,6 +77,17 @@ module _ {T : Type 0} (table : Table) where
   kept_lists f (k ∷ t) [] = []
   kept_lists f (None ∷ t) (l ∷ ls) = kept_lists f t ls
   kept_lists f (Some k ∷ t) (l ∷ ls) = cut_list f k.first l ∷ kept_lists f t ls
+
+  -- what is left of a list of which that is kept
+  abbrev pub cut_at : (T → T) → Option Part → Option (Chain T) → Option (Chain T)
+  cut_at f None l = None
+  cut_at f (Some k) None = None
+  cut_at f (Some k) (Some l) = Some (cut_list f k.first l)
+
+  -- the list of this number is there, and what its first entries stand for is kept, if it is kept
+  abbrev pub IsListKept : (T → Type 0) → List (Chain T) → ℕ → Type 0
+  IsListKept P ls i = (k : Part) → slice_get table i ≡ Some (Some k)
+      → (l : Chain T) × (slice_get ls i ≡ Some l) × IsCutKept P k.first l
 
   -- each that is kept is there, and what its first entries stand for is kept
   abbrev pub AreCutKept : (T → Type 0) → List (Chain T) → Type 0
@@ -87,3 +104,12 @@ IsNumbered n (Some k ∷ t) = (k.list ≡ n) × IsNumbered (suc n) t
 abbrev pub Stay : {T : Type 0} → Table → List (Chain T) → ℕ → Type 0
 Stay {T} table ls count = (i : ℕ) → i < count
     → (l : Chain T) × (slice_get ls i ≡ Some l) × (slice_get table i ≡ Some (Some (record { list = i; first = chain_len l })))
+
+-- what is kept stands for what is kept, and the lists of the extent stay
+pub record IsWhole {A : Type 0} (commands : List (Chain (code.Command A))) (rounds : List (Chain Part)) (extent : Extent)
+    (moves : Moves A) : Type 0 where
+  pub commands_stay : Stay moves.commands.items commands extent.commands
+  pub rounds_stay : Stay moves.rounds.items rounds extent.rounds
+  pub commands_kept : AreCutKept moves.commands.items
+      (CommandStandsForKept moves.commands.items moves.rounds.items) commands
+  pub rounds_kept : AreCutKept moves.rounds.items (IsKeptIn moves.commands.items) rounds
