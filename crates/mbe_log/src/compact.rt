@@ -606,8 +606,28 @@ pub(crate) fn is_whole<A: Allocator>(
     are_all_rounds_kept(rounds, moves)
 }
 
-// Whether at most half of the lists are kept.
-pub(crate) fn is_worth<A: Allocator>(moves: &Moves<A>) -> bool {
-    let kept = moves.commands.iter().flatten().count();
-    kept <= moves.commands.len() / 2
+// How many entries are kept.
+fn count_kept(table: &[Option<Part>]) -> usize {
+    let mut count: usize = 0;
+    for part in table.iter().flatten() {
+        count = count.saturating_add(part.first);
+    }
+    count
+}
+
+// How many entries the lists have.
+fn count_all<T, A: Allocator>(lists: &[Linked<T, A>]) -> usize {
+    let mut count: usize = 0;
+    for list in lists {
+        count = count.saturating_add(list.len());
+    }
+    count
+}
+
+// Whether at most half of the commands are kept.
+pub(crate) fn is_worth<A: Allocator>(
+    commands: &[Linked<Command<'_, A>, A>],
+    moves: &Moves<A>,
+) -> bool {
+    count_kept(&moves.commands) <= count_all(commands) / 2
 }

@@ -347,11 +347,12 @@ impl<'a, A: Allocator + Copy> BindingLog<'a, A> {
     }
 
     /// A log that has what the handles stand for, and the lists of that extent as they are, where it has at most half as many
-    /// lists as this one. `AllocError` if out of memory.
+    /// commands as this one, or `anyway`. None else, as it would take memory to save little. `AllocError` if out of memory.
     pub fn compacted(
         &self,
         extent: Extent,
         handles: &[Handle],
+        anyway: bool,
     ) -> Result<Option<Compacted<'a, A>>, AllocError>
         ensures moved { IfOk result (λ c. IfSome c (λ c. (h k : Held) → Sends c.moves h k
             → IsMoved self.now c.log h k)) }
@@ -359,7 +360,7 @@ impl<'a, A: Allocator + Copy> BindingLog<'a, A> {
             → IfOk result (λ c. IfSome c (λ c. IsKept first c.log)) }
     {
         let moves = found(self.alloc, &self.commands, &self.rounds, extent, handles)?;
-        if !is_worth(&moves) {
+        if !anyway && !is_worth(&self.commands, &moves) {
             return Ok(None);
         }
         if !is_whole(&self.commands, &self.rounds, extent, &moves) {
