@@ -3,6 +3,8 @@ pub mod BuildLemmas
 pub mod CallLemmas
 pub mod ChainLemmas
 pub mod ClientLemmas
+pub mod CompactLemmas
+pub mod CompactSteps
 pub mod CountLemmas
 pub mod CodeLemmas
 pub mod LogLemmas

@@ -10,6 +10,11 @@ use Rattle.mbe_log.specs.declared.compact.Moves.{Moves}
 abbrev pub Table : Type 0
 Table = List (Option Part)
 
+-- what a table says of a list
+abbrev pub kept_of : Option (Option Part) → Option Part
+kept_of None = None
+kept_of (Some kept) = kept
+
 abbrev pub number_in : Option (Option Part) → ℕ
 number_in None = 0
 number_in (Some None) = 0

@@ -6,6 +6,7 @@ pub mod Collected
 pub mod Compacting
 pub mod Entries
 pub mod Growing
+pub mod KeptLists
 pub mod Printed
 pub mod Rows
 pub mod Shared

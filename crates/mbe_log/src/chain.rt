@@ -66,7 +66,7 @@ impl<T, A: Allocator> Linked<T, A> {
 
     /// How many entries of its own it has.
     #[inline(always)]
-    fn own_len(&self) -> usize
+    pub(crate) fn own_len(&self) -> usize
         ensures { result ≡ length self.now.own }
     {
         match self.first {
@@ -77,7 +77,7 @@ impl<T, A: Allocator> Linked<T, A> {
 
     /// The link among the first so many entries, and how many others are among them.
     #[inline(always)]
-    fn cut(&self, first: usize) -> (Option<Part>, usize)
+    pub(crate) fn cut(&self, first: usize) -> (Option<Part>, usize)
         ensures link { result.0 ≡ link_in self.now.link first }
         ensures own { result.1 ≡ own_in self.now.link first }
     {

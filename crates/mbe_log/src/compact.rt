@@ -1,10 +1,27 @@
 // A log that has of another one only what some handles stand for.
-ghost use Rattle.std.specs.Prelude.{◌≡◌, IfSome};
-ghost use Rattle.mbe_log.specs.Compacting.{Sends};
+//
+// A match follows several positions, and most of them come to nothing. What these wrote stays in the log: a log only grows.
+// With n optional parts in a pattern, n positions write n lists at each of n places, of which n lists are of use at the
+// next one. So from time to time a match takes a log that has what its positions still need, and gives the old one back.
+//
+// The search (`found`) marks how many of the first entries of each list are of use: those of the handles, and, from each
+// entry on, those that it stands for. Lists keep their order, and get the numbers from 0 on. With lists of commands
+// alone, `0,1` for the first entry of list 0, and one handle:
+//
+//     lists                        handle   marks    tables        new lists            handle
+//     0: x y   1: ->0,1 z w   2: v  1,2      1 2 -   0,1 1,2 -     0: x   1: ->0,1 z     1,2
+//
+// Nothing is proved of the search. What it found is looked through before it counts: what the entries that are kept stand
+// for is kept (`are_kept`), and so are the lists of the extent (`stay`).
+ghost use Rattle.std.specs.Prelude.{◌≡◌, ◌++◌, IfOk, OnOk, IfSome, IsTrue, option_map, option_to_list, slice_get};
+ghost use Rattle.mbe_log.specs.Compacting.{Sends, IsKeptIn, kept_of, moved};
+ghost use Rattle.mbe_log.specs.KeptLists.{moved_command, CommandStandsForKept, cut_list, cut_at, IsListKept};
+ghost use Rattle.mbe_log.specs.KeptLists.{IsWhole, IsLinkKept, IsCutKept, kept_lists, AreCutKept, IsNumbered, Stay};
 
-use crate::log::{BindingLog, Handle};
+use crate::chain::Linked;
+use crate::log::{BindingLog, Command, Handle};
 use mbe_semantics::log::Part;
-use std::alloc::{Allocator, Global};
+use std::alloc::{AllocError, Allocator, Global};
 
 /// How many lists a log has.
 #[derive(Clone, Copy, Debug, Drop, PartialEq, Eq)]
@@ -16,8 +33,8 @@ pub struct Extent {
 /// Where the entries of a log are in another one that has some of them.
 #[derive(Drop)]
 pub struct Moves<A: Allocator = Global> {
-    commands: Vec<Option<Part>, A>,
-    rounds: Vec<Option<Part>, A>,
+    pub(crate) commands: Vec<Option<Part>, A>,
+    pub(crate) rounds: Vec<Option<Part>, A>,
 }
 
 /// A log that has some entries of another one.
@@ -26,11 +43,591 @@ pub struct Compacted<'a, A: Allocator = Global> {
     pub moves: Moves<A>,
 }
 
+// What is kept of the list of this number.
+fn kept_of(table: &[Option<Part>], index: usize) -> Option<Part>
+    ensures { result ≡ kept_of (slice_get table.now index) }
+{
+    match table.get(index) {
+        Some(kept) => *kept,
+        None => None,
+    }
+}
+
+// Whether the entries of the part are kept.
+fn keeps(table: &[Option<Part>], part: Part) -> bool
+    ensures { IsTrue result → IsKeptIn table.now part }
+{
+    match table.get(part.list) {
+        Some(Some(kept)) => part.first <= kept.first,
+        _ => false,
+    }
+}
+
+// The same entries, in the new list.
+fn moved(table: &[Option<Part>], part: Part) -> Part
+    ensures { result ≡ moved table.now part }
+{
+    match table.get(part.list) {
+        Some(Some(kept)) => Part {
+            list: kept.list,
+            first: part.first,
+        },
+        _ => Part {
+            list: 0,
+            first: part.first,
+        },
+    }
+}
+
 impl<A: Allocator> Moves<A> {
     /// The handle in the new log, if its entries are there.
-    pub fn get(&self, _handle: &Handle) -> Option<Handle>
-        ensures { IfSome result (Sends self.now _handle.now) }
+    pub fn get(&self, handle: &Handle) -> Option<Handle>
+        ensures { IfSome result (Sends self.now handle.now) }
     {
-        None
+        if !keeps(&self.commands, handle.current) {
+            return None;
+        }
+        if !keeps(&self.rounds, handle.finished) {
+            return None;
+        }
+        Some(Handle {
+            current: moved(&self.commands, handle.current),
+            finished: moved(&self.rounds, handle.finished),
+        })
     }
+}
+
+// ---- what is looked through
+
+// Whether what the command stands for is kept.
+fn stands_for_kept<A: Allocator>(command: &Command<'_, A>, moves: &Moves<A>) -> bool
+    ensures { IsTrue result → CommandStandsForKept
+        moves.now.commands.items moves.now.rounds.items command.now }
+{
+    match command {
+        Command::Nested { finished, current } => {
+            if !keeps(&moves.rounds, *finished) {
+                return false;
+            }
+            keeps(&moves.commands, *current)
+        }
+        Command::Fragment(_, _) | Command::Missing(_, _) => true,
+        Command::Optional(_) | Command::Empty(_) => true,
+    }
+}
+
+// Whether the list has so many entries, and its link, if it is one of them, is kept.
+fn is_link_kept<T, A: Allocator>(table: &[Option<Part>], list: &Linked<T, A>, first: usize) -> bool
+    ensures { IsTrue result → IsLinkKept table.now first list.now }
+{
+    if list.len() < first {
+        return false;
+    }
+    let (link, _own) = list.cut(first);
+    match link {
+        Some(link) => keeps(table, link),
+        None => true,
+    }
+}
+
+// Whether the list has so many entries, and what they stand for is kept.
+fn is_cut_kept<A: Allocator>(
+    list: &Linked<Command<'_, A>, A>,
+    first: usize,
+    moves: &Moves<A>,
+) -> bool
+    ensures { IsTrue result → IsCutKept moves.now.commands.items (CommandStandsForKept
+        moves.now.commands.items moves.now.rounds.items) first list.now }
+{
+    if !is_link_kept(&moves.commands, list, first) {
+        return false;
+    }
+    let (_link, own) = list.cut(first);
+    for index in 0..own {
+        if !stands_for_kept(list.own_at(index), moves) {
+            return false;
+        }
+    }
+    true
+}
+
+// The same of a list of rounds.
+fn are_rounds_kept<A: Allocator>(list: &Linked<Part, A>, first: usize, moves: &Moves<A>) -> bool
+    ensures { IsTrue result → IsCutKept moves.now.rounds.items
+        (IsKeptIn moves.now.commands.items) first list.now }
+{
+    if !is_link_kept(&moves.rounds, list, first) {
+        return false;
+    }
+    let (_link, own) = list.cut(first);
+    for index in 0..own {
+        if !keeps(&moves.commands, *list.own_at(index)) {
+            return false;
+        }
+    }
+    true
+}
+
+// Whether the list of this number is there, and what its first entries stand for is kept, if it is kept.
+fn is_list_kept<A: Allocator>(
+    lists: &[Linked<Command<'_, A>, A>],
+    moves: &Moves<A>,
+    index: usize,
+) -> bool
+    ensures { IsTrue result → IsListKept moves.now.commands.items (CommandStandsForKept
+        moves.now.commands.items moves.now.rounds.items) lists.now index }
+{
+    let Some(part) = kept_of(&moves.commands, index) else {
+        return true;
+    };
+    match lists.get(index) {
+        Some(list) => is_cut_kept(list, part.first, moves),
+        None => false,
+    }
+}
+
+// The same of rounds.
+fn is_round_list_kept<A: Allocator>(
+    lists: &[Linked<Part, A>],
+    moves: &Moves<A>,
+    index: usize,
+) -> bool
+    ensures { IsTrue result → IsListKept moves.now.rounds.items
+        (IsKeptIn moves.now.commands.items) lists.now index }
+{
+    let Some(part) = kept_of(&moves.rounds, index) else {
+        return true;
+    };
+    match lists.get(index) {
+        Some(list) => are_rounds_kept(list, part.first, moves),
+        None => false,
+    }
+}
+
+// Whether each list that is kept is there, and what its first entries stand for is kept.
+fn are_kept<A: Allocator>(lists: &[Linked<Command<'_, A>, A>], moves: &Moves<A>) -> bool
+    ensures { IsTrue result → AreCutKept moves.now.commands.items (CommandStandsForKept
+        moves.now.commands.items moves.now.rounds.items) lists.now }
+{
+    for index in 0..moves.commands.len() {
+        if !is_list_kept(lists, moves, index) {
+            return false;
+        }
+    }
+    true
+}
+
+// The same of rounds.
+fn are_all_rounds_kept<A: Allocator>(lists: &[Linked<Part, A>], moves: &Moves<A>) -> bool
+    ensures { IsTrue result → AreCutKept moves.now.rounds.items
+        (IsKeptIn moves.now.commands.items) lists.now }
+{
+    for index in 0..moves.rounds.len() {
+        if !is_round_list_kept(lists, moves, index) {
+            return false;
+        }
+    }
+    true
+}
+
+// Whether the first so many lists are kept whole, with their numbers.
+fn stay<T, A: Allocator>(lists: &[Linked<T, A>], table: &[Option<Part>], count: usize) -> bool
+    ensures { IsTrue result → Stay table.now lists.now count }
+{
+    for index in 0..count {
+        let Some(list) = lists.get(index) else {
+            return false;
+        };
+        let Some(Some(part)) = table.get(index) else {
+            return false;
+        };
+        if part.list != index || part.first != list.len() {
+            return false;
+        }
+    }
+    true
+}
+
+// ---- what is written
+
+// The command in the numbers of the new lists. `AllocError` if out of memory.
+fn moved_command<'a, A: Allocator + Copy>(
+    command: &Command<'a, A>,
+    moves: &Moves<A>,
+) -> Result<Command<'a, A>, AllocError>
+    ensures { IfOk result (λ c. c
+        ≡ moved_command moves.now.commands.items moves.now.rounds.items command.now) }
+{
+    match command {
+        Command::Fragment(name, fragment) => {
+            Ok(Command::Fragment(name.clone()?, fragment.try_clone()?))
+        }
+        Command::Optional(name) => Ok(Command::Optional(name.clone()?)),
+        Command::Empty(name) => Ok(Command::Empty(name.clone()?)),
+        Command::Missing(name, kind) => Ok(Command::Missing(name.clone()?, *kind)),
+        Command::Nested { finished, current } => Ok(Command::Nested {
+            finished: moved(&moves.rounds, *finished),
+            current: moved(&moves.commands, *current),
+        }),
+    }
+}
+
+// The link, in the new lists.
+fn moved_link(table: &[Option<Part>], link: Option<Part>) -> Option<Part>
+    ensures { result ≡ option_map (moved table.now) link }
+{
+    match link {
+        Some(link) => Some(moved(table, link)),
+        None => None,
+    }
+}
+
+// The list's first so many entries, moved. `AllocError` if out of memory.
+fn cut_list<'a, A: Allocator + Copy>(
+    alloc: A,
+    list: &Linked<Command<'a, A>, A>,
+    first: usize,
+    moves: &Moves<A>,
+) -> Result<Linked<Command<'a, A>, A>, AllocError>
+    ensures { IfOk result (λ l. l ≡ cut_list moves.now.commands.items (moved_command
+        moves.now.commands.items moves.now.rounds.items) first list.now) }
+{
+    let (link, own) = list.cut(first);
+    let mut cut = Linked::linked(alloc, moved_link(&moves.commands, link));
+    for index in 0..own.min(list.own_len()) {
+        cut.push(moved_command(list.own_at(index), moves)?)?;
+    }
+    Ok(cut)
+}
+
+// The same of a list of rounds.
+fn cut_rounds<A: Allocator + Copy>(
+    alloc: A,
+    list: &Linked<Part, A>,
+    first: usize,
+    moves: &Moves<A>,
+) -> Result<Linked<Part, A>, AllocError>
+    ensures { IfOk result (λ l. l ≡ cut_list moves.now.rounds.items
+        (moved moves.now.commands.items) first list.now) }
+{
+    let (link, own) = list.cut(first);
+    let mut cut = Linked::linked(alloc, moved_link(&moves.rounds, link));
+    for index in 0..own.min(list.own_len()) {
+        cut.push(moved(&moves.commands, *list.own_at(index)))?;
+    }
+    Ok(cut)
+}
+
+// What is kept of the list of this number, moved. `AllocError` if out of memory.
+fn cut_at<'a, A: Allocator + Copy>(
+    alloc: A,
+    lists: &[Linked<Command<'a, A>, A>],
+    moves: &Moves<A>,
+    index: usize,
+) -> Result<Option<Linked<Command<'a, A>, A>>, AllocError>
+    ensures { IfOk result (λ l. l ≡ cut_at moves.now.commands.items (moved_command
+        moves.now.commands.items moves.now.rounds.items)
+        (kept_of (slice_get moves.now.commands.items index)) (slice_get lists.now index)) }
+{
+    let Some(part) = kept_of(&moves.commands, index) else {
+        return Ok(None);
+    };
+    match lists.get(index) {
+        Some(list) => Ok(Some(cut_list(alloc, list, part.first, moves)?)),
+        None => Ok(None),
+    }
+}
+
+// The same of a list of rounds.
+fn cut_rounds_at<A: Allocator + Copy>(
+    alloc: A,
+    lists: &[Linked<Part, A>],
+    moves: &Moves<A>,
+    index: usize,
+) -> Result<Option<Linked<Part, A>>, AllocError>
+    ensures { IfOk result (λ l. l ≡ cut_at moves.now.rounds.items (moved moves.now.commands.items)
+        (kept_of (slice_get moves.now.rounds.items index)) (slice_get lists.now index)) }
+{
+    let Some(part) = kept_of(&moves.rounds, index) else {
+        return Ok(None);
+    };
+    match lists.get(index) {
+        Some(list) => Ok(Some(cut_rounds(alloc, list, part.first, moves)?)),
+        None => Ok(None),
+    }
+}
+
+// The value at the end, if there is one.
+fn push_some<T: Drop, A: Allocator>(
+    values: &mut Vec<T, A>,
+    value: Option<T>,
+) -> Result<(), AllocError>
+    ensures { OnOk result (values.new.items ≡ values.old.items ++ option_to_list value) }
+{
+    let Some(value) = value else {
+        return Ok(());
+    };
+    values.push(value)?;
+    Ok(())
+}
+
+// The lists that are kept. `AllocError` if out of memory.
+pub(crate) fn kept_lists<'a, A: Allocator + Copy>(
+    alloc: A,
+    lists: &[Linked<Command<'a, A>, A>],
+    moves: &Moves<A>,
+) -> Result<Vec<Linked<Command<'a, A>, A>, A>, AllocError>
+    ensures { IfOk result (λ kept. kept.items ≡ kept_lists moves.now.commands.items
+        (moved_command moves.now.commands.items moves.now.rounds.items)
+        moves.now.commands.items lists.now) }
+{
+    let mut kept = Vec::new(alloc);
+    for index in 0..moves.commands.len() {
+        push_some(&mut kept, cut_at(alloc, lists, moves, index)?)?;
+    }
+    Ok(kept)
+}
+
+// The same of rounds.
+pub(crate) fn kept_rounds<A: Allocator + Copy>(
+    alloc: A,
+    lists: &[Linked<Part, A>],
+    moves: &Moves<A>,
+) -> Result<Vec<Linked<Part, A>, A>, AllocError>
+    ensures { IfOk result (λ kept. kept.items ≡ kept_lists moves.now.rounds.items
+        (moved moves.now.commands.items) moves.now.rounds.items lists.now) }
+{
+    let mut kept = Vec::new(alloc);
+    for index in 0..moves.rounds.len() {
+        push_some(&mut kept, cut_rounds_at(alloc, lists, moves, index)?)?;
+    }
+    Ok(kept)
+}
+
+// ---- the search
+
+// A part that is of use.
+#[derive(Clone, Copy, Drop)]
+enum Used {
+    Commands(Part),
+    Rounds(Part),
+}
+
+// How many of the first entries of each list are of use, as far as the search came, and what it has still to look at.
+#[derive(Drop)]
+struct Search<A: Allocator = Global> {
+    commands: Vec<Option<usize>, A>,
+    rounds: Vec<Option<usize>, A>,
+    todo: Vec<Used, A>,
+}
+
+// Marks the part. Returns how many first entries were marked before, if it has more.
+fn marked(marks: &mut [Option<usize>], part: Part) -> Option<usize> {
+    if part.list >= marks.len() {
+        return None;
+    }
+    let before = marks[part.list];
+    if let Some(first) = before
+        && part.first <= first
+    {
+        return None;
+    }
+    marks[part.list] = Some(part.first);
+    Some(before.unwrap_or(0))
+}
+
+impl<A: Allocator + Copy> Search<A> {
+    // What a command stands for is of use.
+    fn use_command(&mut self, command: &Command<'_, A>) -> Result<(), AllocError> {
+        let Command::Nested { finished, current } = command else {
+            return Ok(());
+        };
+        self.todo.push(Used::Rounds(*finished))?;
+        self.todo.push(Used::Commands(*current))?;
+        Ok(())
+    }
+
+    // The part of a list of commands is of use.
+    fn use_part(
+        &mut self,
+        lists: &[Linked<Command<'_, A>, A>],
+        part: Part,
+    ) -> Result<(), AllocError> {
+        let (Some(list), Some(from)) = (lists.get(part.list), marked(&mut self.commands, part))
+        else {
+            return Ok(());
+        };
+        let (link, own) = list.cut(part.first);
+        if let Some(link) = link {
+            self.todo.push(Used::Commands(link))?;
+        }
+        let (_link, start) = list.cut(from);
+        for index in start..own.min(list.own_len()) {
+            self.use_command(list.own_at(index))?;
+        }
+        Ok(())
+    }
+
+    // The part of a list of rounds is of use.
+    fn use_rounds(&mut self, lists: &[Linked<Part, A>], part: Part) -> Result<(), AllocError> {
+        let (Some(list), Some(from)) = (lists.get(part.list), marked(&mut self.rounds, part)) else {
+            return Ok(());
+        };
+        let (link, own) = list.cut(part.first);
+        if let Some(link) = link {
+            self.todo.push(Used::Rounds(link))?;
+        }
+        let (_link, start) = list.cut(from);
+        for index in start..own.min(list.own_len()) {
+            self.todo.push(Used::Commands(*list.own_at(index)))?;
+        }
+        Ok(())
+    }
+
+    // Marks all that is of use for what it has to look at. Each entry is looked at once.
+    fn run(
+        &mut self,
+        commands: &[Linked<Command<'_, A>, A>],
+        rounds: &[Linked<Part, A>],
+    ) -> Result<(), AllocError> {
+        for _step in 0..usize::MAX {
+            match self.todo.pop() {
+                Some(Used::Commands(part)) => self.use_part(commands, part)?,
+                Some(Used::Rounds(part)) => self.use_rounds(rounds, part)?,
+                None => return Ok(()),
+            }
+        }
+        Ok(())
+    }
+}
+
+// All lists of the extent are of use, as they are.
+fn use_first<T, A: Allocator + Copy>(
+    lists: &[Linked<T, A>],
+    count: usize,
+    of_rounds: bool,
+    todo: &mut Vec<Used, A>,
+) -> Result<(), AllocError> {
+    for (list, entries) in lists.iter().take(count).enumerate() {
+        let part = Part {
+            list,
+            first: entries.len(),
+        };
+        let used = if of_rounds {
+            Used::Rounds(part)
+        } else {
+            Used::Commands(part)
+        };
+        todo.push(used)?;
+    }
+    Ok(())
+}
+
+fn use_handles<A: Allocator + Copy>(
+    handles: &[Handle],
+    todo: &mut Vec<Used, A>,
+) -> Result<(), AllocError> {
+    for handle in handles {
+        todo.push(Used::Commands(handle.current))?;
+        todo.push(Used::Rounds(handle.finished))?;
+    }
+    Ok(())
+}
+
+// The new numbers of the lists that are marked.
+fn numbered<A: Allocator + Copy>(
+    alloc: A,
+    marks: &[Option<usize>],
+) -> Result<Vec<Option<Part>, A>, AllocError>
+    ensures { IfOk result (λ table. IsNumbered 0 table.items) }
+{
+    let mut table = Vec::new(alloc);
+    let mut list: usize = 0;
+    for mark in marks {
+        match mark {
+            Some(first) => {
+                table.push(Some(Part {
+                    list,
+                    first: *first,
+                }))?;
+                list = list.checked_add(1).ok_or(AllocError)?;
+            }
+            None => table.push(None)?,
+        }
+    }
+    Ok(table)
+}
+
+// Where the lists go of which the handles, or the extent, have something. `AllocError` if out of memory.
+pub(crate) fn found<A: Allocator + Copy>(
+    alloc: A,
+    commands: &[Linked<Command<'_, A>, A>],
+    rounds: &[Linked<Part, A>],
+    extent: Extent,
+    handles: &[Handle],
+) -> Result<Moves<A>, AllocError>
+    ensures commands { IfOk result (λ m. IsNumbered 0 m.commands.items) }
+    ensures rounds { IfOk result (λ m. IsNumbered 0 m.rounds.items) }
+{
+    let unmarked: Option<usize> = None;
+    let mut search = Search {
+        commands: vec![in alloc; unmarked; commands.len()]?,
+        rounds: vec![in alloc; unmarked; rounds.len()]?,
+        todo: Vec::new(alloc),
+    };
+    use_first(commands, extent.commands, false, &mut search.todo)?;
+    use_first(rounds, extent.rounds, true, &mut search.todo)?;
+    use_handles(handles, &mut search.todo)?;
+    search.run(commands, rounds)?;
+    Ok(Moves {
+        commands: numbered(alloc, &search.commands)?,
+        rounds: numbered(alloc, &search.rounds)?,
+    })
+}
+
+// Whether what was found may be written: what is kept stands for what is kept, and the lists of the extent stay.
+pub(crate) fn is_whole<A: Allocator>(
+    commands: &[Linked<Command<'_, A>, A>],
+    rounds: &[Linked<Part, A>],
+    extent: Extent,
+    moves: &Moves<A>,
+) -> bool
+    ensures { IsTrue result → IsWhole commands.now rounds.now extent moves.now }
+{
+    if !stay(commands, &moves.commands, extent.commands) {
+        return false;
+    }
+    if !stay(rounds, &moves.rounds, extent.rounds) {
+        return false;
+    }
+    if !are_kept(commands, moves) {
+        return false;
+    }
+    are_all_rounds_kept(rounds, moves)
+}
+
+// How many entries are kept.
+fn count_kept(table: &[Option<Part>]) -> usize {
+    let mut count: usize = 0;
+    for part in table.iter().flatten() {
+        count = count.saturating_add(part.first);
+    }
+    count
+}
+
+// How many entries the lists have.
+fn count_all<T, A: Allocator>(lists: &[Linked<T, A>]) -> usize {
+    let mut count: usize = 0;
+    for list in lists {
+        count = count.saturating_add(list.len());
+    }
+    count
+}
+
+// Whether at most half of the commands are kept.
+pub(crate) fn is_worth<A: Allocator>(
+    commands: &[Linked<Command<'_, A>, A>],
+    moves: &Moves<A>,
+) -> bool {
+    count_kept(&moves.commands) <= count_all(commands) / 2
 }

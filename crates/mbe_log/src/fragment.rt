@@ -38,7 +38,8 @@ pub enum Fragment<'a, A: Allocator = Global> {
 impl<'a, A: Allocator + Copy> Fragment<'a, A> {
     /// An equal copy. `AllocError` if out of memory.
     pub fn try_clone(&self) -> Result<Fragment<'a, A>, AllocError>
-        ensures { IfOk result (λ x. fragment_seen x ≡ fragment_seen self.now) }
+        ensures seen { IfOk result (λ x. fragment_seen x ≡ fragment_seen self.now) }
+        ensures same { IfOk result (λ x. x ≡ self.now) }
     {
         match self {
             Fragment::Empty => Ok(Fragment::Empty),

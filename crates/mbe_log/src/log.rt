@@ -46,8 +46,8 @@ ghost use Rattle.mbe_log.specs.Rows.{entry_name, entry_row, entry_rows, names_of
 ghost use Rattle.mbe_log.specs.BindingViews.{fragment_seen};
 
 use crate::bindings::{Binding, Bindings};
-use crate::compact::{Compacted, Extent};
 use crate::chain::{Linked, extend, is_within, only, places, two, unlinked};
+use crate::compact::{Compacted, Extent, found, is_whole, is_worth, kept_lists, kept_rounds};
 use crate::fragment::Fragment;
 use mbe_semantics::kinds::MetaVarKind;
 use mbe_semantics::log::Part;
@@ -61,8 +61,8 @@ use std::marker::Model;
 /// for stays. So one handle may serve many holders by `&Handle`.
 #[derive(Debug, Drop, PartialEq, Eq)]
 pub struct Handle {
-    current: Part,
-    finished: Part,
+    pub(crate) current: Part,
+    pub(crate) finished: Part,
 }
 
 impl Model for Handle {
@@ -347,18 +347,32 @@ impl<'a, A: Allocator + Copy> BindingLog<'a, A> {
     }
 
     /// A log that has what the handles stand for, and the lists of that extent as they are, where it has at most half as many
-    /// lists as this one. `AllocError` if out of memory.
+    /// commands as this one, or `anyway`. None else, as it would take memory to save little. `AllocError` if out of memory.
     pub fn compacted(
         &self,
-        _extent: Extent,
-        _handles: &[Handle],
+        extent: Extent,
+        handles: &[Handle],
+        anyway: bool,
     ) -> Result<Option<Compacted<'a, A>>, AllocError>
         ensures moved { IfOk result (λ c. IfSome c (λ c. (h k : Held) → Sends c.moves h k
             → IsMoved self.now c.log h k)) }
-        ensures kept { (first : Log) → IsKept first self.now → FitsIn _extent first
+        ensures kept { (first : Log) → IsKept first self.now → FitsIn extent first
             → IfOk result (λ c. IfSome c (λ c. IsKept first c.log)) }
     {
-        Ok(None)
+        let moves = found(self.alloc, &self.commands, &self.rounds, extent, handles)?;
+        if !anyway && !is_worth(&self.commands, &moves) {
+            return Ok(None);
+        }
+        if !is_whole(&self.commands, &self.rounds, extent, &moves) {
+            return Ok(None);
+        }
+        let log = BindingLog {
+            alloc: self.alloc,
+            commands: kept_lists(self.alloc, &self.commands, &moves)?,
+            rounds: kept_rounds(self.alloc, &self.rounds, &moves)?,
+            nested: self.nested,
+        };
+        Ok(Some(Compacted { log, moves }))
     }
 
     /// The environment of the current commands. `AllocError` if out of memory.

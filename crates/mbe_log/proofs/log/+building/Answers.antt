@@ -187,7 +187,7 @@ bind_command-returns-in_ok-try_clone-in-Fragment g t c =
     written_by c.insert.result (GivesCommand (log_of c.args.commands.now c.args.rounds.now)
     (entry_seen c.args.command.now)) (Command.binds c.in-Fragment.name (fragment_seen c.in-Fragment.fragment))
     (bound_by c.args.bindings.now) (bound_by c.insert.new.self)
-    (rw c.in_ok-try_clone-in-Fragment.ensures at
+    (rw c.in_ok-try_clone-in-Fragment.ensures.seen at
     (rw (seen-fragment c.in_ok-try_clone-in-Fragment.field-0) at c.insert.ensures.ok))
     (λ d p. subst (λ x. GivesCommand (log_of c.args.commands.now c.args.rounds.now) (entry_seen x) d) c.in-Fragment.is
     p)
