@@ -21,6 +21,7 @@ use Rattle.mbe_places.specs.declared.position.Outer.{Outer}
 use Rattle.mbe_places.specs.declared.position.Position.{Position}
 use Rattle.mbe_places.specs.declared.position.Waiting.{Waiting}
 use Rattle.mbe_matcher.specs.declared.report.Report.{Report}
+use Rattle.mbe_matcher.specs.Compacting.{PositionsStay, VisitsStay, ReportStays}
 use Rattle.mbe_matcher.specs.Positions.{Each, Shows, LeadsTo, Holds, Keeps}
 use Rattle.mbe_places.specs.After.{IsLeft}
 use Rattle.mbe_matcher.specs.Failures.{Misfit, Notes, no_notes, misfit, noted_with, AreNotes}
@@ -80,6 +81,21 @@ pass_begins i argument pattern q log outers firsts lasts r p u z e same d start 
   last_shown = subst (λ l. Each (VisitShows i (rest_at argument q) q log outers) l
       (enter (outline pattern no_account []) ∷ [])) (sym d) (start outers, tt);
   notes = notes;
+}
+
+-- so they do in another log, where positions stand for the same
+pub pass_still : {A : Type 0} (i : Input) (argument : Forest) (pattern : Ops) (q : ℕ) (old new : Log)
+    (before after : List (Outer A)) (ps qs : List (Position A)) (us vs : List (declared.Visit A)) (r s : Report A)
+    → PositionsStay old new before after ps qs → VisitsStay old new before after us vs → ReportStays old new r s
+    → PassAt i argument pattern q old before ps us r → PassAt i argument pattern q new after qs vs s
+pass_still i argument pattern q old new before after ps qs us vs r s firsts lasts report at = record {
+  os = at.os;
+  ps = at.ps;
+  before = at.before;
+  follows = at.follows;
+  first_shown = firsts (reverse at.os) at.first_shown;
+  last_shown = lasts i (rest_at argument q) q (reverse (map enter at.ps)) at.last_shown;
+  notes = report argument [] at.before at.notes;
 }
 
 -- ---- what the two walks are given

@@ -24,13 +24,14 @@
 //
 // At place 2 three positions of dot 4 meet, and of dot 2. The first 4 fails first, and the last 2
 // fails last.
-ghost use Rattle.std.specs.Prelude.{ℕ, ◌≡◌, ◌++◌, [], map, reverse, length, option_to_list, IfOk, OnOk};
+ghost use Rattle.std.specs.Prelude.{ℕ, ◌≡◌, ◌++◌, [], map, reverse, length, option_to_list, IfOk, IfSome, OnOk};
 ghost use Rattle.mbe_tt.specs.Fragments.Grammar.{Grammar};
 ghost use Rattle.mbe_tt.specs.Views.View.{trees};
 ghost use Rattle.mbe_semantics.specs.Syntax.Nullable.{Checked};
 ghost use Rattle.mbe_log.specs.Shared.{IsKept};
 ghost use Rattle.mbe_matcher.specs.Met.{AreUnmetFrom};
-ghost use Rattle.mbe_matcher.specs.Positions.{IsPosition, Holds};
+ghost use Rattle.mbe_matcher.specs.Positions.{IsPosition, Holds, Each};
+ghost use Rattle.mbe_matcher.specs.Compacting.{CarriesVisit, PositionsStay, VisitsStay, ReportStays, StartStays};
 ghost use Rattle.mbe_places.specs.Stops.{position_after};
 ghost use Rattle.mbe_semantics.specs.Bindings.Account.{Log};
 ghost use Rattle.mbe_semantics.specs.Matching.Outline.{Outline};
@@ -39,11 +40,13 @@ ghost use Rattle.mbe_matcher.specs.Failures.{ops_left, bound_by};
 ghost use Rattle.mbe_matcher.specs.Reports.{IsFullReport};
 ghost use Rattle.mbe_matcher.specs.EndsMatched.{IsFirstStackAt, AreFirstsAt, NotesFirsts, FailsBy, GivesEntered, to_enter, FirstFails, IsStop, IsLastStackAt, AreLastsAt, visit_after, AreUnmetAfter, AreAsMany, PassKeeps};
 
+use crate::compacting::{Live, Moved, Room};
 use crate::met::Met;
 use crate::places::at_start;
 use crate::report::{Report, is_noted};
 use crate::skipping::dots_of;
 use crate::steps::{push_some, steps};
+use mbe_log::compact::Extent;
 use mbe_log::log::{BindingLog, Handle, again};
 use mbe_ops::ops::{MetaTemplate, Op};
 use mbe_places::position::{Outer, Position, Waiting};
@@ -104,7 +107,6 @@ impl<'a, A: Allocator + Copy> Pass<'a, A> {
     ghost use Rattle.mbe_tt.specs.Trees.Tree.{Forest};
     ghost use Rattle.mbe_semantics.specs.Readings.Input.{Input};
     ghost use Rattle.mbe_semantics.specs.Bindings.Account.{Commands};
-    ghost use Rattle.mbe_matcher.specs.Positions.{Each};
     ghost use Rattle.mbe_matcher.specs.Failures.{Misfit as Misfits, Notes, no_notes, misfit, noted_with};
     ghost use Rattle.mbe_matcher.specs.Reports.{IsReportOf};
     ghost use Rattle.mbe_matcher.specs.TwoEnds.{only_first};
@@ -364,6 +366,124 @@ fn come_last<'a, A: Allocator>(
     Ok(())
 }
 
+// What the positions on a stack have is live. All of them are to be entered.
+fn live_visits<A: Allocator + Copy>(
+    visits: &[Visit<'_, A>],
+    live: &mut Live<A>,
+) -> Result<(), AllocError> {
+    for visit in visits {
+        match visit {
+            Visit::Enter(position) => live.position(position)?,
+            Visit::Leave(_) => {}
+        }
+    }
+    Ok(())
+}
+
+// The same stack in another log, if what the positions have is there.
+fn moved_visits<'a, A: Allocator + Copy>(
+    alloc: A,
+    moved: &Moved<'a, A>,
+    visits: &[Visit<'a, A>],
+) -> Result<Option<Vec<Visit<'a, A>, A>>, AllocError>
+    ensures { IfOk result (λ m. IfSome m (λ vs.
+        Each (CarriesVisit moved.now) visits.now vs.items)) }
+{
+    let mut entered = Vec::new(alloc);
+    for visit in visits {
+        let Visit::Enter(position) = visit else {
+            return Ok(None);
+        };
+        let Some(next) = moved.position(position) else {
+            return Ok(None);
+        };
+        entered.push(Visit::Enter(next))?;
+    }
+    Ok(Some(entered))
+}
+
+impl<'a, A: Allocator + Copy> Pass<'a, A> {
+    // What is live where these positions are still to be followed.
+    fn live(
+        &self,
+        alloc: A,
+        firsts: &[Position<'a, A>],
+        lasts: &[Visit<'a, A>],
+    ) -> Result<Live<A>, AllocError> {
+        let mut live = Live::new(alloc, self.outers.len())?;
+        live.positions(firsts)?;
+        live_visits(lasts, &mut live)?;
+        live.rest(&self.outers, &self.report)?;
+        Ok(live)
+    }
+
+    // The pass goes on with what is live, if that is much less.
+    #[inline(never)]
+    fn compact(
+        &mut self,
+        alloc: A,
+        log: &mut BindingLog<'a, A>,
+        firsts: &mut Vec<Position<'a, A>, A>,
+        lasts: &mut Vec<Visit<'a, A>, A>,
+        extent: Extent,
+    ) -> Result<(), AllocError>
+        ensures firsts { OnOk result (PositionsStay log.old log.new self.old.outers.items
+            self.new.outers.items firsts.old.items firsts.new.items) }
+        ensures lasts { OnOk result (VisitsStay log.old log.new self.old.outers.items
+            self.new.outers.items lasts.old.items lasts.new.items) }
+        ensures report { OnOk result (ReportStays log.old log.new self.old.report self.new.report) }
+        ensures start { OnOk result (StartStays extent log.old log.new) }
+        ensures first_met { OnOk result (self.new.first_met ≡ self.old.first_met) }
+        ensures last_met { OnOk result (self.new.last_met ≡ self.old.last_met) }
+    {
+        let live = self.live(alloc, firsts, lasts)?;
+        let Some(moved) = Moved::new(alloc, log, &self.outers, extent, &live)? else {
+            return Ok(());
+        };
+        let Some(first) = moved.positions(alloc, firsts)? else {
+            return Ok(());
+        };
+        let Some(last) = moved_visits(alloc, &moved, lasts)? else {
+            return Ok(());
+        };
+        if !self.report.follow(&moved.moves) {
+            return Ok(());
+        }
+        *firsts = first;
+        *lasts = last;
+        self.outers = moved.outers;
+        *log = moved.log;
+        Ok(())
+    }
+
+    // After a place: the pass goes on with what is live, where much was written.
+    #[inline(always)]
+    fn tidy(
+        &mut self,
+        alloc: A,
+        log: &mut BindingLog<'a, A>,
+        firsts: &mut Vec<Position<'a, A>, A>,
+        lasts: &mut Vec<Visit<'a, A>, A>,
+        room: &mut Room,
+    ) -> Result<(), AllocError>
+        ensures firsts { OnOk result (PositionsStay log.old log.new self.old.outers.items
+            self.new.outers.items firsts.old.items firsts.new.items) }
+        ensures lasts { OnOk result (VisitsStay log.old log.new self.old.outers.items
+            self.new.outers.items lasts.old.items lasts.new.items) }
+        ensures report { OnOk result (ReportStays log.old log.new self.old.report self.new.report) }
+        ensures start { OnOk result (StartStays room.old.extent log.old log.new) }
+        ensures extent { OnOk result (room.new.extent ≡ room.old.extent) }
+        ensures first_met { OnOk result (self.new.first_met ≡ self.old.first_met) }
+        ensures last_met { OnOk result (self.new.last_met ≡ self.old.last_met) }
+    {
+        if room.is_over(log, &self.outers) {
+            self.compact(alloc, log, firsts, lasts, room.extent)?;
+            room.grow(log, &self.outers);
+        }
+        Ok(())
+    }
+}
+
 // What all positions report, up to the place where the match stops.
 pub(crate) fn report_up_to<'a, A: Allocator + Copy, G: FragmentGrammar>(
     alloc: A,
@@ -381,6 +501,7 @@ pub(crate) fn report_up_to<'a, A: Allocator + Copy, G: FragmentGrammar>(
     ensures kept { OnOk result (IsKept log.old log.new) }
 {
     let dots = dots_of(&pattern.0).ok_or(AllocError)?;
+    let mut room = Room::new(log);
     let mut pass = Pass::new(alloc, dots)?;
     let position = at_start(pattern, dots, log)?;
     let mut firsts = Vec::new(alloc);
@@ -400,5 +521,6 @@ pub(crate) fn report_up_to<'a, A: Allocator + Copy, G: FragmentGrammar>(
         source = after_step(source, &first.waiting[0])?;
         come_first(&mut last.waiting, &mut firsts)?;
         come_last(&mut first.waiting, &mut lasts)?;
+        pass.tidy(alloc, log, &mut firsts, &mut lasts, &mut room)?;
     }
 }

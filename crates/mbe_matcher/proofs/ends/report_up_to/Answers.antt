@@ -4,6 +4,8 @@ use Rattle.mbe_tt.specs.Trees.Tree.{flat_len, rest_at}
 use Rattle.mbe_tt.specs.Views.View.{trees}
 use Rattle.mbe_semantics.specs.Matching.Dots.{dots}
 use Rattle.mbe_semantics.specs.Readings.Input.{input_of}
+use Rattle.mbe_log.specs.declared.compact.Extent.{Extent}
+use Rattle.mbe_log.specs.Compacting.{FitsIn}
 use Rattle.mbe_log.specs.Shared.{IsKept}
 use Rattle.mbe_log.proofs.ClientLemmas.{kept-on}
 use Rattle.mbe_ops.specs.Views.{ops_of, template_of}
@@ -15,7 +17,7 @@ use Rattle.mbe_matcher.specs.Reports.{IsReportOf, IsFullReport}
 use Rattle.mbe_places.specs.Stops.{position_after}
 use Rattle.mbe_matcher.specs.TwoEnds.{kept_noted}
 use Rattle.mbe_matcher.specs.EndsMatched.{visit_after, FirstFails, AreFirsts, AreLasts, IsFirstStack, IsLastStack, IsStop}
-use Rattle.mbe_matcher.proofs.EndsPass.{PassAt, AtPlace, Goes, pass_begins, first_stack, last_stack, noted_at_stop, goes_some, goes_by, pass_notes, pass_goes}
+use Rattle.mbe_matcher.proofs.EndsPass.{PassAt, AtPlace, Goes, pass_begins, pass_still, first_stack, last_stack, noted_at_stop, goes_some, goes_by, pass_notes, pass_goes}
 use Rattle.mbe_matcher.proofs.ends.report_up_to.Goals as goal
 use Rattle.mbe_matcher.proofs.ends.report_up_to.Goals.{At-loop-source, In_ok-first_of_each, In_ok-last_of_each, After-after_place, Else-source-stop}
 
@@ -44,6 +46,7 @@ loop-source-init g c =
       first_unmet = λ q l. p.first_unmet q (omega arith);
       last_unmet = λ q l. p.last_unmet q (omega arith);
       kept = c.in_ok-position.ensures.kept;
+      start = c.new-room.ensures;
     }
 
 -- ---- at a place
@@ -226,6 +229,7 @@ loop-source-preserved g c =
     let there = c.in_ok-source.ensures.place in
     let some = t.some in
     let near = t.within in
+    let tidied = c.in_ok-tidy.ensures in
     let come_firsts = c.in_ok-come_first.ensures
     ∙ ap (λ l. l ++ reverse (map position_after c.last_of_each.new.lasts.waiting.items))
     c.in_ok-first_of_each.ensures.done in
@@ -240,21 +244,29 @@ loop-source-preserved g c =
     c.in_ok-last_of_each.ensures.kept (are_firsts g here.In_ok-first_of_each).goes_on
     (are_lasts g here.In_ok-last_of_each).goes_on come_firsts come_lasts t.wide there
     (noted g here.After-after_place) in
-    let first_met = c.after_place.ensures.first_met ∙ c.in_ok-last_of_each.ensures.other in
+    let here_now : PassAt i f pat c.in_ok-source.source.place c.last_of_each.new.log c.after_place.new.self.outers.items
+    c.come_first.new.stack.items c.come_last.new.stack.items c.after_place.new.self.report =
+    rw c.after_place.ensures.outers comes in
+    let still = pass_still i f pat c.in_ok-source.source.place c.last_of_each.new.log c.tidy.new.log
+    c.after_place.new.self.outers.items c.tidy.new.self.outers.items c.come_first.new.stack.items
+    c.tidy.new.firsts.items c.come_last.new.stack.items c.tidy.new.lasts.items c.after_place.new.self.report
+    c.tidy.new.self.report tidied.firsts tidied.lasts tidied.report here_now in
+    let first_met = tidied.first_met ∙ c.after_place.ensures.first_met ∙ c.in_ok-last_of_each.ensures.other in
+    let last_met = tidied.last_met ∙ c.after_place.ensures.last_met in
     record {
-      comes = subst (λ x. PassAt (input_of h (trees x)) (trees x) pat c.in_ok-source.source.place c.last_of_each.new.log
-          c.after_place.new.self.outers.items
-          c.come_first.new.stack.items c.come_last.new.stack.items c.after_place.new.self.report)
-          (sym c.in_ok-source.ensures.whole) (rw c.after_place.ensures.outers comes);
+      comes = subst (λ x. PassAt (input_of h (trees x)) (trees x) pat c.in_ok-source.source.place c.tidy.new.log
+          c.tidy.new.self.outers.items c.tidy.new.firsts.items c.tidy.new.lasts.items c.tidy.new.self.report)
+          (sym c.in_ok-source.ensures.whole) still;
       whole = c.in_ok-source.ensures.whole ∙ inv.whole;
       within = omega (arith, there, near);
       first_size = ap (λ (m : Met g.row.A.Denot). length m.places.items) first_met ∙ c.in_ok-first_of_each.ensures.size
           ∙ inv.first_size;
-      last_size = ap (λ (m : Met g.row.A.Denot). length m.places.items) c.after_place.ensures.last_met
+      last_size = ap (λ (m : Met g.row.A.Denot). length m.places.items) last_met
           ∙ c.in_ok-last_of_each.ensures.size ∙ last_size g here.In_ok-first_of_each;
       first_unmet = λ q l. subst (λ (m : Met g.row.A.Denot). AreUnmetFrom m.places.items (s.place + 1)) (sym first_met)
           c.in_ok-first_of_each.ensures.unmet q (omega (arith, l, there, some));
       last_unmet = λ q l. subst (λ (m : Met g.row.A.Denot). AreUnmetFrom m.places.items (s.place + 1))
-          (sym c.after_place.ensures.last_met) c.in_ok-last_of_each.ensures.unmet q (omega (arith, l, there, some));
-      kept = kept g here.In_ok-last_of_each;
+          (sym last_met) c.in_ok-last_of_each.ensures.unmet q (omega (arith, l, there, some));
+      kept = tidied.start c.args.log.now (kept g here.In_ok-last_of_each) inv.start;
+      start = subst (λ (e : Extent). FitsIn e c.args.log.now) (sym tidied.extent) inv.start;
     }

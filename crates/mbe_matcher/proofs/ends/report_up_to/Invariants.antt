@@ -2,6 +2,7 @@ use Rattle.std.proofs.Common.{◌≡◌, ◌-◌, ◌≤◌, length}
 use Rattle.mbe_tt.specs.Views.View.{trees}
 use Rattle.mbe_semantics.specs.Matching.Dots.{dots}
 use Rattle.mbe_semantics.specs.Readings.Input.{input_of}
+use Rattle.mbe_log.specs.Compacting.{FitsIn}
 use Rattle.mbe_log.specs.Shared.{IsKept}
 use Rattle.mbe_ops.specs.Views.{template_of}
 use Rattle.mbe_matcher.specs.Met.{AreUnmetFrom}
@@ -20,6 +21,7 @@ invariant-loop-source g l = record {
   first_unmet : AreUnmetFrom l.pass.first_met.places.items l.source.place;
   last_unmet : AreUnmetFrom l.pass.last_met.places.items l.source.place;
   kept : IsKept l.fn.log l.log;
+  start : FitsIn l.room.extent l.fn.log;
 }
 
 abbrev pub decreases-loop-source : goal.decreases-loop-source
