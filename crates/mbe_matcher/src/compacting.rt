@@ -11,7 +11,7 @@
 // 4. only if all of them could be, they and that log take the place of what there was.
 //
 // Nothing is proved of what is collected: what was left out can't be made anew, and then the match
-// goes on with what it has. So it does where less than half of the log would go.
+// goes on with what it has. So it does where less than half of the log and of the open items would go.
 ghost use Rattle.std.specs.Prelude.{ℕ, ◌≡◌, ◌++◌, ◌∷◌, [], length, option_map, option_to_list, IfOk, OnOk, IfSome, Some};
 ghost use Rattle.mbe_semantics.specs.Bindings.Account.{Log};
 ghost use Rattle.mbe_log.specs.Compacting.{FitsIn};
@@ -25,15 +25,16 @@ use mbe_log::log::{BindingLog, Handle, again};
 use mbe_places::position::{Outer, Position, Rounds, Todo};
 use std::alloc::{AllocError, Allocator, Global};
 
-// So many lists of commands and open items are never looked at: most matches make fewer.
-const FEW: usize = 262_144;
+// So many positions are followed before the first look. Most matches follow fewer. Each makes an open item or two lists of
+// the log at most: some 200 bytes.
+const FEW: usize = 524_288;
 
-// How much a match may write before it looks at what is live.
+// How far a match may go before it looks at what is live.
 #[derive(Drop)]
 pub(crate) struct Room {
     // The lists that were there at its start: they stay as they are.
     pub(crate) extent: Extent,
-    // How many lists of commands and open items there may be.
+    // How many positions may be followed before the next look.
     most: usize,
 }
 
@@ -54,17 +55,13 @@ impl Room {
         }
     }
 
-    // Whether there is more than that.
+    // Whether it is time for a look, after so many positions.
     #[inline(always)]
-    pub(crate) fn is_over<A: Allocator + Copy>(
-        &self,
-        log: &BindingLog<'_, A>,
-        outers: &[Outer<'_, A>],
-    ) -> bool {
-        made(log, outers) > self.most
+    pub(crate) fn is_over(&self, followed: usize) -> bool {
+        followed > self.most
     }
 
-    // What is there now was looked at. The next look is where there is twice as much.
+    // What is there now was looked at. The next look is after twice as many positions.
     pub(crate) fn grow<A: Allocator + Copy>(
         &mut self,
         log: &BindingLog<'_, A>,
@@ -154,6 +151,21 @@ impl<A: Allocator + Copy> Live<A> {
         self.report(report)
     }
 
+    // Whether most of the open items go, and they are as many as the log's lists.
+    fn is_mostly_dropped(&self, log: &BindingLog<'_, A>) -> bool {
+        self.count_marked() <= self.marks.len() / 2 && log.extent().commands <= self.marks.len()
+    }
+
+    fn count_marked(&self) -> usize {
+        let mut count: usize = 0;
+        for mark in &self.marks {
+            if *mark {
+                count = count.saturating_add(1);
+            }
+        }
+        count
+    }
+
     fn is_marked(&self, item: usize) -> bool {
         match self.marks.get(item) {
             None => false,
@@ -173,7 +185,7 @@ pub(crate) struct Moved<'a, A: Allocator = Global> {
 }
 
 impl<'a, A: Allocator + Copy> Moved<'a, A> {
-    // What is live. None where less than half of the log would go.
+    // What is live. None where less than half would go.
     pub(crate) fn new(
         alloc: A,
         log: &BindingLog<'a, A>,
@@ -184,7 +196,8 @@ impl<'a, A: Allocator + Copy> Moved<'a, A> {
         ensures carries { IfOk result (λ m. IfSome m (Carries log.now outers.now)) }
         ensures start { IfOk result (λ m. IfSome m (λ m. StartStays extent log.now m.log)) }
     {
-        let Some(compacted) = log.compacted(extent, &live.handles)? else {
+        let anyway = live.is_mostly_dropped(log);
+        let Some(compacted) = log.compacted(extent, &live.handles, anyway)? else {
             return Ok(None);
         };
         let Compacted { log, moves } = compacted;
@@ -377,8 +390,9 @@ pub(crate) fn tidy<'a, A: Allocator + Copy>(
     ensures counts { OnOk result (state.new.counts ≡ state.old.counts) }
     ensures dropped { OnOk result (state.new.has_dropped ≡ state.old.has_dropped) }
 {
-    if room.is_over(log, &state.outers) {
+    if room.is_over(state.followed) {
         compact(alloc, log, state, todo, room.extent)?;
+        state.followed = 0;
         room.grow(log, &state.outers);
     }
     Ok(())

@@ -99,6 +99,8 @@ struct Pass<'a, A: Allocator = Global> {
     first_met: Met<A>,
     last_met: Met<A>,
     report: Report<'a, A>,
+    // How many positions were followed since the pass last looked at what is live.
+    followed: usize,
 }
 
 impl<'a, A: Allocator + Copy> Pass<'a, A> {
@@ -125,6 +127,7 @@ impl<'a, A: Allocator + Copy> Pass<'a, A> {
             first_met: Met::new(alloc, dots)?,
             last_met: Met::new(alloc, dots)?,
             report: Report::new(),
+            followed: 0,
         })
     }
 
@@ -192,6 +195,7 @@ fn first_of_each<'a, A: Allocator + Copy, G: FragmentGrammar>(
         if !pass.first_met.takes(position.number, source.place) {
             continue;
         }
+        pass.followed = pass.followed.saturating_add(1);
         let dot = position.dot;
         let handle = again(&position.handle);
         let found = steps(grammar, source, log, &mut pass.outers, position)?;
@@ -333,6 +337,7 @@ fn last_of_each<'a, A: Allocator + Copy, G: FragmentGrammar>(
         if !pass.last_met.takes(position.number, source.place) {
             continue;
         }
+        pass.followed = pass.followed.saturating_add(1);
         enter(grammar, source, log, &mut pass.outers, position, todo)?;
     }
     Ok(())
@@ -476,8 +481,9 @@ impl<'a, A: Allocator + Copy> Pass<'a, A> {
         ensures first_met { OnOk result (self.new.first_met ≡ self.old.first_met) }
         ensures last_met { OnOk result (self.new.last_met ≡ self.old.last_met) }
     {
-        if room.is_over(log, &self.outers) {
+        if room.is_over(self.followed) {
             self.compact(alloc, log, firsts, lasts, room.extent)?;
+            self.followed = 0;
             room.grow(log, &self.outers);
         }
         Ok(())

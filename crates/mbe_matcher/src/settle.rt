@@ -51,6 +51,8 @@ pub(crate) struct State<'a, A: Allocator = Global> {
     // Whether a third position of a dot was dropped at some place. Until then the positions that are
     // followed are all that there are.
     pub(crate) has_dropped: bool,
+    // How many positions were followed since the match last looked at what is live.
+    pub(crate) followed: usize,
 }
 
 impl<'a, A: Allocator + Copy> State<'a, A> {
@@ -67,6 +69,7 @@ impl<'a, A: Allocator + Copy> State<'a, A> {
             counts: Counts::new(alloc, dots)?,
             report: Report::new(),
             has_dropped: false,
+            followed: 0,
         })
     }
 }
@@ -116,6 +119,7 @@ pub(crate) fn settle<'a, A: Allocator + Copy, G: FragmentGrammar>(
             state.has_dropped = true;
             continue;
         }
+        state.followed = state.followed.saturating_add(1);
         let dot = position.dot;
         let handle = again(&position.handle);
         let found = steps(grammar, source, log, &mut state.outers, position)?;

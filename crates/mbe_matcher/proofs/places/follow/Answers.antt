@@ -204,6 +204,7 @@ passed g c = record {
   counts = c.places.state.counts;
   report = c.places.state.report;
   has_dropped = c.places.state.has_dropped;
+  followed = c.places.state.followed;
 }
 
 module _ (g : _) (c : In_ok-settle g) where
