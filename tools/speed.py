@@ -27,8 +27,8 @@ call, so that none is matched, less a run that only lexes the same text. A token
 With --calls the table is of calls that fail and calls that fit: millions of instructions of a whole run, and of matching and writing alone,
 which is what the run takes more than one in which no rule has the style of the call. ORIGINAL may be an older `mbex`.
 
-With --optional the table is of N times `$(a)?` on N times `a`: the most memory of a run in megabytes, and its seconds. A program that
-doesn't end with an answer has "none".
+With --optional the tables are of N times `$(a)?` on N times `a`, and of N parts `$(k $x:ident)?`, each with its own `k` and `$x`, on as many times
+`k v`: the most memory of a run in megabytes, and its seconds. A program that doesn't end with an answer has "none".
 
 With --lexing the table is of lexing alone: a run whose only rule takes nothing, on a text of about N bytes, less one on no text. A token is
 a flat token of the text, of which a literal is one.
@@ -303,11 +303,13 @@ def optional(both, sizes):
         memory, seconds = it.stderr.split()[-2:]
         return ["none" if it.returncode else f"{int(memory) / 1024:,.0f}", seconds.decode()]
 
-    print("| n | Megabytes | Seconds | Original's megabytes | Original's seconds |")
-    print("|---|---|---|---|---|")
-    for size in sizes:
-        taken = [value for it in both for value in run(it, f"({'$(a)? ' * size}) => {{}}", "a " * size)]
-        print("| " + " | ".join([f"{size:,}", *taken]) + " |", flush=True)
+    for part, given in (("$(a)? ", "a "), ("$(k{0} $x{0}:ident)? ", "k{0} v ")):
+        print(f"\n{part}\n\n| n | Megabytes | Seconds | Original's megabytes | Original's seconds |")
+        print("|---|---|---|---|---|")
+        for size in sizes:
+            pattern, argument = ("".join(text.format(number) for number in range(size)) for text in (part, given))
+            taken = [value for it in both for value in run(it, f"({pattern}) => {{}}", argument)]
+            print("| " + " | ".join([f"{size:,}", *taken]) + " |", flush=True)
 
 
 def function(number):

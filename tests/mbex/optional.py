@@ -8,10 +8,10 @@ from programs import write
 
 # A part, with its number, and what a template writes of it; what an argument has of it, and what is printed of that, with its
 # bytes, the last before a blank; how many parts, and how many megabytes a run may hold. If what no position needs any more were
-# kept, it would hold 841 and 850.
+# kept, they would hold 841 and 116.
 PARTS = (
     ("$(a)? ", "", "a ", "", 2000, 150),
-    ("$(k{0} $x{0}:ident)? ", "$($x{0})? ", "k{0} v ", "  IDENT   v 1@{0}..{1}\n", 2000, 150),
+    ("$(k{0} $x{0}:ident)? ", "$($x{0})? ", "k{0} v ", "  IDENT   v 1@{0}..{1}\n", 2000, 60),
 )
 
 

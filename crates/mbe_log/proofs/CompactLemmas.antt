@@ -3,13 +3,13 @@ use Rattle.std.specs.Prelude.{◌≡◌, ◌≤◌, ◌<◌, ◌+◌, ◌-◌, �
 use Rattle.std.proofs.Common.{arith, sym, ap, subst, ◌∙◌}
 use Rattle.std.proofs.lemmas.List.{length-take-le, take-map, take_all}
 use Rattle.mbe_semantics.specs.declared.log.Part.{Part}
-use Rattle.mbe_semantics.specs.Bindings.Account.{Command, Commands, CommandRounds, no_commands, no_command_rounds, Entry, RoundEntry, Log, Handle, Order, IsIn, HasEntriesOf, IsAccount, IsLive, Gives, GivesRounds, PartGives, PartGivesRounds, gives_nothing, gives_binding, gives_empty, gives_skip, gives_missing, gives_nested, gives_link, gives_no_rounds, gives_round, gives_linked_rounds, part_gives, part_gives_rounds, IsBelow, AreRoundsBelow, NamesLower, RoundNamesLower, IsOrdered}
+use Rattle.mbe_semantics.specs.Bindings.Account.{Commands, CommandRounds, no_commands, no_command_rounds, Entry, RoundEntry, Log, Handle, Order, IsIn, HasEntriesOf, IsLive, Gives, GivesRounds, PartGives, PartGivesRounds, gives_nothing, gives_binding, gives_empty, gives_skip, gives_missing, gives_nested, gives_link, gives_no_rounds, gives_round, gives_linked_rounds, part_gives, part_gives_rounds, IsBelow, AreRoundsBelow, NamesLower, RoundNamesLower, IsOrdered}
 use Rattle.mbe_log.specs.declared.log.Command as code
 use Rattle.mbe_log.specs.Chain.{Chain, IsChained, IsWithin, chain_len, link_len, link_in, own_in}
 use Rattle.mbe_log.specs.Entries.{commands_seen, rounds_seen, first_link, first_round_link, entry_seen, log_of}
 use Rattle.mbe_log.specs.Accounts.{Every}
 use Rattle.mbe_log.specs.Shared.{IsKept}
-use Rattle.mbe_log.specs.Sound.{depth, rounds_depth, IsGrounded, IsSound, HasOrder}
+use Rattle.mbe_log.specs.Sound.{depth, rounds_depth, IsGrounded, IsSound}
 use Rattle.mbe_log.specs.Compacting.{Table, moved, number_in, IsKeptIn, IsMoved, Sends, FitsIn}
 use Rattle.mbe_log.specs.KeptLists.{moved_entry, moved_round, StandsForKept, RoundStandsForKept, moved_command, CommandStandsForKept, cut_list, IsCutKept, kept_lists, AreCutKept, IsNumbered, Stay, IsWhole}
 use Rattle.mbe_log.specs.declared.compact.Extent.{Extent}
@@ -30,7 +30,8 @@ origin (Some k ∷ t) (suc m) = suc (origin t m)
 
 abbrev IsAt : {T : Type 0} → Table → (T → T) → Table → List (Chain T) → ℕ → ℕ → Part → Chain T → Type 0
 IsAt all f t ls n i k l =
-    (m : ℕ) × (k.list ≡ n + m) × (slice_get (kept_lists all f t ls) m ≡ Some (cut_list all f k.first l)) × (origin t m ≡ i)
+    (m : ℕ) × (k.list ≡ n + m) × (slice_get (kept_lists all f t ls) m ≡ Some (cut_list all f k.first l))
+        × (origin t m ≡ i)
 
 -- where a list that is kept is found
 kept_at : {T : Type 0} (all : Table) (f : T → T) (t : Table) (ls : List (Chain T)) (n i : ℕ) (k : Part) (l : Chain T)
@@ -93,7 +94,8 @@ rises (Some p ∷ t) n zero (suc j) k q w s e h =
 rises (Some p ∷ t) n (suc i) (suc j) k q w s e h = rises t (suc n) i j k q w.1 s e (omega (arith, h))
 
 -- the new number of a list that is kept
-number_of : (table : Table) (p : Part) (k : Part) → slice_get table p.list ≡ Some (Some k) → (moved table p).list ≡ k.list
+number_of : (table : Table) (p : Part) (k : Part) → slice_get table p.list ≡ Some (Some k) → (moved table p).list
+    ≡ k.list
 number_of table p k s = ap number_in s
 
 -- ---- a list's first entries
@@ -122,7 +124,8 @@ cut_len {T} table f first l h = go l.link l.own first h
         omega (arith, a)
     go (Some p) own (suc n) h =
         let m : suc n - 1 ≡ n = omega arith in
-        let a = lens (take (suc n - 1) own) ∙ ap (λ j. length (take j own)) m ∙ length-take-le n own (omega (arith, h)) in
+        let a = lens (take (suc n - 1) own) ∙ ap (λ j. length (take j own)) m
+            ∙ length-take-le n own (omega (arith, h)) in
         omega (arith, a)
 
 module _ (c r : Table) where
@@ -134,7 +137,8 @@ module _ (c r : Table) where
     seen-moved (code.TheVariants.Missing name kind) = refl
     seen-moved (code.TheVariants.Nested finished current) = refl
 
-    fused : (xs : List (code.Command A)) → map entry_seen (map (moved_command c r) xs) ≡ map (moved_entry c r) (map entry_seen xs)
+    fused : (xs : List (code.Command A)) → map entry_seen (map (moved_command c r) xs)
+        ≡ map (moved_entry c r) (map entry_seen xs)
     fused [] = refl
     fused (x ∷ xs) = ap (λ y. y ∷ map entry_seen (map (moved_command c r) xs)) (seen-moved x)
         ∙ ap (λ t. moved_entry c r (entry_seen x) ∷ t) (fused xs)
@@ -144,7 +148,8 @@ module _ (c r : Table) where
     cut_seen first l = go l.link l.own first
       where
         go : (k : Option Part) (own : List (code.Command A)) (first : ℕ)
-            → first_link (option_map (moved c) (link_in k first)) ++ map entry_seen (map (moved_command c r) (take (own_in k first) own))
+            → first_link (option_map (moved c) (link_in k first)) ++ map entry_seen (map (moved_command c r) (take
+                (own_in k first) own))
             ≡ map (moved_entry c r) (take first (first_link k ++ map entry_seen own))
         go None own first = fused (take first own) ∙ ap (map (moved_entry c r)) (sym (take-map entry_seen first own))
         go (Some p) own zero = ap (λ t. map entry_seen (map (moved_command c r) t)) (take-none own)
@@ -168,13 +173,15 @@ module _ (c r : Table) where
 
         go : (k : Option Part) (own : List (code.Command A)) (first : ℕ)
             → ((q : Part) → link_in k first ≡ Some q → IsKeptIn c q)
-            → ((j : ℕ) (x : code.Command A) → j < own_in k first → slice_get own j ≡ Some x → CommandStandsForKept c r x)
+            → ((j : ℕ) (x : code.Command A) → j < own_in k first → slice_get own j ≡ Some x
+                → CommandStandsForKept c r x)
             → Every (StandsForKept c r) (take first (first_link k ++ map entry_seen own))
         go None own first a b = all own first b
         go (Some p) own zero a b = tt
         go (Some p) own (suc n) a b = (a p refl, all own n (λ j x e s. b j x (omega (arith, e)) s))
 
-  fused_rounds : (xs : List Part) → map RoundEntry.finishes (map (moved c) xs) ≡ map (moved_round c r) (map RoundEntry.finishes xs)
+  fused_rounds : (xs : List Part) → map RoundEntry.finishes (map (moved c) xs)
+      ≡ map (moved_round c r) (map RoundEntry.finishes xs)
   fused_rounds [] = refl
   fused_rounds (x ∷ xs) = ap (λ t. RoundEntry.finishes (moved c x) ∷ t) (fused_rounds xs)
 
@@ -183,7 +190,8 @@ module _ (c r : Table) where
   cut_rounds_seen first l = go l.link l.own first
     where
       go : (k : Option Part) (own : List Part) (first : ℕ)
-          → first_round_link (option_map (moved r) (link_in k first)) ++ map RoundEntry.finishes (map (moved c) (take (own_in k first) own))
+          → first_round_link (option_map (moved r) (link_in k first)) ++ map RoundEntry.finishes (map (moved c)
+              (take (own_in k first) own))
           ≡ map (moved_round c r) (take first (first_round_link k ++ map RoundEntry.finishes own))
       go None own first = fused_rounds (take first own)
           ∙ ap (map (moved_round c r)) (sym (take-map RoundEntry.finishes first own))
@@ -222,7 +230,8 @@ every-here P [] i x h s = absurd (let z : ⊥ = cc in z)
 every-here P (y ∷ xs) zero x h s = subst P (let e : y ≡ x = cc in e) h.0
 every-here P (y ∷ xs) (suc i) x h s = every-here P xs i x h.1 s
 
-taken-there : {X : Type 0} (n : ℕ) (xs : List X) (i : ℕ) (x : X) → slice_get (take n xs) i ≡ Some x → slice_get xs i ≡ Some x
+taken-there : {X : Type 0} (n : ℕ) (xs : List X) (i : ℕ) (x : X) → slice_get (take n xs) i ≡ Some x → slice_get xs i
+    ≡ Some x
 taken-there zero xs i x s =
     absurd (let t = subst (λ ys. slice_get ys i ≡ Some x) (take-none xs) s in let z : ⊥ = cc in z)
 taken-there (suc n) [] i x s = s
@@ -248,7 +257,8 @@ module _ (c r : Table) (old new : Log) (w : IsRenumbered c r old new) where
     gives (gives_binding cs name x es all h) k = gives_binding cs name x (map (moved_entry c r) es) all (gives h k.1)
     gives (gives_empty cs name es all h) k = gives_empty cs name (map (moved_entry c r) es) all (gives h k.1)
     gives (gives_skip cs name es all h) k = gives_skip cs name (map (moved_entry c r) es) all (gives h k.1)
-    gives (gives_missing cs name kind es all h) k = gives_missing cs name kind (map (moved_entry c r) es) all (gives h k.1)
+    gives (gives_missing cs name kind es all h) k = gives_missing cs name kind (map (moved_entry c r) es) all (gives
+        h k.1)
     gives (gives_nested cs finished current es rs ds all p q h) k =
         gives_nested cs (moved r finished) (moved c current) (map (moved_entry c r) es) rs ds all (rounds_part p k.0.0)
         (part q k.0.1) (gives h k.1)
@@ -363,7 +373,8 @@ module _ {A : Type 0} (C : List (Chain (code.Command A))) (R : List (Chain Part)
             ∙ ap (map (moved_entry c r)) (take-fewer p.first k.0.first (commands_seen l.0) k.2
             ∙ ap (take p.first) (sym e)),
         subst (λ xs. Every (StandsForKept c r) (take p.first xs)) (sym e)
-            (every-fewer (StandsForKept c r) p.first k.0.first (commands_seen l.0) k.2 (cut_kept c r k.0.first l.0 l.2)),
+            (every-fewer (StandsForKept c r) p.first k.0.first (commands_seen l.0) k.2 (cut_kept c r k.0.first l.0
+                l.2)),
       )
 
   renumbered_rounds : (p : Part) (es : List RoundEntry) → IsKeptIn r p → slice_get old_log.rounds p.list ≡ Some es
@@ -428,7 +439,8 @@ module _ {A : Type 0} (C : List (Chain (code.Command A))) (R : List (Chain Part)
       (d.0, subst (λ xs. Gives new_log no_commands xs d.0) (ap (take p.first) y ∙ take_all p.first fs long) x.2, d.2)
     where
       entries_of_new : {cs : Commands} {q : Part} → PartGives new_log no_commands q cs
-          → (es : List Entry) × (slice_get new_log.commands q.list ≡ Some es) × Gives new_log no_commands (take q.first es) cs
+          → (es : List Entry) × (slice_get new_log.commands q.list ≡ Some es)
+              × Gives new_log no_commands (take q.first es) cs
       entries_of_new (part_gives ds q all es s l h) = (es, s, h)
 
   grounded_rounds : (most : ℕ) → IsGrounded old_log most → (j : ℕ) (fs : List RoundEntry)
@@ -583,7 +595,8 @@ module _ {A : Type 0} (C : List (Chain (code.Command A))) (R : List (Chain Part)
         let same = ap length e in
         let room = i.2 in (
           (record { list = p.list; first = chain_len s.0 }, s.2, omega (arith, len, same, room)),
-          ap (λ n. record { list = n; first = p.first }) (number_of c p (record { list = p.list; first = chain_len s.0 }) s.2),
+          ap (λ n. record { list = n; first = p.first }) (number_of c p (record { list = p.list; first = chain_len
+              s.0 }) s.2),
         )
 
     still_rounds : (p : Part) → p.list < extent.rounds → IsIn old_log.rounds p → IsKeptIn r p × (moved r p ≡ p)
@@ -595,7 +608,8 @@ module _ {A : Type 0} (C : List (Chain (code.Command A))) (R : List (Chain Part)
         let same = ap length e in
         let room = i.2 in (
           (record { list = p.list; first = chain_len s.0 }, s.2, omega (arith, len, same, room)),
-          ap (λ n. record { list = n; first = p.first }) (number_of r p (record { list = p.list; first = chain_len s.0 }) s.2),
+          ap (λ n. record { list = n; first = p.first }) (number_of r p (record { list = p.list; first = chain_len
+              s.0 }) s.2),
         )
 
     there_new : (i : ℕ) → i < extent.commands → i < length new_log.commands
@@ -651,12 +665,14 @@ module _ {A : Type 0} (C : List (Chain (code.Command A))) (R : List (Chain Part)
     (kept_rounds : L ≡ kept_lists moves.rounds.items (moved moves.commands.items) moves.rounds.items R) where
   pub written_sound : (most : ℕ) → IsSound C R most → IsSound K L most
   written_sound most s = subst (λ x. IsSound x L most) (sym kept)
-      (subst (λ x. IsSound (new_commands C R moves.commands.items moves.rounds.items cn rn w.commands_kept w.rounds_kept) x most)
+      (subst (λ x. IsSound (new_commands C R moves.commands.items moves.rounds.items cn rn w.commands_kept
+          w.rounds_kept) x most)
       (sym kept_rounds)
       (sound_new C R moves.commands.items moves.rounds.items cn rn w.commands_kept w.rounds_kept most s))
 
   is_new : new_log C R moves.commands.items moves.rounds.items cn rn w.commands_kept w.rounds_kept ≡ log_of K L
-  is_new = ap (λ x. log_of x (new_rounds C R moves.commands.items moves.rounds.items cn rn w.commands_kept w.rounds_kept))
+  is_new = ap (λ x. log_of x (new_rounds C R moves.commands.items moves.rounds.items cn rn w.commands_kept
+      w.rounds_kept))
       (sym kept) ∙ ap (log_of K) (sym kept_rounds)
 
   pub written_moved : (old : Log) → log_of C R ≡ old → (h k : Handle) → Sends moves h k → IsMoved old (log_of K L) h k

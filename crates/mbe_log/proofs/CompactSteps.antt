@@ -1,10 +1,10 @@
 -- The loops over the lists of a compacted log.
-use Rattle.std.specs.Prelude.{◌≡◌, ◌≢◌, ◌≤◌, ◌<◌, ◌+◌, ◌-◌, ℕ, zero, suc, List, [], ◌∷◌, ◌++◌, length, map, take, slice_get, Option, Some, None, option_map, option_to_list, refl}
-use Rattle.std.proofs.Common.{arith, sym, ap, subst, ◌∙◌, ◌⊎◌, inl, inr, append-nil}
+use Rattle.std.specs.Prelude.{◌≡◌, ◌≢◌, ◌≤◌, ◌<◌, ◌+◌, ℕ, zero, suc, List, [], ◌∷◌, ◌++◌, length, map, take, slice_get, Option, Some, None, option_to_list, refl}
+use Rattle.std.proofs.Common.{arith, sym, ap, subst, ◌∙◌, ◌⊎◌, inl, inr}
 use Rattle.mbe_semantics.specs.declared.log.Part.{Part}
-use Rattle.mbe_log.specs.Chain.{Chain, chain_len, link_in, own_in}
-use Rattle.mbe_log.specs.Compacting.{Table, IsKeptIn, kept_of}
-use Rattle.mbe_log.specs.KeptLists.{cut_list, cut_at, IsLinkKept, IsListKept, IsCutKept, kept_lists, AreCutKept, IsNumbered, Stay}
+use Rattle.mbe_log.specs.Chain.{Chain, chain_len}
+use Rattle.mbe_log.specs.Compacting.{Table, kept_of}
+use Rattle.mbe_log.specs.KeptLists.{cut_list, cut_at, IsListKept, IsCutKept, kept_lists, AreCutKept, IsNumbered, Stay}
 use Rattle.mbe_log.proofs.ChainLemmas.{in_range}
 use Rattle.mbe_log.proofs.LogLemmas.{same_or_not}
 
@@ -14,10 +14,8 @@ use Rattle.mbe_log.proofs.LogLemmas.{same_or_not}
 abbrev pub AreSoFar : {X : Type 0} → (X → Type 0) → List X → ℕ → Type 0
 AreSoFar {X} P xs n = (j : ℕ) (x : X) → j < n → slice_get xs j ≡ Some x → P x
 
-pub none_so_far : {X : Type 0} (P : X → Type 0) (xs : List X) (n : ℕ) → n ≡ 0 → AreSoFar P xs n
-none_so_far P xs n z j x l s = absurd (omega (arith, z, l))
-
-pub one_further : {X : Type 0} (P : X → Type 0) (xs : List X) (n : ℕ) (y : X) → AreSoFar P xs n → slice_get xs n ≡ Some y
+pub one_further : {X : Type 0} (P : X → Type 0) (xs : List X) (n : ℕ) (y : X) → AreSoFar P xs n → slice_get xs n
+    ≡ Some y
     → P y → AreSoFar P xs (n + 1)
 one_further P xs n y h s p j x l e = go (same_or_not j n)
   where
@@ -25,31 +23,10 @@ one_further P xs n y h s p j x l e = go (same_or_not j n)
     go (inl k) = let same : y ≡ x = (let u = subst (λ i. slice_get xs i ≡ Some x) k e in cc) in subst P same p
     go (inr k) = h j x (omega (arith, l, k)) e
 
-pub cut_by : {T : Type 0} (t : Table) (P : T → Type 0) (first : ℕ) (l : Chain T) (n : ℕ) → IsLinkKept t first l
-    → own_in l.link first ≤ n → AreSoFar P l.own n → IsCutKept t P first l
-cut_by t P first l n k e h = record {
-  fits = k.0;
-  link = k.1;
-  own = λ j x a s. h j x (omega (arith, a, e)) s;
-}
-
--- a list's first entries are there
-pub own_fits : {T : Type 0} (first : ℕ) (l : Chain T) → first ≤ chain_len l → own_in l.link first ≤ length l.own
-own_fits {T} first l h = go l.link l.own first h
-  where
-    go : (k : Option Part) (own : List T) (first : ℕ) → first ≤ chain_len (record { link = k; own = own })
-        → own_in k first ≤ length own
-    go None own first h = omega (arith, h)
-    go (Some p) own first h = omega (arith, h)
-
 -- the lists that are kept among the first so many
 abbrev pub AreCutSoFar : {T : Type 0} → Table → Table → (T → Type 0) → List (Chain T) → ℕ → Type 0
 AreCutSoFar {T} all t P ls n = (i : ℕ) (k : Part) → i < n → slice_get t i ≡ Some (Some k)
     → (l : Chain T) × (slice_get ls i ≡ Some l) × IsCutKept all P k.first l
-
-pub no_list_cut : {T : Type 0} (all t : Table) (P : T → Type 0) (ls : List (Chain T)) (n : ℕ) → n ≡ 0
-    → AreCutSoFar all t P ls n
-no_list_cut all t P ls n z i k l s = absurd (omega (arith, z, l))
 
 pub list_cut : {T : Type 0} (t : Table) (P : T → Type 0) (ls : List (Chain T)) (n : ℕ) → AreCutSoFar t t P ls n
     → IsListKept t P ls n → AreCutSoFar t t P ls (n + 1)
@@ -65,9 +42,6 @@ pub all_cut : {T : Type 0} (t : Table) (P : T → Type 0) (ls : List (Chain T)) 
     → AreCutSoFar t t P ls n → AreCutKept t P ls
 all_cut t P ls n long h i k s = h i k (let u = in_range t i (Some k) s in omega (arith, u, long)) s
 
-pub none_stay : {T : Type 0} (t : Table) (ls : List (Chain T)) (n : ℕ) → n ≡ 0 → Stay t ls n
-none_stay t ls n z i l = absurd (omega (arith, z, l))
-
 pub one_stays : {T : Type 0} (t : Table) (ls : List (Chain T)) (n : ℕ) (l : Chain T) (k : Part) → Stay t ls n
     → slice_get ls n ≡ Some l → slice_get t n ≡ Some (Some k) → k.list ≡ n → k.first ≡ chain_len l → Stay t ls (n + 1)
 one_stays t ls n l k h s e a b i less = go (same_or_not i n)
@@ -76,7 +50,8 @@ one_stays t ls n l k h s e a b i less = go (same_or_not i n)
     whole = ap (λ x. record { list = x; first = k.first }) a ∙ ap (λ x. record { list = n; first = x }) b
 
     go : (i ≡ n) ⊎ (i ≢ n)
-        → (x : Chain _) × (slice_get ls i ≡ Some x) × (slice_get t i ≡ Some (Some (record { list = i; first = chain_len x })))
+        → (x : Chain _) × (slice_get ls i ≡ Some x) × (slice_get t i
+            ≡ Some (Some (record { list = i; first = chain_len x })))
     go (inl m) = subst (λ j. (x : Chain _) × (slice_get ls j ≡ Some x)
         × (slice_get t j ≡ Some (Some (record { list = j; first = chain_len x })))) (sym m)
         (l, s, e ∙ ap (λ x. Some (Some x)) whole)
@@ -89,7 +64,8 @@ kept_count [] = 0
 kept_count (None ∷ t) = kept_count t
 kept_count (Some k ∷ t) = suc (kept_count t)
 
-pub numbered_none : (n : ℕ) (t : Table) → IsNumbered n t → IsNumbered n (t ++ None ∷ []) × (kept_count (t ++ None ∷ []) ≡ kept_count t)
+pub numbered_none : (n : ℕ) (t : Table) → IsNumbered n t → IsNumbered n (t ++ None ∷ []) × (kept_count (t ++ None
+    ∷ []) ≡ kept_count t)
 numbered_none n [] w = (tt, refl)
 numbered_none n (None ∷ t) w = numbered_none n t w
 numbered_none n (Some k ∷ t) w = let a = numbered_none (suc n) t w.1 in ((w.0, a.0), ap suc a.1)
@@ -108,7 +84,8 @@ none_taken : {X : Type 0} (xs : List X) → take 0 xs ≡ []
 none_taken [] = refl
 none_taken (x ∷ xs) = refl
 
-pub take_one : {X : Type 0} (n : ℕ) (xs : List X) (x : X) → slice_get xs n ≡ Some x → take (n + 1) xs ≡ take n xs ++ x ∷ []
+pub take_one : {X : Type 0} (n : ℕ) (xs : List X) (x : X) → slice_get xs n ≡ Some x → take (n + 1) xs
+    ≡ take n xs ++ x ∷ []
 take_one zero [] x s = absurd (let z : ⊥ = cc in z)
 take_one zero (y ∷ xs) x s = let e : y ≡ x = cc in ap (λ z. z ∷ take 0 xs) e ∙ ap (λ t. x ∷ t) (none_taken xs)
 take_one (suc n) [] x s = absurd (let z : ⊥ = cc in z)
@@ -129,7 +106,8 @@ cut_further f own n x s = ap (map f) (take_one n own x s) ∙ map_one f (take n 
 pub kept_further : {T : Type 0} (all : Table) (f : T → T) (t : Table) (ls : List (Chain T)) (n : ℕ)
     → kept_lists all f (take (n + 1) t) ls
     ≡ kept_lists all f (take n t) ls ++ option_to_list (cut_at all f (kept_of (slice_get t n)) (slice_get ls n))
-kept_further {T} all f t ls n = ap (λ j. kept_lists all f (take j t) ls) (let e : n + 1 ≡ suc n = omega arith in e) ∙ go t ls n
+kept_further {T} all f t ls n = ap (λ j. kept_lists all f (take j t) ls) (let e : n + 1 ≡ suc n = omega arith in e)
+    ∙ go t ls n
   where
     nothing : (n : ℕ) → take {A = Option Part} n [] ≡ []
     nothing zero = refl
@@ -147,7 +125,8 @@ kept_further {T} all f t ls n = ap (λ j. kept_lists all f (take j t) ls) (let e
         ≡ kept_lists all f (take n t) ls ++ option_to_list (cut_at all f (kept_of (slice_get t n)) (slice_get ls n))
     go [] ls n = sym (ap (λ y. kept_lists all f y ls ++ []) (nothing n))
     go (o ∷ t) [] n = nowhere (take (suc n) (o ∷ t))
-        ∙ sym (ap (λ y. y ++ option_to_list (cut_at all f (kept_of (slice_get (o ∷ t) n)) None)) (nowhere (take n (o ∷ t)))
+        ∙ sym (ap (λ y. y ++ option_to_list (cut_at all f (kept_of (slice_get (o ∷ t) n)) None)) (nowhere (take n (o
+            ∷ t)))
         ∙ ap option_to_list (no_list (kept_of (slice_get (o ∷ t) n))))
     go (None ∷ t) (x ∷ ls) zero = ap (λ y. kept_lists all f y ls) (none_taken t)
     go (Some q ∷ t) (x ∷ ls) zero = ap (λ y. cut_list all f q.first x ∷ kept_lists all f y ls) (none_taken t)

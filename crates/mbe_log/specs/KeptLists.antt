@@ -1,5 +1,5 @@
 -- The lists of a compacted log.
-use Rattle.std.specs.Prelude.{◌≡◌, ◌≤◌, ◌<◌, ◌+◌, ℕ, suc, List, [], ◌∷◌, length, map, take, slice_get, Option, Some, None, option_map}
+use Rattle.std.specs.Prelude.{◌≡◌, ◌≤◌, ◌<◌, ℕ, suc, List, [], ◌∷◌, map, take, slice_get, Option, Some, None, option_map}
 use Rattle.mbe_semantics.specs.declared.log.Part.{Part}
 use Rattle.mbe_semantics.specs.Bindings.Account.{Entry, RoundEntry}
 use Rattle.mbe_log.specs.declared.log.Command as code
@@ -103,10 +103,12 @@ IsNumbered n (Some k ∷ t) = (k.list ≡ n) × IsNumbered (suc n) t
 -- the first so many lists are kept whole, with their numbers
 abbrev pub Stay : {T : Type 0} → Table → List (Chain T) → ℕ → Type 0
 Stay {T} table ls count = (i : ℕ) → i < count
-    → (l : Chain T) × (slice_get ls i ≡ Some l) × (slice_get table i ≡ Some (Some (record { list = i; first = chain_len l })))
+    → (l : Chain T) × (slice_get ls i ≡ Some l) × (slice_get table i
+        ≡ Some (Some (record { list = i; first = chain_len l })))
 
 -- what is kept stands for what is kept, and the lists of the extent stay
-pub record IsWhole {A : Type 0} (commands : List (Chain (code.Command A))) (rounds : List (Chain Part)) (extent : Extent)
+pub record IsWhole {A : Type 0} (commands : List (Chain (code.Command A))) (rounds : List (Chain Part)) (extent :
+    Extent)
     (moves : Moves A) : Type 0 where
   pub commands_stay : Stay moves.commands.items commands extent.commands
   pub rounds_stay : Stay moves.rounds.items rounds extent.rounds

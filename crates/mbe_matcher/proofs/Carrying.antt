@@ -5,7 +5,7 @@ use Rattle.std.proofs.lemmas.Option.{none-some, same_Some}
 use Rattle.mbe_tt.specs.Trees.Tree.{Forest}
 use Rattle.mbe_semantics.specs.Readings.Input.{Input}
 use Rattle.mbe_semantics.specs.Bindings.Account.{Log, Handle}
-use Rattle.mbe_semantics.specs.Matching.Outline.{Edge, gate, Outline, outline}
+use Rattle.mbe_semantics.specs.Matching.Outline.{Edge, gate, outline}
 use Rattle.mbe_log.specs.declared.compact.Moves.{Moves}
 use Rattle.mbe_log.specs.Compacting.{Sends}
 use Rattle.mbe_log.proofs.LogLemmas.{get-last, get-more}
@@ -18,22 +18,16 @@ use Rattle.mbe_matcher.specs.declared.ends.Visit as declared
 use Rattle.mbe_matcher.specs.declared.ends.Visit.TheVariants as variants
 use Rattle.mbe_matcher.specs.declared.report.Last.{Last}
 use Rattle.mbe_matcher.specs.declared.report.Report.{Report}
-use Rattle.mbe_matcher.specs.Positions.{Each, Both, IsBelow, AreRounds, edge_in, AreEdges, none_open, group_open, repetition_open, Shows, Holds, Keeps}
+use Rattle.mbe_matcher.specs.Positions.{Each, Both, IsBelow, AreRounds, edge_in, AreEdges, none_open, group_open, repetition_open, Shows, Keeps}
 use Rattle.mbe_matcher.specs.EndsMatched.{VisitShows}
 use Rattle.mbe_matcher.specs.Failures.{Source, failed, ended, source_of}
 use Rattle.mbe_matcher.specs.Reports.{IsSource, IsReportOf}
 use Rattle.mbe_matcher.specs.TwoEnds.{Visit, enter, leave}
 use Rattle.mbe_matcher.specs.Compacting.{AreHandles, IsNumbered, AreSent, IsCarried, AreCarried, Carries, CarriesPosition, CarriesVisit, CarriesReport, PositionsStay, VisitsStay}
-use Rattle.mbe_matcher.proofs.Keeping.{kept_not, edges_keep, both_weaker}
+use Rattle.mbe_matcher.proofs.Keeping.{kept_not, edges_keep}
 use Rattle.mbe_matcher.proofs.StepLemmas.{none_around, in_group, in_rounds}
 
 -- ---- open items
-
-pub carried_not : {A : Type 0} (old new : Log) (before : List (Outer A)) → AreCarried old new before [] []
-carried_not old new before = record {
-  below = λ n m e. absurd (none-some (Some m) e);
-  edges = λ n m e. absurd (none-some (Some m) e);
-}
 
 module _ {A : Type 0} (old new : Log) (before after : List (Outer A)) (moves : Moves A) (numbers : List (Option ℕ))
     (handles : AreHandles moves old new) (c : AreCarried old new before after numbers) where

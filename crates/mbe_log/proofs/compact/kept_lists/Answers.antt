@@ -1,7 +1,6 @@
-use Rattle.std.proofs.Common.{◌≡◌, ◌∙◌, ◌++◌, ap, sym, take}
+use Rattle.std.proofs.Common.{◌∙◌, ◌++◌, ap, sym, take}
 use Rattle.std.specs.Prelude.{option_to_list}
 use Rattle.mbe_log.specs.KeptLists.{moved_command, kept_lists}
-use Rattle.mbe_log.specs.Compacting.{kept_of}
 use Rattle.mbe_log.proofs.CompactSteps.{kept_further}
 use Rattle.mbe_log.proofs.compact.kept_lists.Goals as goal
 

@@ -1,4 +1,4 @@
-use Rattle.std.proofs.Common.{◌≡◌, ◌∙◌, sym, subst}
+use Rattle.std.proofs.Common.{◌∙◌, sym, subst}
 use Rattle.std.specs.Prelude.{IfSome}
 use Rattle.mbe_matcher.specs.Positions.{Each}
 use Rattle.mbe_matcher.specs.Compacting.{Carries, CarriesPosition, PositionsStay}

@@ -1,4 +1,4 @@
-use Rattle.std.proofs.Common.{Some, refl, sym}
+use Rattle.std.proofs.Common.{refl, sym}
 use Rattle.mbe_matcher.proofs.Carrying.{report_carried}
 use Rattle.mbe_matcher.proofs.report.Report.follow.Goals as goal
 
