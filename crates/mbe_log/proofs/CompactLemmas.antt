@@ -31,7 +31,7 @@ origin (Some k ∷ t) (suc m) = suc (origin t m)
 abbrev IsAt : {T : Type 0} → Table → (T → T) → Table → List (Chain T) → ℕ → ℕ → Part → Chain T → Type 0
 IsAt all f t ls n i k l =
     (m : ℕ) × (k.list ≡ n + m) × (slice_get (kept_lists all f t ls) m ≡ Some (cut_list all f k.first l))
-        × (origin t m ≡ i)
+    × (origin t m ≡ i)
 
 -- where a list that is kept is found
 kept_at : {T : Type 0} (all : Table) (f : T → T) (t : Table) (ls : List (Chain T)) (n i : ℕ) (k : Part) (l : Chain T)
@@ -125,7 +125,7 @@ cut_len {T} table f first l h = go l.link l.own first h
     go (Some p) own (suc n) h =
         let m : suc n - 1 ≡ n = omega arith in
         let a = lens (take (suc n - 1) own) ∙ ap (λ j. length (take j own)) m
-            ∙ length-take-le n own (omega (arith, h)) in
+        ∙ length-take-le n own (omega (arith, h)) in
         omega (arith, a)
 
 module _ (c r : Table) where
@@ -149,7 +149,7 @@ module _ (c r : Table) where
       where
         go : (k : Option Part) (own : List (code.Command A)) (first : ℕ)
             → first_link (option_map (moved c) (link_in k first)) ++ map entry_seen (map (moved_command c r) (take
-                (own_in k first) own))
+            (own_in k first) own))
             ≡ map (moved_entry c r) (take first (first_link k ++ map entry_seen own))
         go None own first = fused (take first own) ∙ ap (map (moved_entry c r)) (sym (take-map entry_seen first own))
         go (Some p) own zero = ap (λ t. map entry_seen (map (moved_command c r) t)) (take-none own)
@@ -174,7 +174,7 @@ module _ (c r : Table) where
         go : (k : Option Part) (own : List (code.Command A)) (first : ℕ)
             → ((q : Part) → link_in k first ≡ Some q → IsKeptIn c q)
             → ((j : ℕ) (x : code.Command A) → j < own_in k first → slice_get own j ≡ Some x
-                → CommandStandsForKept c r x)
+            → CommandStandsForKept c r x)
             → Every (StandsForKept c r) (take first (first_link k ++ map entry_seen own))
         go None own first a b = all own first b
         go (Some p) own zero a b = tt
@@ -191,7 +191,7 @@ module _ (c r : Table) where
     where
       go : (k : Option Part) (own : List Part) (first : ℕ)
           → first_round_link (option_map (moved r) (link_in k first)) ++ map RoundEntry.finishes (map (moved c)
-              (take (own_in k first) own))
+          (take (own_in k first) own))
           ≡ map (moved_round c r) (take first (first_round_link k ++ map RoundEntry.finishes own))
       go None own first = fused_rounds (take first own)
           ∙ ap (map (moved_round c r)) (sym (take-map RoundEntry.finishes first own))
@@ -374,7 +374,7 @@ module _ {A : Type 0} (C : List (Chain (code.Command A))) (R : List (Chain Part)
             ∙ ap (take p.first) (sym e)),
         subst (λ xs. Every (StandsForKept c r) (take p.first xs)) (sym e)
             (every-fewer (StandsForKept c r) p.first k.0.first (commands_seen l.0) k.2 (cut_kept c r k.0.first l.0
-                l.2)),
+            l.2)),
       )
 
   renumbered_rounds : (p : Part) (es : List RoundEntry) → IsKeptIn r p → slice_get old_log.rounds p.list ≡ Some es
@@ -440,7 +440,7 @@ module _ {A : Type 0} (C : List (Chain (code.Command A))) (R : List (Chain Part)
     where
       entries_of_new : {cs : Commands} {q : Part} → PartGives new_log no_commands q cs
           → (es : List Entry) × (slice_get new_log.commands q.list ≡ Some es)
-              × Gives new_log no_commands (take q.first es) cs
+          × Gives new_log no_commands (take q.first es) cs
       entries_of_new (part_gives ds q all es s l h) = (es, s, h)
 
   grounded_rounds : (most : ℕ) → IsGrounded old_log most → (j : ℕ) (fs : List RoundEntry)
@@ -595,8 +595,11 @@ module _ {A : Type 0} (C : List (Chain (code.Command A))) (R : List (Chain Part)
         let same = ap length e in
         let room = i.2 in (
           (record { list = p.list; first = chain_len s.0 }, s.2, omega (arith, len, same, room)),
-          ap (λ n. record { list = n; first = p.first }) (number_of c p (record { list = p.list; first = chain_len
-              s.0 }) s.2),
+          ap (λ n. record { list = n; first = p.first }) (number_of c p (record {
+            list = p.list;
+            first = chain_len
+                s.0;
+          }) s.2),
         )
 
     still_rounds : (p : Part) → p.list < extent.rounds → IsIn old_log.rounds p → IsKeptIn r p × (moved r p ≡ p)
@@ -608,8 +611,11 @@ module _ {A : Type 0} (C : List (Chain (code.Command A))) (R : List (Chain Part)
         let same = ap length e in
         let room = i.2 in (
           (record { list = p.list; first = chain_len s.0 }, s.2, omega (arith, len, same, room)),
-          ap (λ n. record { list = n; first = p.first }) (number_of r p (record { list = p.list; first = chain_len
-              s.0 }) s.2),
+          ap (λ n. record { list = n; first = p.first }) (number_of r p (record {
+            list = p.list;
+            first = chain_len
+                s.0;
+          }) s.2),
         )
 
     there_new : (i : ℕ) → i < extent.commands → i < length new_log.commands
@@ -666,7 +672,7 @@ module _ {A : Type 0} (C : List (Chain (code.Command A))) (R : List (Chain Part)
   pub written_sound : (most : ℕ) → IsSound C R most → IsSound K L most
   written_sound most s = subst (λ x. IsSound x L most) (sym kept)
       (subst (λ x. IsSound (new_commands C R moves.commands.items moves.rounds.items cn rn w.commands_kept
-          w.rounds_kept) x most)
+      w.rounds_kept) x most)
       (sym kept_rounds)
       (sound_new C R moves.commands.items moves.rounds.items cn rn w.commands_kept w.rounds_kept most s))
 

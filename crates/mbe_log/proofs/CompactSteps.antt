@@ -51,7 +51,7 @@ one_stays t ls n l k h s e a b i less = go (same_or_not i n)
 
     go : (i ≡ n) ⊎ (i ≢ n)
         → (x : Chain _) × (slice_get ls i ≡ Some x) × (slice_get t i
-            ≡ Some (Some (record { list = i; first = chain_len x })))
+        ≡ Some (Some (record { list = i; first = chain_len x })))
     go (inl m) = subst (λ j. (x : Chain _) × (slice_get ls j ≡ Some x)
         × (slice_get t j ≡ Some (Some (record { list = j; first = chain_len x })))) (sym m)
         (l, s, e ∙ ap (λ x. Some (Some x)) whole)
@@ -126,7 +126,7 @@ kept_further {T} all f t ls n = ap (λ j. kept_lists all f (take j t) ls) (let e
     go [] ls n = sym (ap (λ y. kept_lists all f y ls ++ []) (nothing n))
     go (o ∷ t) [] n = nowhere (take (suc n) (o ∷ t))
         ∙ sym (ap (λ y. y ++ option_to_list (cut_at all f (kept_of (slice_get (o ∷ t) n)) None)) (nowhere (take n (o
-            ∷ t)))
+        ∷ t)))
         ∙ ap option_to_list (no_list (kept_of (slice_get (o ∷ t) n))))
     go (None ∷ t) (x ∷ ls) zero = ap (λ y. kept_lists all f y ls) (none_taken t)
     go (Some q ∷ t) (x ∷ ls) zero = ap (λ y. cut_list all f q.first x ∷ kept_lists all f y ls) (none_taken t)

@@ -104,7 +104,7 @@ IsNumbered n (Some k ∷ t) = (k.list ≡ n) × IsNumbered (suc n) t
 abbrev pub Stay : {T : Type 0} → Table → List (Chain T) → ℕ → Type 0
 Stay {T} table ls count = (i : ℕ) → i < count
     → (l : Chain T) × (slice_get ls i ≡ Some l) × (slice_get table i
-        ≡ Some (Some (record { list = i; first = chain_len l })))
+    ≡ Some (Some (record { list = i; first = chain_len l })))
 
 -- what is kept stands for what is kept, and the lists of the extent stay
 pub record IsWhole {A : Type 0} (commands : List (Chain (code.Command A))) (rounds : List (Chain Part)) (extent :

@@ -12,8 +12,11 @@ loop-index-preserved g c =
     let own = c.args.list.now.own in
     let with : List _ → Chain _ = λ x. record { link = link; own = x } in
     c.in_ok-push.ensures.ok
-    ∙ ap (λ (l : Chain _). record { link = l.link; own = l.own ++ c.in_ok-moved_command.field-0
-        ∷ [] }) c.loop-index.invariant
+    ∙ ap (λ (l : Chain _). record {
+      link = l.link;
+      own = l.own ++ c.in_ok-moved_command.field-0
+          ∷ [];
+    }) c.loop-index.invariant
     ∙ ap (λ x. with (map f (take c.loop-index.index own) ++ x ∷ [])) c.in_ok-moved_command.ensures
     ∙ ap with
     (sym (cut_further f own c.loop-index.index c.own_at.result.now c.own_at.ensures))

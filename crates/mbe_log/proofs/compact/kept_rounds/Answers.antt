@@ -12,5 +12,5 @@ loop-index-preserved g c =
     c.in_ok-push_some.ensures
     ∙ ap (λ x. x ++ option_to_list c.in_ok-cut_rounds_at.field-0) c.loop-index.invariant
     ∙ ap (λ x. kept_lists t f (take c.loop-index.index t) c.args.lists.now ++ option_to_list x)
-        c.in_ok-cut_rounds_at.ensures
+    c.in_ok-cut_rounds_at.ensures
     ∙ sym (kept_further t f t c.args.lists.now c.loop-index.index)

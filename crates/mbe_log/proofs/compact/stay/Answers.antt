@@ -10,7 +10,7 @@ loop-index-preserved g c =
     let found = c.in-Some.ensures.lookup in
     let there : slice_get c.args.lists.now c.loop-index.index ≡ Some c.in-Some.list.now =
     slice_get_read c.args.lists.now (length c.args.lists.now) c.loop-index.index c.in-Some.list.now refl found.3.0
-        found.1 in
+    found.1 in
     let got = c.in-Some-Some.ensures.lookup in
     let kept : slice_get c.args.table.now c.loop-index.index ≡ Some (Some c.in-Some-Some.part) =
     slice_get_read c.args.table.now (length c.args.table.now) c.loop-index.index c.in-Some-Some.field-0.now refl got.3.0

@@ -25,7 +25,7 @@ loop-outer-preserved g c =
       count =
           let one = ap length pushed.numbers in
           let more = length-append was.numbers.items (option_map (λ _. length was.outers.items) c.next-next.result
-              ∷ []) in
+          ∷ []) in
           let count = inv.count in
           omega (arith, one, more, count);
       carried = λ old handles.
