@@ -593,13 +593,10 @@ module _ {A : Type 0} (C : List (Chain (code.Command A))) (R : List (Chain Part)
         let e : i.0 ≡ commands_seen s.0 = (let u = i.1 in cc) in
         let len = commands_len C R s.0 in
         let same = ap length e in
-        let room = i.2 in (
-          (record { list = p.list; first = chain_len s.0 }, s.2, omega (arith, len, same, room)),
-          ap (λ n. record { list = n; first = p.first }) (number_of c p (record {
-            list = p.list;
-            first = chain_len
-                s.0;
-          }) s.2),
+        let room = i.2 in
+        let whole : Part = record { list = p.list; first = chain_len s.0 } in (
+          (whole, s.2, omega (arith, len, same, room)),
+          ap (λ n. record { list = n; first = p.first }) (number_of c p whole s.2),
         )
 
     still_rounds : (p : Part) → p.list < extent.rounds → IsIn old_log.rounds p → IsKeptIn r p × (moved r p ≡ p)
@@ -609,13 +606,10 @@ module _ {A : Type 0} (C : List (Chain (code.Command A))) (R : List (Chain Part)
         let e : i.0 ≡ rounds_seen s.0 = (let u = i.1 in cc) in
         let len = rounds_len C R s.0 in
         let same = ap length e in
-        let room = i.2 in (
-          (record { list = p.list; first = chain_len s.0 }, s.2, omega (arith, len, same, room)),
-          ap (λ n. record { list = n; first = p.first }) (number_of r p (record {
-            list = p.list;
-            first = chain_len
-                s.0;
-          }) s.2),
+        let room = i.2 in
+        let whole : Part = record { list = p.list; first = chain_len s.0 } in (
+          (whole, s.2, omega (arith, len, same, room)),
+          ap (λ n. record { list = n; first = p.first }) (number_of r p whole s.2),
         )
 
     there_new : (i : ℕ) → i < extent.commands → i < length new_log.commands

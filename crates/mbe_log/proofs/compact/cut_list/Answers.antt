@@ -14,8 +14,7 @@ loop-index-preserved g c =
     c.in_ok-push.ensures.ok
     ∙ ap (λ (l : Chain _). record {
       link = l.link;
-      own = l.own ++ c.in_ok-moved_command.field-0
-          ∷ [];
+      own = l.own ++ c.in_ok-moved_command.field-0 ∷ [];
     }) c.loop-index.invariant
     ∙ ap (λ x. with (map f (take c.loop-index.index own) ++ x ∷ [])) c.in_ok-moved_command.ensures
     ∙ ap with
