@@ -103,11 +103,15 @@ fn template_within<A: Allocator + Copy, E: Copy + Fn(SyntaxContext) -> Edition>(
     Ok(MetaTemplate(fitted(alloc, ops)?))
 }
 
-// About how many ops the trees are: each is one, but what is after a `$` is left out, up to a specifier, or to what ends a repetition.
+// How many trees are looked at to say about how many ops there are.
+const SAMPLE: usize = 1_024;
+
+// About how many ops the trees are: each is one, but what is after a `$` is left out, up to a specifier, or to what ends a
+// repetition. Of a long list the first trees are looked at, and the others are taken to be like them.
 fn about_ops<A: Allocator>(src: TtIter<'_, A>, mode: Mode) -> usize
     ensures { result ≤ flat_len src.entry }
 {
-    let _most = src.remaining().flat_len();
+    let all = src.remaining().flat_len();
     let mut src = src;
     let mut count = 0;
     'trees: while let Some(tree) = src.next() {
@@ -117,8 +121,26 @@ fn about_ops<A: Allocator>(src: TtIter<'_, A>, mode: Mode) -> usize
         {
             pass_dollar(&mut src, mode);
         }
+        if count == SAMPLE {
+            return count + about_left(count, all, src.remaining().flat_len());
+        }
     }
     count
+}
+
+// About how many ops are in the flat tokens that are left, where those before them have so many: some more rather than one too
+// few, for which the list would be moved.
+fn about_left(count: usize, all: usize, left: usize) -> usize
+    ensures { result ≤ left }
+{
+    let more = match left
+        .saturating_mul(count)
+        .checked_div(all.saturating_sub(left))
+    {
+        Some(more) => more.saturating_add(count),
+        None => left,
+    };
+    more.min(left)
 }
 
 #[inline(always)]
@@ -209,6 +231,29 @@ fn push_literal<A: Allocator>(
     ensures rest { src.new ≡ rest_of src.old }
 {
     let _literal = src.next();
+    let Some(text_and_suffix) = literal.text_and_suffix.copied() else {
+        return push_shared_literal(literal, ops);
+    };
+    ops.push_reserved(Op::Literal(Literal {
+        text_and_suffix,
+        span: literal.span,
+        kind: literal.kind,
+        suffix_len: literal.suffix_len,
+    }));
+    Ok(())
+}
+
+// Adds the literal, whose text is shared.
+#[inline(never)]
+#[tactic(auto, using(mbe_ops::proofs::OpViews::views))]
+fn push_shared_literal<A: Allocator>(
+    literal: &Literal<A>,
+    ops: &mut Vec<Op<A>, A>,
+) -> Result<(), AllocError>
+    requires { vec_len ops.old < vec_capacity ops.old }
+    ensures { OnOk result (IsPushed ops.old.items ops.new.items (λ o.
+        o ≡ token (literal_token (literal_of literal.now)))) }
+{
     ops.push_reserved(Op::Literal(literal.clone()?));
     Ok(())
 }

@@ -84,6 +84,7 @@ fn checked<A: Allocator>(stops: OpDelimitedIter<'_, A>) -> Found
 }
 
 #[cycle(refusal)]
+#[inline(never)]
 fn checked_stop<A: Allocator>(stop: OpDelimited<'_, A>) -> Found
     ensures empty { result.empty ≡ is_nullable_stop (stop_of stop.entry) }
     ensures refused { result.refused ≡ is_refused_stop (stop_of stop.entry) }
