@@ -1,5 +1,4 @@
-// The examples of docs/CALLING.md, word for word, and tests that run them; tests of what is below the expander and no program shows:
-// the binding log, where two readings part, templates under bindings that are made by hand.
+// The examples of docs/CALLING.md, word for word, and tests that run them; users of the binding log, who see its contracts alone.
 #![tactic(auto)]
 
 #[cfg(test)]
@@ -17,8 +16,6 @@ mod logs;
 #[cfg(test)]
 mod memory;
 #[cfg(test)]
-mod parting;
-#[cfg(test)]
 mod results;
 #[cfg(test)]
 mod rows;
@@ -26,8 +23,6 @@ mod rows;
 mod small;
 #[cfg(test)]
 mod tables;
-#[cfg(test)]
-mod templates;
 #[cfg(test)]
 mod texts;
 #[cfg(test)]

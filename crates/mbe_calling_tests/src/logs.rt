@@ -1,6 +1,3 @@
-// Users of the binding log, who see its contracts alone, and its tests.
-mod calls;
-pub mod rows;
-pub mod scripts;
+// Users of the binding log, who see its contracts alone, and one that has many lists.
+pub mod many;
 mod uses;
-pub mod values;

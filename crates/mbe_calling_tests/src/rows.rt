@@ -3,21 +3,17 @@ use crate::definitions::tests::{DESCRIBED, is_described, is_read};
 use crate::expansions::tests::{self, expands_nothing, is_expanded, is_marked};
 use crate::explaining::tests::are_explained;
 use crate::grammars::tests::are_handed_in;
-use crate::logs::rows::{Calls, ROWS, is_last_of_many};
-use crate::logs::scripts::{SCRIPTS, is_digest};
-use crate::logs::values::{are_bindings, are_fragments};
+use crate::logs::many::is_last_of_many;
 use crate::memory::count_requests;
-use crate::parting::{DEAD_ENDS, PARTING, Partings};
 use crate::results::tests::{are_made, is_call_changed, is_type_found};
 use crate::small::tests::{are_read, is_bound_in_one};
 use crate::tables::sum_of;
 use crate::tables::tests::SUMS;
-use crate::templates::{WRITTEN, is_written};
 use crate::theorem::tests::{CALLS, becomes};
 use crate::viewing::tests::is_group_expanded;
 use crate::{bindings, texts, walks, writing};
 use std::alloc::{AllocError, Global};
-use test_rows::{AnyRows, Fields, Rows, Wrong, all, each_refused, rows};
+use test_rows::{Fields, Rows, Wrong, all, rows};
 
 fn is_sum(alloc: Global, text: &str, count: &str) -> Option<bool> {
     if text.len() > 1_000_000 {
@@ -105,6 +101,7 @@ enum Tree {
     LookedInto,
     Built,
     Group,
+    Million,
 }
 
 impl Rows for Tree {
@@ -123,12 +120,13 @@ impl Rows for Tree {
             Tree::LookedInto => walks::tests::is_looked_into(alloc),
             Tree::Built => writing::tests::are_built(alloc),
             Tree::Group => writing::tests::is_group_built(alloc),
+            Tree::Million => return is_last_of_many(alloc, 500_000),
         };
         Ok(is_so.unwrap_or(false))
     }
 }
 
-static TREES: [(Tree, &str, usize); 13] = [
+static TREES: [(Tree, &str, usize); 14] = [
     (
         Tree::Bound,
         rows![("names are bound by a log and by hand")],
@@ -150,73 +148,11 @@ static TREES: [(Tree, &str, usize); 13] = [
     (Tree::LookedInto, rows![("a group is looked into")], 1),
     (Tree::Built, rows![("trees are built")], 1),
     (Tree::Group, rows![("groups are built")], 1),
-];
-
-// What is below the expander.
-#[derive(Clone, Copy)]
-enum Below {
-    Log,
-    LogRefused,
-    Bindings,
-    Fragments,
-    Scripts,
-    Million,
-    Parting,
-    PartingRefused,
-    Written,
-}
-
-impl Rows for Below {
-    fn is_so(&self, alloc: Global, fields: Fields) -> Result<bool, AllocError> {
-        match self {
-            Below::Log => Calls.is_so(alloc, fields),
-            // The tree, the three names, their list, both lists of lists and that of handles are a request at least.
-            Below::LogRefused => Ok(each_refused(alloc, &Calls, (ROWS, 17), (8, false)).is_ok()),
-            Below::Bindings => are_bindings(alloc),
-            Below::Fragments => are_fragments(alloc),
-            Below::Scripts => is_digest(alloc, fields),
-            Below::Million => is_last_of_many(alloc, 500_000),
-            Below::Parting => Partings.is_so(alloc, fields),
-            Below::PartingRefused => {
-                Ok(each_refused(alloc, &Partings, (DEAD_ENDS, 3), (0, true)).is_ok())
-            }
-            Below::Written => is_written(alloc, fields),
-        }
-    }
-}
-
-static BELOW: [(Below, &str, usize); 10] = [
-    (Below::Log, ROWS, 17),
-    (
-        Below::LogRefused,
-        rows![("each request of a log is refused")],
-        1,
-    ),
-    (
-        Below::Bindings,
-        rows![("bindings are equal in any order")],
-        1,
-    ),
-    (
-        Below::Fragments,
-        rows![("fragments are equal where trees and writing are")],
-        1,
-    ),
-    (Below::Scripts, SCRIPTS, 20),
-    (Below::Million, rows![("a log has a million lists")], 1),
-    (Below::Parting, PARTING, 22),
-    (Below::Parting, DEAD_ENDS, 3),
-    (
-        Below::PartingRefused,
-        rows![("each request of a parting is refused")],
-        1,
-    ),
-    (Below::Written, WRITTEN, 8),
+    (Tree::Million, rows![("a log has a million lists")], 1),
 ];
 
 #[test]
 fn all_is_as_its_rows_say(rt: HostRuntime) -> Result<(), Wrong> {
     all(rt.alloc(), &CALLED)?;
-    all(rt.alloc(), &TREES)?;
-    all(rt.alloc(), &BELOW)
+    all(rt.alloc(), &TREES)
 }

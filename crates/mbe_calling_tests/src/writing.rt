@@ -83,8 +83,8 @@ pub mod tests {
     use mbe_tt::tt::{TokenTreesView, TopSubtree};
     use std::alloc::Global;
 
-    /// Whether the trees are printed so.
-    pub fn is_printed(alloc: Global, tree: &TopSubtree, want: &str) -> bool {
+    // Whether the trees are printed so.
+    fn is_printed(alloc: Global, tree: &TopSubtree, want: &str) -> bool {
         let mut out = Vec::new(alloc);
         print_tree(tree, &mut out).is_ok() && out.as_slice() == want.as_bytes()
     }

@@ -1,9 +1,15 @@
-// The tests of `mbe_tt` and `mbe_text`, and of grammars: of `mbe_grammar`, which is written by hand, and of tables (`mbe_rules`,
-// `mbe_rules_text`, `mbe_rust`), all through their public calls, where no program shows it.
+// The tests of `mbe_text` and of grammars: of `mbe_grammar`, which is written by hand, and of tables (`mbe_rules`, `mbe_rules_text`,
+// `mbe_rust`), all through their public calls, where no program shows it; and of deep trees.
 #![tactic(auto)]
 
 #[cfg(test)]
+mod deep;
+#[cfg(test)]
+mod glue;
+#[cfg(test)]
 mod lexing;
+#[cfg(test)]
+mod literals;
 pub mod one_token;
 #[cfg(test)]
 mod printing;
@@ -23,5 +29,3 @@ mod symbols;
 mod tables;
 #[cfg(test)]
 mod taking;
-#[cfg(test)]
-mod trees;

@@ -1,7 +1,9 @@
-// All tables but those of trees. The rows are beside what they are about.
+// All tables. The rows are beside what they are about.
 use crate::rust::{ROWS_2018, ROWS_2021, ROWS_2024};
 use crate::rust_rows::{COUNT_2018, COUNT_2021, COUNT_2024, RANDOM_2018, RANDOM_2021, RANDOM_2024};
-use crate::{lexing, printing, reading, rules, rust, sample, symbols, taking};
+use crate::{
+    deep, glue, lexing, literals, printing, reading, rules, rust, sample, symbols, taking,
+};
 use mbe_grammar::SampleGrammar;
 use mbe_tt::grammar::FragmentGrammar;
 use mbe_tt::span::Edition;
@@ -28,10 +30,17 @@ enum Kind {
     Kept,
     Right,
     Short,
+    Nested,
+    Glued,
+    Literal,
 }
 
 impl Rows for Kind {
-    fn is_so(&self, alloc: Global, [text, want, ..]: Fields) -> Result<bool, AllocError> {
+    fn is_so(
+        &self,
+        alloc: Global,
+        [text, want, all, cut, suffix, written]: Fields,
+    ) -> Result<bool, AllocError> {
         match self {
             Kind::Taken(rule, edition) => rules::is_taken(alloc, *rule, *edition, (text, want)),
             Kind::Nodes => reading::has_nodes(alloc, text, want),
@@ -50,11 +59,14 @@ impl Rows for Kind {
             Kind::Kept => Ok(symbols::is_kept(alloc)),
             Kind::Right => Ok(symbols::stays_right(alloc)),
             Kind::Short => Ok(symbols::are_short(alloc)),
+            Kind::Nested => deep::is_nested(alloc, text, want),
+            Kind::Glued => glue::is_operator(alloc, text, want),
+            Kind::Literal => literals::is_written(alloc, (text, want), all, (cut, suffix, written)),
         }
     }
 }
 
-static TABLES: [(Kind, &str, usize); 34] = [
+static TABLES: [(Kind, &str, usize); 37] = [
     (Kind::Taken(rules::SUM, Edition2021), rules::SUMS, 9),
     (
         Kind::Taken(rules::GEN, Edition2021),
@@ -129,6 +141,9 @@ static TABLES: [(Kind, &str, usize); 34] = [
     ),
     (Kind::Right, rows![("a refusal leaves the table right")], 1),
     (Kind::Short, rows![("a short text takes no memory")], 1),
+    (Kind::Nested, deep::NESTED, 2),
+    (Kind::Glued, glue::OPERATORS, 36),
+    (Kind::Literal, literals::LITERALS, 16),
 ];
 
 #[test]
