@@ -104,7 +104,7 @@ fn template_within<A: Allocator + Copy, E: Copy + Fn(SyntaxContext) -> Edition>(
 }
 
 // How many trees are looked at to say about how many ops there are.
-const SAMPLE: usize = 1_024;
+const SAMPLE: usize = 64;
 
 // About how many ops the trees are: each is one, but what is after a `$` is left out, up to a specifier, or to what ends a
 // repetition. Of a long list the first trees are looked at, and the others are taken to be like them.
@@ -128,8 +128,8 @@ fn about_ops<A: Allocator>(src: TtIter<'_, A>, mode: Mode) -> usize
     count
 }
 
-// About how many ops are in the flat tokens that are left, where those before them have so many: some more rather than one too
-// few, for which the list would be moved.
+// About how many ops are in the flat tokens that are left, where those before them have so many: an eighth more rather than one
+// too few, for which the list would be moved.
 fn about_left(count: usize, all: usize, left: usize) -> usize
     ensures { result ≤ left }
 {
@@ -137,7 +137,7 @@ fn about_left(count: usize, all: usize, left: usize) -> usize
         .saturating_mul(count)
         .checked_div(all.saturating_sub(left))
     {
-        Some(more) => more.saturating_add(count),
+        Some(more) => more.saturating_add(more.saturating_add(count) / 8),
         None => left,
     };
     more.min(left)
