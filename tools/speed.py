@@ -206,8 +206,11 @@ def flat_tokens(text):
     return len(re.findall(r"\w+|[^\w\s]", text))
 
 
-# Callgrind counts each byte that `rep movsb` copies, which the C library takes for long copies, as an instruction: by this they are vectors.
-BY_VECTORS = {"GLIBC_TUNABLES": "glibc.cpu.x86_rep_movsb_threshold=1000000000"}
+# Callgrind counts each byte that `rep movsb` copies and `rep stosb` fills, which the C library takes for long copies and fills, as an
+# instruction: by this they are vectors.
+BY_VECTORS = {
+    "GLIBC_TUNABLES": "glibc.cpu.x86_rep_movsb_threshold=1000000000:glibc.cpu.x86_rep_stosb_threshold=1000000000"
+}
 
 
 def instructions(command):

@@ -639,7 +639,7 @@ fn eat_specifier<'a, A: Allocator, E: Copy + Fn(SyntaxContext) -> Edition>(
     if let Some(kind) = common_kind(text) {
         return Ok((specifier, Some(kind)));
     }
-    if text == "_" {
+    if matches!(text.as_bytes(), [b'_']) {
         return Err(());
     }
     Ok((specifier, fragment_kind(edition, specifier)))
@@ -654,10 +654,10 @@ fn fragment_kind<A: Allocator, E: Copy + Fn(SyntaxContext) -> Edition>(
     requires { MayAsk (E.pre edition) }
     ensures { Specifies (E.post edition) (ident_of specifier.now) result }
 {
-    match specifier.sym.as_str() {
-        "expr" => Some(expr_kind(edition, specifier.span.ctx)),
-        "pat" => Some(pat_kind(edition, specifier.span.ctx)),
-        name => MetaVarKind::named(name),
+    match specifier.sym.as_str().as_bytes() {
+        [b'e', b'x', b'p', b'r'] => Some(expr_kind(edition, specifier.span.ctx)),
+        [b'p', b'a', b't'] => Some(pat_kind(edition, specifier.span.ctx)),
+        _ => MetaVarKind::named(specifier.sym.as_str()),
     }
 }
 
@@ -673,6 +673,9 @@ fn common_kind(specifier: &str) -> Option<MetaVarKind>
         [b't', b't'] => Some(MetaVarKind::Tt),
         [b't', b'y'] => Some(MetaVarKind::Ty),
         [b'i', b'd', b'e', b'n', b't'] => Some(MetaVarKind::Ident),
+        [b'p', b'a', b't', b'h'] => Some(MetaVarKind::Path),
+        [b'i', b't', b'e', b'm'] => Some(MetaVarKind::Item),
+        [b's', b't', b'm', b't'] => Some(MetaVarKind::Stmt),
         [b'l', b'i', b't', b'e', b'r', b'a', b'l'] => Some(MetaVarKind::Literal),
         _ => None,
     }

@@ -6,7 +6,7 @@ ghost use Rattle.std.specs.Result.{result_ok};
 ghost use Rattle.mbe_tt.specs.Trees.Tree.{Forest, none, group, tree, append, first, rest_of};
 ghost use Rattle.mbe_tt.specs.Trees.Tree.{front_char, front_punct, front_ident, front_group};
 ghost use Rattle.mbe_tt.specs.Trees.Tree.{front_leaf, front_literal, literal_leaf, any_ident};
-ghost use Rattle.mbe_tt.specs.Trees.Tree.{first_span, skip};
+ghost use Rattle.mbe_tt.specs.Trees.Tree.{first_span, is_underscore, skip};
 ghost use Rattle.mbe_tt.specs.Views.Entries.{forest_of, Spelled};
 ghost use Rattle.mbe_tt.specs.Trees.Glue.{glue, glued, is_operator, joined_punct, third_punct};
 ghost use Rattle.mbe_tt.specs.Views.Entry.{Open};
@@ -212,7 +212,7 @@ impl<'a, A: Allocator> TtIter<'a, A> {
         ensures rest { self.new ≡ (if is_ok result then rest_of self.old else self.old) }
     {
         if let Some(TtElement::Leaf(Leaf::Ident(ident))) = self.peek()
-            && ident.sym.as_str() != "_"
+            && !is_underscore(ident.sym.as_str())
         {
             let _passed = self.next();
             return Ok(ident);
@@ -378,6 +378,14 @@ impl<'a, A: Allocator> TtElement<'a, A> {
             TtElement::Subtree(subtree, _) => subtree.delimiter.opening,
         }
     }
+}
+
+// By its bytes, which takes less than to compare texts.
+#[inline(always)]
+fn is_underscore(text: &str) -> bool
+    ensures { result ≡ is_underscore text.now }
+{
+    matches!(text.as_bytes(), [b'_'])
 }
 
 fn is_literal<A: Allocator>(leaf: &Leaf<A>) -> bool
