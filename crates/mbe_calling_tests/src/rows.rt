@@ -4,6 +4,7 @@ use crate::expansions::tests::{self, expands_nothing, is_expanded, is_marked};
 use crate::explaining::tests::are_explained;
 use crate::grammars::tests::are_handed_in;
 use crate::logs::many::is_last_of_many;
+use crate::logs::values::{are_bindings, are_fragments};
 use crate::memory::count_requests;
 use crate::results::tests::{are_made, is_call_changed, is_type_found};
 use crate::small::tests::{are_read, is_bound_in_one};
@@ -101,6 +102,8 @@ enum Tree {
     LookedInto,
     Built,
     Group,
+    Bindings,
+    Fragments,
     Million,
 }
 
@@ -120,13 +123,15 @@ impl Rows for Tree {
             Tree::LookedInto => walks::tests::is_looked_into(alloc),
             Tree::Built => writing::tests::are_built(alloc),
             Tree::Group => writing::tests::is_group_built(alloc),
+            Tree::Bindings => return are_bindings(alloc),
+            Tree::Fragments => return are_fragments(alloc),
             Tree::Million => return is_last_of_many(alloc, 500_000),
         };
         Ok(is_so.unwrap_or(false))
     }
 }
 
-static TREES: [(Tree, &str, usize); 14] = [
+static TREES: [(Tree, &str, usize); 16] = [
     (
         Tree::Bound,
         rows![("names are bound by a log and by hand")],
@@ -148,6 +153,16 @@ static TREES: [(Tree, &str, usize); 14] = [
     (Tree::LookedInto, rows![("a group is looked into")], 1),
     (Tree::Built, rows![("trees are built")], 1),
     (Tree::Group, rows![("groups are built")], 1),
+    (
+        Tree::Bindings,
+        rows![("bindings are equal in any order")],
+        1,
+    ),
+    (
+        Tree::Fragments,
+        rows![("fragments are equal where trees and writing are")],
+        1,
+    ),
     (Tree::Million, rows![("a log has a million lists")], 1),
 ];
 
