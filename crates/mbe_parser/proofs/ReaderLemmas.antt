@@ -3,7 +3,6 @@ use Rattle.std.specs.Prelude.{◌≡◌, ℕ, Bool, true, false, if◌then◌els
 use Rattle.std.proofs.Common.{ap, sym, ◌∙◌, subst}
 use Rattle.std.proofs.lemmas.Option.{none-some, same_Some}
 use Rattle.std.proofs.lemmas.Bool.{eq-eqb, ne_eqb}
-use Rattle.std.proofs.lemmas.Slice.Eq.{bytes_eq-Decides}
 use Rattle.mbe_tt.specs.Trees.Leaf.{Leaf, Ident, punct, is_text}
 use Rattle.mbe_tt.specs.Trees.Tree.{Forest, leaf, group, rest_of, skip, any_ident, front_ident, not_underscore}
 use Rattle.mbe_tt.specs.Trees.Glue.{glue}
@@ -17,7 +16,6 @@ use Rattle.mbe_semantics.specs.Syntax.Op as ops
 use Rattle.mbe_semantics.specs.Syntax.Op.{Name, Op, Ops, op, no_ops, Separator}
 use Rattle.mbe_semantics.specs.declared.kinds.RepeatKind.{RepeatKind}
 use Rattle.mbe_semantics.specs.Fragments.Kinds.{kind_named, kind_names}
-use Rattle.mbe_semantics.proofs.KindLemmas.{different}
 use Rattle.mbe_semantics.specs.Syntax.Template.{Mode, Fault, Head, ended, one, typed, opens_group, opens_repetition, head, after_dollar, puncts_at, pat_kind, expr_kind, Specifies, dated_pat, dated_expr, undated, Template, token, variable, grouped, repeated, TemplateFault, here as at_front, in_group, in_repetition, after_token, after_variable, following_group, after_repetition}
 use Rattle.mbe_parser.specs.Reader.{AtHead, FaultAtHead, IsPushed, ReadsOp, Stops}
 use Rattle.mbe_errors.specs.ErrorViews.{fault_of}
@@ -30,13 +28,13 @@ use Rattle.mbe_ops.proofs.Fragments.{back-skip}
 
 module _ (HasEdition : SyntaxContext → Edition → Type 0) where
   -- a name that isn't `pat` or `expr` means its kind in each edition
-  pub known : (specifier : Ident) (kind : Option MetaVarKind) → (specifier.sym ≡ codes "expr" → ⊥)
-      → (specifier.sym ≡ codes "pat" → ⊥)
-      → kind ≡ kind_named kind_names specifier.sym → Specifies HasEdition specifier kind
-  known specifier kind x p k =
-      subst (Specifies HasEdition specifier) (sym k)
-      (undated (different specifier.sym (codes "pat") (λ e. p (sym e)))
-      (different specifier.sym (codes "expr") (λ e. x (sym e))))
+  pub known : (specifier : Ident) (text : List ℕ) (kind : Option MetaVarKind) → text ≡ specifier.sym
+      → IsFalse (is_text text (codes "expr")) → IsFalse (is_text text (codes "pat"))
+      → kind ≡ kind_named kind_names text → Specifies HasEdition specifier kind
+  known specifier text kind same x p k =
+      subst (Specifies HasEdition specifier) (sym (k ∙ ap (kind_named kind_names) same))
+      (undated (subst (λ t. IsFalse (is_text t (codes "pat"))) same p)
+      (subst (λ t. IsFalse (is_text t (codes "expr"))) same x))
 
   -- a name that is looked up by its bytes
   pub common : (specifier : Ident) (text : List ℕ) (kind : MetaVarKind) → text ≡ specifier.sym
@@ -48,21 +46,20 @@ module _ (HasEdition : SyntaxContext → Edition → Type 0) where
       (undated (subst (λ t. IsFalse (is_text t (codes "pat"))) same h.2)
       (subst (λ t. IsFalse (is_text t (codes "expr"))) same h.3))
 
-  same_text : (a b : List ℕ) → a ≡ b → IsTrue (is_text a b)
-  same_text a b e = (bytes_eq-Decides a b).1 e
-
   -- `pat` and `expr`, in the edition of the specifier's span
-  pub pat_dated : (specifier : Ident) (kind : MetaVarKind) → specifier.sym ≡ codes "pat"
+  pub pat_dated : (specifier : Ident) (text : List ℕ) (kind : MetaVarKind) → text ≡ specifier.sym
+      → IsTrue (is_text text (codes "pat"))
       → ((e : Edition) × HasEdition specifier.span.ctx e × (kind ≡ pat_kind e))
       → Specifies HasEdition specifier (Some kind)
-  pat_dated s kind t a = subst (λ k. Specifies HasEdition s (Some k)) (sym a.2)
-      (dated_pat a.0 (same_text s.sym (codes "pat") t) a.1)
+  pat_dated s text kind same t a = subst (λ k. Specifies HasEdition s (Some k)) (sym a.2)
+      (dated_pat a.0 (subst (λ n. IsTrue (is_text n (codes "pat"))) same t) a.1)
 
-  pub expr_dated : (specifier : Ident) (kind : MetaVarKind) → specifier.sym ≡ codes "expr"
+  pub expr_dated : (specifier : Ident) (text : List ℕ) (kind : MetaVarKind) → text ≡ specifier.sym
+      → IsTrue (is_text text (codes "expr"))
       → ((e : Edition) × HasEdition specifier.span.ctx e × (kind ≡ expr_kind e))
       → Specifies HasEdition specifier (Some kind)
-  expr_dated s kind t a = subst (λ k. Specifies HasEdition s (Some k)) (sym a.2)
-      (dated_expr a.0 (same_text s.sym (codes "expr") t) a.1)
+  expr_dated s text kind same t a = subst (λ k. Specifies HasEdition s (Some k)) (sym a.2)
+      (dated_expr a.0 (subst (λ n. IsTrue (is_text n (codes "expr"))) same t) a.1)
 
 -- ---- heads
 

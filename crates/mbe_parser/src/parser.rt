@@ -639,7 +639,7 @@ fn eat_specifier<'a, A: Allocator, E: Copy + Fn(SyntaxContext) -> Edition>(
     if let Some(kind) = common_kind(text) {
         return Ok((specifier, Some(kind)));
     }
-    if matches!(text.as_bytes(), [b'_']) {
+    if is_underscore(text) {
         return Err(());
     }
     Ok((specifier, fragment_kind(edition, specifier)))
@@ -654,11 +654,35 @@ fn fragment_kind<A: Allocator, E: Copy + Fn(SyntaxContext) -> Edition>(
     requires { MayAsk (E.pre edition) }
     ensures { Specifies (E.post edition) (ident_of specifier.now) result }
 {
-    match specifier.sym.as_str().as_bytes() {
-        [b'e', b'x', b'p', b'r'] => Some(expr_kind(edition, specifier.span.ctx)),
-        [b'p', b'a', b't'] => Some(pat_kind(edition, specifier.span.ctx)),
-        _ => MetaVarKind::named(specifier.sym.as_str()),
+    let name = specifier.sym.as_str();
+    if is_expr(name) {
+        return Some(expr_kind(edition, specifier.span.ctx));
     }
+    if is_pat(name) {
+        return Some(pat_kind(edition, specifier.span.ctx));
+    }
+    MetaVarKind::named(name)
+}
+
+#[inline(always)]
+fn is_expr(specifier: &str) -> bool
+    ensures { result ≡ is_text specifier.now (codes "expr") }
+{
+    matches!(specifier.as_bytes(), [b'e', b'x', b'p', b'r'])
+}
+
+#[inline(always)]
+fn is_pat(specifier: &str) -> bool
+    ensures { result ≡ is_text specifier.now (codes "pat") }
+{
+    matches!(specifier.as_bytes(), [b'p', b'a', b't'])
+}
+
+#[inline(always)]
+fn is_underscore(specifier: &str) -> bool
+    ensures { result ≡ is_text specifier.now (codes "_") }
+{
+    matches!(specifier.as_bytes(), [b'_'])
 }
 
 // The kinds that most specifiers name, by their bytes, which takes less than to compare texts.
