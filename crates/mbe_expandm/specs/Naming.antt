@@ -1,10 +1,9 @@
 -- The trees of another crate as its macros write them elsewhere: `$crate` is the name of the crate.
-use Rattle.std.specs.Prelude.{ℕ, zero, suc, Bool, true, false, ◌==◌, ◌&&◌, if◌then◌else◌, codes, List}
-use Rattle.mbe_tt.specs.Trees.Leaf.{Leaf, Ident, literal, punct, ident, is_text, span_of}
+use Rattle.std.specs.Prelude.{ℕ, zero, suc, Bool, false, ◌==◌, ◌&&◌, if◌then◌else◌, codes, List}
+use Rattle.mbe_tt.specs.Trees.Leaf.{Leaf, literal, punct, ident, is_text, span_of}
 use Rattle.mbe_tt.specs.Trees.Top.{Top}
 use Rattle.mbe_tt.specs.Trees.Tree.{Forest, none, leaf, group, append, one_leaf}
 use Rattle.mbe_tt.specs.declared.span.Span.{Span}
-use Rattle.mbe_tt.specs.declared.tt.Punct.{Punct}
 use Rattle.mbe_tt.specs.declared.tt.IdentIsRaw.TheVariants.{No}
 use Rattle.mbe_tt.specs.declared.tt.Spacing.{Spacing}
 use Rattle.mbe_tt.specs.declared.tt.Spacing.TheVariants.{Alone, Joint}

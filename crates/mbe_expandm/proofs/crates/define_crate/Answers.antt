@@ -1,4 +1,4 @@
-use Rattle.std.proofs.Common.{map, subst, sym}
+use Rattle.std.proofs.Common.{subst, sym}
 use Rattle.std.specs.Prelude.{OnOk}
 use Rattle.mbe_expanding.specs.Shown.{setting_of, state_of}
 use Rattle.mbe_expandm.specs.Expansions.{DefinesCrate}
