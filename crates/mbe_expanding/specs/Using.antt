@@ -1,19 +1,9 @@
 -- Which macros a `use` names: paths find them, as they find other items.
-use Rattle.std.specs.Prelude.{ℕ, Bool, false, not, ◌&&◌, ◌||◌, ◌==◌, codes, List}
+use Rattle.std.specs.Prelude.{ℕ, Bool, false, not, ◌&&◌, ◌||◌, codes, List}
 use Rattle.std.specs.Str.{bytes_eq}
 use Rattle.mbe_tt.specs.Trees.Leaf.{Leaf, literal, punct, ident, is_text}
 use Rattle.mbe_tt.specs.Trees.Tree.{Forest, none, leaf, group}
-
-abbrev pub is_colon : Leaf → Bool
-is_colon (punct p) = p.char == 58
-is_colon (ident i) = false
-is_colon (literal l) = false
-
--- a `:` at the front
-abbrev pub begins_path : Forest → Bool
-begins_path none = false
-begins_path (leaf l rest) = is_colon l
-begins_path (group d inside rest) = false
+use Rattle.mbe_exporting.specs.Exports.{begins_path}
 
 -- a leaf that is the name, and not the first one of a longer path
 abbrev pub is_name_leaf : List ℕ → Leaf → Forest → Bool

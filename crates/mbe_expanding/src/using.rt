@@ -3,19 +3,9 @@ ghost use Rattle.std.specs.Prelude.{◌≡◌};
 ghost use Rattle.mbe_tt.specs.Views.View.{trees};
 ghost use Rattle.mbe_expanding.specs.Using as spec;
 
+use mbe_exporting::uses::begins_path;
 use mbe_tt::tt::{Leaf, TokenTreesView, TtElement};
 use std::alloc::Allocator;
-
-// Whether a `:` is at the front.
-fn begins_path<A: Allocator>(tokens: TokenTreesView<'_, A>) -> bool
-    ensures { result ≡ spec.begins_path (trees tokens.entry) }
-{
-    match tokens.iter().next() {
-        Some(TtElement::Leaf(Leaf::Punct(punct))) => punct.char == ':',
-        Some(TtElement::Leaf(Leaf::Ident(_) | Leaf::Literal(_)) | TtElement::Subtree(..)) | None =>
-            { false }
-    }
-}
 
 // Whether the name is at the front, and is not the first one of a longer path.
 fn is_name<A: Allocator>(name: &str, tokens: TokenTreesView<'_, A>) -> bool

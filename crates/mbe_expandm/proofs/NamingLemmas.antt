@@ -9,6 +9,8 @@ use Rattle.mbe_tt.specs.declared.tt.Delimiter.{Delimiter}
 use Rattle.mbe_tt.specs.declared.tt.Spacing.TheVariants.{Alone, Joint}
 use Rattle.mbe_tt.proofs.Buffers.Built.{length-put}
 use Rattle.mbe_tt.proofs.Buffers.Grown.{put-none}
+use Rattle.mbe_tt.proofs.Trees.Firsts.{whole, nothing}
+use Rattle.mbe_tt.proofs.Trees.Joined.{append_append}
 use Rattle.mbe_expandm.specs.Naming.{colon, colons, is_dollar, named_by, named_in, named_leaf}
 
 -- what is written of some trees, once the others are, is what is to be written of all
@@ -16,30 +18,6 @@ pub record Left (levels : ℕ) (name : List ℕ) (f : Forest) (old : Levels) (af
     (now : Levels) : Type 0 where
   pub same : put (named_by (named_in (levels - 1) name) name after rest) now ≡ put (named_in levels name f) old
   pub groups : length now ≡ length old
-
-same_some : {A : Type 0} (x y : A) → Some x ≡ Some y → x ≡ y
-same_some x y e = cc
-
--- the first tree, and those after it
-whole : (f : Forest) (t : Tree) → first f ≡ Some t → f ≡ tree t (rest_of f)
-whole none t e = cc
-whole (leaf l rest) t e = ap (λ x. tree x rest) (same_some (Leaf_tree l) t e)
-whole (group d inside rest) t e = ap (λ x. tree x rest) (same_some (Group_tree d inside) t e)
-
-nothing : (f : Forest) → first f ≡ None → f ≡ none
-nothing none e = refl
-nothing (leaf l rest) e = cc
-nothing (group d inside rest) e = cc
-
-pub rest_less : (f : Forest) (t : Tree) → first f ≡ Some t → flat_len (rest_of f) < flat_len f
-rest_less none t e = cc
-rest_less (leaf l rest) t e = omega arith
-rest_less (group d inside rest) t e = omega arith
-
-append_append : (f g h : Forest) → append (append f g) h ≡ append f (append g h)
-append_append none g h = refl
-append_append (leaf l rest) g h = ap (leaf l) (append_append rest g h)
-append_append (group d inside rest) g h = ap (group d inside) (append_append rest g h)
 
 put_both : (f g : Forest) (b : Levels) → put g (put f b) ≡ put (append f g) b
 put_both f g [] = refl

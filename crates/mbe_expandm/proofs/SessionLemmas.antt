@@ -10,13 +10,28 @@ use Rattle.mbe_expanding.specs.Calls.{Setting, State}
 use Rattle.mbe_expanding.specs.Scopes.{Scope}
 use Rattle.mbe_expandm.specs.declared.places.Position.{Position}
 use Rattle.mbe_expandm.specs.declared.reading.Reading.{Reading}
-use Rattle.mbe_expandm.specs.Conditions.{Conditions}
+use Rattle.mbe_rules.specs.declared.table.RuleTable.{RuleTable}
+use Rattle.mbe_rust.specs.Keywords.{rows, rust_keywords}
+use Rattle.mbe_rust.specs.Starts.{rust_starts}
+use Rattle.mbe_expandm.specs.Conditions.{Conditions, IsUnder}
+use Rattle.mbe_expandm.specs.Readings.{IsReading, IsRustTable}
 use Rattle.mbe_expandm.specs.Expansions as spec
 use Rattle.mbe_expandm.specs.Expansions.{DefinesCrates, IsThere, KnowsOthers, RootBecomes, TextsThere, WritesOne}
 use Rattle.mbe_expandm.specs.Runs.{IsBegun, IsPrinted}
 use Rattle.mbe_expandm.specs.Sources as sources
 use Rattle.mbe_expandm.specs.Sources.{AreSources, IsSource, Source, Text, source_text}
 use Rattle.mbe_tt.specs.declared.span.Edition.{Edition}
+
+-- what is read by a table of Rust, as the words ask
+pub read_as_asked : (edition : Edition) (c : Conditions) (table : RuleTable) (r : Reading)
+    → rows table.keywords.now ≡ rust_keywords → table.starts ≡ rust_starts → table.edition ≡ edition
+    → r.edition ≡ edition → IsUnder c r.conditions → r.grammar ≡ table → IsReading edition c r
+read_as_asked edition c table r keywords starts dated same under by = record {
+  edition_is = same;
+  is_rust = subst (IsRustTable edition) (sym by)
+      (record { keywords = keywords; starts = starts; edition_is = dated });
+  is_under = under;
+}
 
 -- the items up to one more
 pub map_taken : {X Y : Type 0} (f : X → Y) (items : List X) (item : X) (i : ℕ) → i < length items

@@ -5,6 +5,7 @@ pub mod Crates
 pub mod Modules
 pub mod Naming
 pub mod Conditions
+pub mod Readings
 pub mod ShownOptions
 pub mod Expansions
 pub mod Runs

@@ -6,10 +6,9 @@ use Rattle.mbe_expanding.specs.Scopes.{IsEdition}
 use Rattle.mbe_lints.specs.Definitions.{definitions}
 use Rattle.mbe_lints.specs.Lint.{Lint}
 use Rattle.mbe_lints.specs.Lints.{AreLinted}
-use Rattle.mbe_rules.specs.declared.table.RuleTable.{RuleTable}
-use Rattle.mbe_cfg.specs.declared.settings.Settings.{Settings}
-use Rattle.mbe_expandm.specs.Conditions.{Conditions, IsUnder}
-use Rattle.mbe_expandm.specs.Runs.{IsRustTable}
+use Rattle.mbe_expandm.specs.declared.reading.Reading.{Reading}
+use Rattle.mbe_expandm.specs.Conditions.{Conditions}
+use Rattle.mbe_expandm.specs.Readings.{IsReading}
 use Rattle.mbe_expandm.specs.Sources.{Source, Text, AreSources, source_text}
 
 -- the definitions of a file; one that isn't Rust has none
@@ -27,11 +26,9 @@ FilesLinted edition (file ∷ files) before after =
 pub record AreTextsLinted (edition : Edition) (c : Conditions) (texts : List Text) (files : List Source)
     (lints : List Lint) : Type 0 where
   pub texts_are : map source_text files ≡ texts
-  pub table : RuleTable
-  pub is_rust : IsRustTable edition table
-  pub conditions : Settings
-  pub is_under : IsUnder c conditions
-  pub are_read : AreSources (record { edition = edition; conditions = conditions; grammar = table }) files
+  pub reading : Reading
+  pub is_reading : IsReading edition c reading
+  pub are_read : AreSources reading files
   pub linted : FilesLinted edition (map (λ f. f.tree) files) [] lints
 
 -- the status of a run that had so much to say of files and of definitions

@@ -4,27 +4,19 @@ use Rattle.std.specs.List.{slice_get}
 use Rattle.std.specs.Option.{option_or}
 use Rattle.mbe_tt.specs.declared.span.Edition.{Edition}
 use Rattle.mbe_rules.specs.Lawful.{grammar_of}
-use Rattle.mbe_rules.specs.declared.table.RuleTable.{RuleTable}
-use Rattle.mbe_rust.specs.Keywords.{rows, rust_keywords}
-use Rattle.mbe_rust.specs.Starts.{rust_starts}
 use Rattle.mbe_calls.specs.Splicing.{Part}
 use Rattle.mbe_expanding.specs.Calls.{Setting, State}
 use Rattle.mbe_expanding.specs.Scopes.{Scope}
-use Rattle.mbe_cfg.specs.declared.settings.Settings.{Settings}
 use Rattle.mbe_expandm.specs.declared.places.Position.{Position}
-use Rattle.mbe_expandm.specs.Conditions.{Conditions, IsUnder}
+use Rattle.mbe_expandm.specs.declared.reading.Reading.{Reading}
+use Rattle.mbe_expandm.specs.Conditions.{Conditions}
 use Rattle.mbe_expandm.specs.Expansions.{CratesParts, DefinesCrates, FilesBecome, KnowsOthers, RootBecomes}
+use Rattle.mbe_expandm.specs.Readings.{IsReading}
 use Rattle.mbe_expandm.specs.Sources.{Source, Text, AreSources, source_text}
 
 -- how many groups and calls may be in one another
 abbrev pub LEVELS : ℕ
 LEVELS = 1000
-
--- a table of Rust's grammar in an edition
-pub record IsRustTable (edition : Edition) (table : RuleTable) : Type 0 where
-  pub keywords : rows table.keywords.now ≡ rust_keywords
-  pub starts : table.starts ≡ rust_starts
-  pub edition_is : table.edition ≡ edition
 
 -- Where a run begins: the files are read, the definitions of other crates of these names are known, whose roots are the
 -- files after the first so many, with what these export of each other, and those of the crates whose roots are these,
@@ -33,12 +25,10 @@ pub record IsRustTable (edition : Edition) (table : RuleTable) : Type 0 where
 pub record IsBegun (edition : Edition) (c : Conditions) (depth : Option ℕ) (fuel : ℕ) (follows : Bool) (given : ℕ)
     (others : List (List ℕ)) (texts : List Text) (files : List Source) (e : Setting) (s : State) : Type 0 where
   pub texts_are : map source_text files ≡ texts
-  pub table : RuleTable
-  pub is_rust : IsRustTable edition table
-  pub conditions : Settings
-  pub is_under : IsUnder c conditions
-  pub are_read : AreSources (record { edition = edition; conditions = conditions; grammar = table }) files
-  pub grammar : e.grammar ≡ grammar_of table
+  pub reading : Reading
+  pub is_reading : IsReading edition c reading
+  pub are_read : AreSources reading files
+  pub grammar : e.grammar ≡ grammar_of reading.grammar
   pub edition_is : e.edition ≡ edition
   pub limit : Option ℕ
   pub depth_is : e.depth ≡ unwrap_or (option_or depth limit) 128

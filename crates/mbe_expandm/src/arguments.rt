@@ -6,10 +6,12 @@ ghost use Rattle.mbe_expandm.specs.ShownOptions.{conditions_of};
 ghost use Rattle.mbe_expandm.specs.Words.{edition_of, target_of};
 
 use crate::places::Position;
+use crate::reading::Reading;
 use mbe_cfg::settings as cfg;
 use mbe_cfg::settings::Cfg;
 use mbe_cfg::targets::Target;
 use mbe_expanding::settings::{Explain, Settings};
+use mbe_rules::table::RuleTable;
 use mbe_tt::span::Edition;
 use std::alloc::{AllocError, Allocator, Global};
 
@@ -246,6 +248,19 @@ impl<'w, A: Allocator + Copy> Options<'w, A> {
             given: self.given.as_slice(),
             features: self.features.as_slice(),
             test: self.is_test,
+        }
+    }
+
+    /// How texts are read by that table, in the edition that the words ask for and under what they set.
+    pub fn reading<'r>(&'r self, grammar: RuleTable<'r>) -> Reading<'r>
+        ensures edition { result.edition ≡ self.now.edition }
+        ensures conditions { IsUnder (conditions_of self.now) result.conditions }
+        ensures grammar { result.grammar ≡ grammar.entry }
+    {
+        Reading {
+            edition: self.edition,
+            conditions: self.conditions(),
+            grammar,
         }
     }
 

@@ -10,7 +10,6 @@ ghost use Rattle.mbe_expandm.specs.ShownOptions.{conditions_of};
 
 use crate::arguments::Options;
 use crate::files::SourceFile;
-use crate::reading::Reading;
 use crate::sessions::{DONE, ERRORS, Named, sources};
 use mbe_expanding::notes::Note;
 use mbe_lints::lint::Lint;
@@ -87,12 +86,7 @@ pub fn lint<'f>(
         (map text_of texts.now) (map source_of l.files.items) (map lint_seen l.lints.items)) }
 {
     let mut notes = Vec::new(alloc);
-    let grammar = rust_rules(options.edition, &[]);
-    let reading = Reading {
-        edition: options.edition,
-        conditions: options.conditions(),
-        grammar,
-    };
+    let reading = options.reading(rust_rules(options.edition, &[]));
     let files = sources(alloc, &reading, texts, &mut notes)?;
     let mut lints = Vec::new(alloc);
     push_files(alloc, options.edition, &mut lints, files.as_slice())?;

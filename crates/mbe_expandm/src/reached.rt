@@ -163,11 +163,7 @@ impl Reached {
         options: &Options<'_>,
         progress: Progress,
     ) -> io::Result<()> {
-        let reading = Reading {
-            edition: options.edition,
-            conditions: options.conditions(),
-            grammar: rust_rules(options.edition, &[]),
-        };
+        let reading = options.reading(rust_rules(options.edition, &[]));
         for number in 0..MOST {
             if number >= self.texts.len() {
                 return Ok(());

@@ -107,11 +107,7 @@ impl<'f> Session<'f> {
     {
         let mut notes = Vec::new(alloc);
         let grammar = rust_rules(options.edition, &[]);
-        let reading = Reading {
-            edition: options.edition,
-            conditions: options.conditions(),
-            grammar,
-        };
+        let reading = options.reading(grammar);
         let files = sources(alloc, &reading, texts, &mut notes)?;
         let given = options.names.len();
         let explain = explained(options.explain, files.as_slice(), given);

@@ -124,8 +124,8 @@ pub(crate) fn crate_of<'t, A: Allocator>(name: &'t str, tokens: TokenTreesView<'
     }
 }
 
-// Whether a `:` is at the front.
-fn begins_path<A: Allocator>(tokens: TokenTreesView<'_, A>) -> bool
+/// Whether a `:` is at the front.
+pub fn begins_path<A: Allocator>(tokens: TokenTreesView<'_, A>) -> bool
     ensures { result ≡ spec.begins_path (trees tokens.entry) }
 {
     match tokens.iter().next() {

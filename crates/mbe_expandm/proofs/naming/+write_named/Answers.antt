@@ -6,7 +6,8 @@ use Rattle.mbe_tt.specs.Views.Element.{element_tree}
 use Rattle.mbe_tt.specs.Views.Shown.{leaf_of}
 use Rattle.mbe_tt.specs.Views.View.{trees}
 use Rattle.mbe_expandm.specs.Naming.{named_in, named_leaf}
-use Rattle.mbe_expandm.proofs.NamingLemmas.{Left, all_written, as_they_are, begins, group_on, is_inside, leaf_on, rest_less}
+use Rattle.mbe_tt.proofs.Trees.Firsts.{rest_less}
+use Rattle.mbe_expandm.proofs.NamingLemmas.{Left, all_written, as_they_are, begins, group_on, is_inside, leaf_on}
 use Rattle.mbe_expandm.proofs.naming.+write_named.Goals as goal
 
 pub returns-then-levels-eq0 : goal.returns-then-levels-eq0

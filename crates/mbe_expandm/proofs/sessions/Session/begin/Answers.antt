@@ -1,10 +1,11 @@
-use Rattle.std.proofs.Common.{◌≡◌, ◌∙◌, [], ap, arith, length, map}
+use Rattle.std.proofs.Common.{◌≡◌, ◌∙◌, [], ap, sym, arith, length, map}
 use Rattle.std.proofs.lemmas.Simd.{map-map}
+use Rattle.mbe_rules.specs.Lawful.{grammar_of}
 use Rattle.mbe_expanding.specs.Shown.{setting_of, state_of}
 use Rattle.mbe_expandm.specs.ShownFiles.{source_of}
-use Rattle.mbe_expandm.specs.ShownOptions.{names_of}
+use Rattle.mbe_expandm.specs.ShownOptions.{conditions_of, names_of}
 use Rattle.mbe_expandm.specs.Sources.{source_text}
-use Rattle.mbe_expandm.proofs.SessionLemmas.{crates_are, others_are}
+use Rattle.mbe_expandm.proofs.SessionLemmas.{crates_are, others_are, read_as_asked}
 use Rattle.mbe_expandm.proofs.sessions.Session.begin.Goals as goal
 
 pub know_others-requires : goal.know_others-requires
@@ -29,16 +30,13 @@ returns c =
     omega (arith, c.len-given.ensures, options.names.ok.0) in
     record {
       texts_are = map-map source_text source_of files ∙ c.in_ok-files.ensures.texts;
-      conditions = c.conditions.result;
-      is_under = c.conditions.ensures;
+      reading = c.reading-reading.result;
+      is_reading = read_as_asked options.edition (conditions_of options) c.rust_rules-grammar.result
+          c.reading-reading.result c.rust_rules-grammar.ensures.keywords c.rust_rules-grammar.ensures.starts
+          c.rust_rules-grammar.ensures.edition c.reading-reading.ensures.edition c.reading-reading.ensures.conditions
+          c.reading-reading.ensures.grammar;
       are_read = c.in_ok-files.ensures.read;
-      table = c.rust_rules-grammar.result;
-      is_rust = record {
-        keywords = c.rust_rules-grammar.ensures.keywords;
-        starts = c.rust_rules-grammar.ensures.starts;
-        edition_is = c.rust_rules-grammar.ensures.edition;
-      };
-      grammar = ap (λ e. e.grammar) setting;
+      grammar = ap (λ e. e.grammar) setting ∙ ap grammar_of (sym c.reading-reading.ensures.grammar);
       edition_is = ap (λ e. e.edition) setting ∙ c.settings-settings.ensures.edition;
       limit = c.limit_of.result;
       depth_is = ap (λ e. e.depth) setting ∙ c.settings-settings.ensures.depth;
