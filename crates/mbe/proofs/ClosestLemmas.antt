@@ -199,6 +199,13 @@ module _ (g : Grammar) (call_site : Span) (input : Top) (style : MacroCallStyle)
               (put_here h.left k near.unmatched) was_bound (put_here h.bound k near.bound) (not_nearer far));
         }
 
+        -- as many unmatched trees, and more bindings
+        as_near : (nat_eq near.unmatched best.unmatched && nat_lt best.bound near.bound) ≡ true
+            → (near.unmatched ≡ best.unmatched) × (best.bound < near.bound)
+        as_near l =
+            let both = and_parts (nat_eq near.unmatched best.unmatched) (nat_lt best.bound near.bound) l in
+            (eqb-true near.unmatched best.unmatched both.0, ltb-true best.bound near.bound both.1)
+
         -- what is nearer than the best goes before all that the best goes before
         nearer_goes : is_nearer near best ≡ true → (m : ℕ) (b d : ℕ) → Before best.unmatched b best.bound d n m
             → Before near.unmatched b near.bound d k m
@@ -210,27 +217,11 @@ module _ (g : Grammar) (call_site : Span) (input : Top) (style : MacroCallStyle)
             go (inl l) (inl y) = let p = ltb-true near.unmatched best.unmatched l in inl (omega (arith, p, y))
             go (inl l) (inr y) = let p = ltb-true near.unmatched best.unmatched l in
                 inl (let e = y.0 in omega (arith, p, e))
-            go (inr l) (inl y) =
-                let p : near.unmatched ≡ best.unmatched =
-                eqb-true near.unmatched best.unmatched
-                (and_parts (nat_eq near.unmatched best.unmatched) (nat_lt best.bound near.bound) l).0 in
-                inl (omega (arith, p, y))
+            go (inr l) (inl y) = let p = (as_near l).0 in inl (omega (arith, p, y))
             go (inr l) (inr (e, inl y)) =
-                let p : near.unmatched ≡ best.unmatched =
-                eqb-true near.unmatched best.unmatched
-                (and_parts (nat_eq near.unmatched best.unmatched) (nat_lt best.bound near.bound) l).0 in
-                let q : best.bound < near.bound =
-                ltb-true best.bound near.bound (and_parts (nat_eq near.unmatched best.unmatched)
-                (nat_lt best.bound near.bound) l).1 in
-                inr (p ∙ e, inl (omega (arith, q, y)))
+                let p = as_near l in inr (p.0 ∙ e, inl (let q = p.1 in omega (arith, q, y)))
             go (inr l) (inr (e, inr y)) =
-                let p : near.unmatched ≡ best.unmatched =
-                eqb-true near.unmatched best.unmatched
-                (and_parts (nat_eq near.unmatched best.unmatched) (nat_lt best.bound near.bound) l).0 in
-                let q : best.bound < near.bound =
-                ltb-true best.bound near.bound (and_parts (nat_eq near.unmatched best.unmatched)
-                (nat_lt best.bound near.bound) l).1 in
-                inr (p ∙ e, inl (let z = y.0 in omega (arith, q, z)))
+                let p = as_near l in inr (p.0 ∙ e, inl (let q = p.1 in let z = y.0 in omega (arith, q, z)))
 
         pub so_far_nearer : is_nearer near best ≡ true → IsSoFar (k + 1) (Some (k, near))
         so_far_nearer closer = record {

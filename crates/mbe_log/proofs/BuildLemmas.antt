@@ -8,7 +8,7 @@ use Rattle.mbe_log.specs.Chain.{Chain, IsWithin, chain_len, link_len, link_in, o
 use Rattle.mbe_log.specs.Entries.{commands_seen, rounds_seen, first_link, first_round_link, entry_seen, log_of}
 use Rattle.mbe_semantics.specs.Bindings.Account.{Command, Commands, CommandRounds, no_commands, command, command_round, Entry, RoundEntry, Log, Gives, GivesRounds, PartGives, PartGivesRounds, gives_nothing, gives_binding, gives_empty, gives_skip, gives_missing, gives_nested, gives_link, gives_no_rounds, gives_round, gives_linked_rounds, part_gives, part_gives_rounds}
 use Rattle.mbe_log.specs.Sound.{depth, rounds_depth, GivesCommand}
-use Rattle.mbe_log.proofs.LogLemmas.{follow, rounds_follow}
+use Rattle.mbe_semantics.proofs.GivesLemmas.{follow, rounds_follow}
 
 -- ---- lists
 

@@ -5,7 +5,8 @@ use Rattle.mbe_semantics.specs.declared.log.Part.{Part}
 use Rattle.mbe_semantics.specs.Bindings.Account.{Account, pushed, pushed_default, Command, Commands, CommandRounds, no_commands, command, no_command_rounds, command_round, Entry, RoundEntry, Log, Handle, IsIn, HasEntriesOf, Gives, GivesRounds, PartGives, PartGivesRounds, gives_nothing, gives_binding, gives_empty, gives_skip, gives_missing, gives_nested, gives_link, gives_no_rounds, gives_round, gives_linked_rounds, part_gives, part_gives_rounds, IsAccount}
 use Rattle.mbe_log.specs.Shared.{IsWhole, IsGiven, IsChanged, appended, with_list, with_round_list}
 use Rattle.mbe_log.specs.Sound.{depth, command_depth, rounds_depth, IsGrounded, GivesCommand}
-use Rattle.mbe_log.proofs.LogLemmas.{get-front, get-last, get-more, get-appended, take-whole, appended-same, appended-other, HasMore, more-itself, more-list, more-entry, gives, rounds, part_rounds, kept, follow, rounds_follow, gives_one, whole, whole_rounds}
+use Rattle.mbe_semantics.proofs.GivesLemmas.{follow, rounds_follow}
+use Rattle.mbe_log.proofs.LogLemmas.{get-front, get-last, get-more, get-appended, take-whole, appended-same, appended-other, HasMore, more-itself, more-list, more-entry, gives, rounds, part_rounds, kept, gives_one, whole, whole_rounds}
 use Rattle.mbe_log.proofs.BuildLemmas.{take-none, deeper, deeper_rounds}
 use Rattle.mbe_log.proofs.ClientLemmas.{in_of, lists_there}
 use Rattle.mbe_log.proofs.OrderLemmas.{adds-none, adds-list, adds-entry, within, rounds-within, command-within, order-stays}

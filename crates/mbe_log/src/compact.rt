@@ -13,7 +13,7 @@
 //
 // Nothing is proved of the search. What it found is looked through before it counts: what the entries that are kept stand
 // for is kept (`are_kept`), and so are the lists of the extent (`stay`).
-ghost use Rattle.std.specs.Prelude.{◌≡◌, ◌++◌, IfOk, OnOk, IfSome, IsTrue, option_map, option_to_list, slice_get};
+ghost use Rattle.std.specs.Prelude.{◌≡◌, IfOk, IfSome, IsTrue, option_map, slice_get};
 ghost use Rattle.mbe_log.specs.Compacting.{Sends, IsKeptIn, kept_of, moved};
 ghost use Rattle.mbe_log.specs.KeptLists.{moved_command, CommandStandsForKept, cut_list, cut_at, IsListKept};
 ghost use Rattle.mbe_log.specs.KeptLists.{IsWhole, IsLinkKept, IsCutKept, kept_lists, AreCutKept, IsNumbered, Stay};
@@ -97,24 +97,127 @@ impl<A: Allocator> Moves<A> {
     }
 }
 
-// ---- what is looked through
+// A part that is of use.
+#[derive(Clone, Copy, Drop)]
+pub(crate) enum Used {
+    Commands(Part),
+    Rounds(Part),
+}
 
-// Whether what the command stands for is kept.
-fn stands_for_kept<A: Allocator>(command: &Command<'_, A>, moves: &Moves<A>) -> bool
-    ensures { IsTrue result → CommandStandsForKept
-        moves.now.commands.items moves.now.rounds.items command.now }
-{
-    match command {
-        Command::Nested { finished, current } => {
-            if !keeps(&moves.rounds, *finished) {
-                return false;
+/// What lists have: commands, or rounds, each of which is a list of commands.
+pub(crate) trait Entry<A: Allocator>: Drop + Sized {
+    ghost use Rattle.mbe_log.specs.declared.compact.Moves.{Moves};
+    ghost use Rattle.mbe_log.specs.Compacting.{Table};
+
+    ghost table: { Moves A → Table };
+
+    ghost moved: { Moves A → Self → Self };
+
+    ghost stands: { Moves A → Self → Type 0 };
+
+    /// What is kept of lists of such entries.
+    fn table(moves: &Moves<A>) -> &[Option<Part>]
+        ensures { result.now ≡ table moves.now };
+
+    /// Whether what it stands for is kept.
+    fn stands_for_kept(&self, moves: &Moves<A>) -> bool
+        ensures { IsTrue result → stands moves.now self.now };
+
+    /// The entry in the numbers of the new lists. `AllocError` if out of memory.
+    fn moved(&self, moves: &Moves<A>) -> Result<Self, AllocError>
+        ensures { IfOk result (λ x. x ≡ moved moves.now self.now) };
+
+    /// A part of a list of such entries.
+    fn used(part: Part) -> Used;
+
+    /// Adds what it stands for. `AllocError` if out of memory.
+    fn push_used(&self, todo: &mut Vec<Used, A>) -> Result<(), AllocError>;
+}
+
+impl<'a, A: Allocator + Copy> Entry<A> for Command<'a, A> {
+    ghost use Rattle.mbe_log.specs.KeptLists.{moved_command, CommandStandsForKept};
+
+    ghost table = { λ m. m.commands.items };
+
+    ghost moved = { λ m. moved_command m.commands.items m.rounds.items };
+
+    ghost stands = { λ m. CommandStandsForKept m.commands.items m.rounds.items };
+
+    fn table(moves: &Moves<A>) -> &[Option<Part>] {
+        &moves.commands
+    }
+
+    fn stands_for_kept(&self, moves: &Moves<A>) -> bool {
+        match self {
+            Command::Nested { finished, current } => {
+                keeps(&moves.rounds, *finished) && keeps(&moves.commands, *current)
             }
-            keeps(&moves.commands, *current)
+            Command::Fragment(_, _) | Command::Missing(_, _) => true,
+            Command::Optional(_) | Command::Empty(_) => true,
         }
-        Command::Fragment(_, _) | Command::Missing(_, _) => true,
-        Command::Optional(_) | Command::Empty(_) => true,
+    }
+
+    fn moved(&self, moves: &Moves<A>) -> Result<Command<'a, A>, AllocError> {
+        match self {
+            Command::Fragment(name, fragment) => {
+                Ok(Command::Fragment(name.clone()?, fragment.try_clone()?))
+            }
+            Command::Optional(name) => Ok(Command::Optional(name.clone()?)),
+            Command::Empty(name) => Ok(Command::Empty(name.clone()?)),
+            Command::Missing(name, kind) => Ok(Command::Missing(name.clone()?, *kind)),
+            Command::Nested { finished, current } => Ok(Command::Nested {
+                finished: moved(&moves.rounds, *finished),
+                current: moved(&moves.commands, *current),
+            }),
+        }
+    }
+
+    fn used(part: Part) -> Used {
+        Used::Commands(part)
+    }
+
+    fn push_used(&self, todo: &mut Vec<Used, A>) -> Result<(), AllocError> {
+        let Command::Nested { finished, current } = self else {
+            return Ok(());
+        };
+        todo.push(Used::Rounds(*finished))?;
+        todo.push(Used::Commands(*current))?;
+        Ok(())
     }
 }
+
+impl<A: Allocator> Entry<A> for Part {
+    ghost use Rattle.mbe_log.specs.Compacting.{moved, IsKeptIn};
+
+    ghost table = { λ m. m.rounds.items };
+
+    ghost moved = { λ m. moved m.commands.items };
+
+    ghost stands = { λ m. IsKeptIn m.commands.items };
+
+    fn table(moves: &Moves<A>) -> &[Option<Part>] {
+        &moves.rounds
+    }
+
+    fn stands_for_kept(&self, moves: &Moves<A>) -> bool {
+        keeps(&moves.commands, *self)
+    }
+
+    fn moved(&self, moves: &Moves<A>) -> Result<Part, AllocError> {
+        Ok(moved(&moves.commands, *self))
+    }
+
+    fn used(part: Part) -> Used {
+        Used::Rounds(part)
+    }
+
+    fn push_used(&self, todo: &mut Vec<Used, A>) -> Result<(), AllocError> {
+        todo.push(Used::Commands(*self))?;
+        Ok(())
+    }
+}
+
+// ---- what is looked through
 
 // Whether the list has so many entries, and its link, if it is one of them, is kept.
 fn is_link_kept<T, A: Allocator>(table: &[Option<Part>], list: &Linked<T, A>, first: usize) -> bool
@@ -131,37 +234,19 @@ fn is_link_kept<T, A: Allocator>(table: &[Option<Part>], list: &Linked<T, A>, fi
 }
 
 // Whether the list has so many entries, and what they stand for is kept.
-fn is_cut_kept<A: Allocator>(
-    list: &Linked<Command<'_, A>, A>,
+fn is_cut_kept<E: Entry<A>, A: Allocator>(
+    list: &Linked<E, A>,
     first: usize,
     moves: &Moves<A>,
 ) -> bool
-    ensures { IsTrue result → IsCutKept moves.now.commands.items (CommandStandsForKept
-        moves.now.commands.items moves.now.rounds.items) first list.now }
+    ensures { IsTrue result → IsCutKept (E.table moves.now) (E.stands moves.now) first list.now }
 {
-    if !is_link_kept(&moves.commands, list, first) {
+    if !is_link_kept(E::table(moves), list, first) {
         return false;
     }
     let (_link, own) = list.cut(first);
     for index in 0..own {
-        if !stands_for_kept(list.own_at(index), moves) {
-            return false;
-        }
-    }
-    true
-}
-
-// The same of a list of rounds.
-fn are_rounds_kept<A: Allocator>(list: &Linked<Part, A>, first: usize, moves: &Moves<A>) -> bool
-    ensures { IsTrue result → IsCutKept moves.now.rounds.items
-        (IsKeptIn moves.now.commands.items) first list.now }
-{
-    if !is_link_kept(&moves.rounds, list, first) {
-        return false;
-    }
-    let (_link, own) = list.cut(first);
-    for index in 0..own {
-        if !keeps(&moves.commands, *list.own_at(index)) {
+        if !list.own_at(index).stands_for_kept(moves) {
             return false;
         }
     }
@@ -169,15 +254,15 @@ fn are_rounds_kept<A: Allocator>(list: &Linked<Part, A>, first: usize, moves: &M
 }
 
 // Whether the list of this number is there, and what its first entries stand for is kept, if it is kept.
-fn is_list_kept<A: Allocator>(
-    lists: &[Linked<Command<'_, A>, A>],
+fn is_list_kept<E: Entry<A>, A: Allocator>(
+    lists: &[Linked<E, A>],
     moves: &Moves<A>,
     index: usize,
 ) -> bool
-    ensures { IsTrue result → IsListKept moves.now.commands.items (CommandStandsForKept
-        moves.now.commands.items moves.now.rounds.items) lists.now index }
+    ensures { IsTrue result
+        → IsListKept (E.table moves.now) (E.stands moves.now) lists.now index }
 {
-    let Some(part) = kept_of(&moves.commands, index) else {
+    let Some(part) = kept_of(E::table(moves), index) else {
         return true;
     };
     match lists.get(index) {
@@ -186,44 +271,12 @@ fn is_list_kept<A: Allocator>(
     }
 }
 
-// The same of rounds.
-fn is_round_list_kept<A: Allocator>(
-    lists: &[Linked<Part, A>],
-    moves: &Moves<A>,
-    index: usize,
-) -> bool
-    ensures { IsTrue result → IsListKept moves.now.rounds.items
-        (IsKeptIn moves.now.commands.items) lists.now index }
-{
-    let Some(part) = kept_of(&moves.rounds, index) else {
-        return true;
-    };
-    match lists.get(index) {
-        Some(list) => are_rounds_kept(list, part.first, moves),
-        None => false,
-    }
-}
-
 // Whether each list that is kept is there, and what its first entries stand for is kept.
-fn are_kept<A: Allocator>(lists: &[Linked<Command<'_, A>, A>], moves: &Moves<A>) -> bool
-    ensures { IsTrue result → AreCutKept moves.now.commands.items (CommandStandsForKept
-        moves.now.commands.items moves.now.rounds.items) lists.now }
+fn are_kept<E: Entry<A>, A: Allocator>(lists: &[Linked<E, A>], moves: &Moves<A>) -> bool
+    ensures { IsTrue result → AreCutKept (E.table moves.now) (E.stands moves.now) lists.now }
 {
-    for index in 0..moves.commands.len() {
+    for index in 0..E::table(moves).len() {
         if !is_list_kept(lists, moves, index) {
-            return false;
-        }
-    }
-    true
-}
-
-// The same of rounds.
-fn are_all_rounds_kept<A: Allocator>(lists: &[Linked<Part, A>], moves: &Moves<A>) -> bool
-    ensures { IsTrue result → AreCutKept moves.now.rounds.items
-        (IsKeptIn moves.now.commands.items) lists.now }
-{
-    for index in 0..moves.rounds.len() {
-        if !is_round_list_kept(lists, moves, index) {
             return false;
         }
     }
@@ -250,28 +303,6 @@ fn stay<T, A: Allocator>(lists: &[Linked<T, A>], table: &[Option<Part>], count: 
 
 // ---- what is written
 
-// The command in the numbers of the new lists. `AllocError` if out of memory.
-fn moved_command<'a, A: Allocator + Copy>(
-    command: &Command<'a, A>,
-    moves: &Moves<A>,
-) -> Result<Command<'a, A>, AllocError>
-    ensures { IfOk result (λ c. c
-        ≡ moved_command moves.now.commands.items moves.now.rounds.items command.now) }
-{
-    match command {
-        Command::Fragment(name, fragment) => {
-            Ok(Command::Fragment(name.clone()?, fragment.try_clone()?))
-        }
-        Command::Optional(name) => Ok(Command::Optional(name.clone()?)),
-        Command::Empty(name) => Ok(Command::Empty(name.clone()?)),
-        Command::Missing(name, kind) => Ok(Command::Missing(name.clone()?, *kind)),
-        Command::Nested { finished, current } => Ok(Command::Nested {
-            finished: moved(&moves.rounds, *finished),
-            current: moved(&moves.commands, *current),
-        }),
-    }
-}
-
 // The link, in the new lists.
 fn moved_link(table: &[Option<Part>], link: Option<Part>) -> Option<Part>
     ensures { result ≡ option_map (moved table.now) link }
@@ -283,53 +314,34 @@ fn moved_link(table: &[Option<Part>], link: Option<Part>) -> Option<Part>
 }
 
 // The list's first so many entries, moved. `AllocError` if out of memory.
-fn cut_list<'a, A: Allocator + Copy>(
+fn cut_list<E: Entry<A>, A: Allocator + Copy>(
     alloc: A,
-    list: &Linked<Command<'a, A>, A>,
+    list: &Linked<E, A>,
     first: usize,
     moves: &Moves<A>,
-) -> Result<Linked<Command<'a, A>, A>, AllocError>
-    ensures { IfOk result (λ l. l ≡ cut_list moves.now.commands.items (moved_command
-        moves.now.commands.items moves.now.rounds.items) first list.now) }
+) -> Result<Linked<E, A>, AllocError>
+    ensures { IfOk result (λ l. l
+        ≡ cut_list (E.table moves.now) (E.moved moves.now) first list.now) }
 {
     let (link, own) = list.cut(first);
-    let mut cut = Linked::linked(alloc, moved_link(&moves.commands, link));
+    let mut cut = Linked::linked(alloc, moved_link(E::table(moves), link));
     for index in 0..own.min(list.own_len()) {
-        cut.push(moved_command(list.own_at(index), moves)?)?;
-    }
-    Ok(cut)
-}
-
-// The same of a list of rounds.
-fn cut_rounds<A: Allocator + Copy>(
-    alloc: A,
-    list: &Linked<Part, A>,
-    first: usize,
-    moves: &Moves<A>,
-) -> Result<Linked<Part, A>, AllocError>
-    ensures { IfOk result (λ l. l ≡ cut_list moves.now.rounds.items
-        (moved moves.now.commands.items) first list.now) }
-{
-    let (link, own) = list.cut(first);
-    let mut cut = Linked::linked(alloc, moved_link(&moves.rounds, link));
-    for index in 0..own.min(list.own_len()) {
-        cut.push(moved(&moves.commands, *list.own_at(index)))?;
+        cut.push(list.own_at(index).moved(moves)?)?;
     }
     Ok(cut)
 }
 
 // What is kept of the list of this number, moved. `AllocError` if out of memory.
-fn cut_at<'a, A: Allocator + Copy>(
+fn cut_at<E: Entry<A>, A: Allocator + Copy>(
     alloc: A,
-    lists: &[Linked<Command<'a, A>, A>],
+    lists: &[Linked<E, A>],
     moves: &Moves<A>,
     index: usize,
-) -> Result<Option<Linked<Command<'a, A>, A>>, AllocError>
-    ensures { IfOk result (λ l. l ≡ cut_at moves.now.commands.items (moved_command
-        moves.now.commands.items moves.now.rounds.items)
-        (kept_of (slice_get moves.now.commands.items index)) (slice_get lists.now index)) }
+) -> Result<Option<Linked<E, A>>, AllocError>
+    ensures { IfOk result (λ l. l ≡ cut_at (E.table moves.now) (E.moved moves.now)
+        (kept_of (slice_get (E.table moves.now) index)) (slice_get lists.now index)) }
 {
-    let Some(part) = kept_of(&moves.commands, index) else {
+    let Some(part) = kept_of(E::table(moves), index) else {
         return Ok(None);
     };
     match lists.get(index) {
@@ -338,80 +350,26 @@ fn cut_at<'a, A: Allocator + Copy>(
     }
 }
 
-// The same of a list of rounds.
-fn cut_rounds_at<A: Allocator + Copy>(
-    alloc: A,
-    lists: &[Linked<Part, A>],
-    moves: &Moves<A>,
-    index: usize,
-) -> Result<Option<Linked<Part, A>>, AllocError>
-    ensures { IfOk result (λ l. l ≡ cut_at moves.now.rounds.items (moved moves.now.commands.items)
-        (kept_of (slice_get moves.now.rounds.items index)) (slice_get lists.now index)) }
-{
-    let Some(part) = kept_of(&moves.rounds, index) else {
-        return Ok(None);
-    };
-    match lists.get(index) {
-        Some(list) => Ok(Some(cut_rounds(alloc, list, part.first, moves)?)),
-        None => Ok(None),
-    }
-}
-
-// The value at the end, if there is one.
-fn push_some<T: Drop, A: Allocator>(
-    values: &mut Vec<T, A>,
-    value: Option<T>,
-) -> Result<(), AllocError>
-    ensures { OnOk result (values.new.items ≡ values.old.items ++ option_to_list value) }
-{
-    let Some(value) = value else {
-        return Ok(());
-    };
-    values.push(value)?;
-    Ok(())
-}
-
 // The lists that are kept. `AllocError` if out of memory.
-pub(crate) fn kept_lists<'a, A: Allocator + Copy>(
+pub(crate) fn kept_lists<E: Entry<A>, A: Allocator + Copy>(
     alloc: A,
-    lists: &[Linked<Command<'a, A>, A>],
+    lists: &[Linked<E, A>],
     moves: &Moves<A>,
-) -> Result<Vec<Linked<Command<'a, A>, A>, A>, AllocError>
-    ensures { IfOk result (λ kept. kept.items ≡ kept_lists moves.now.commands.items
-        (moved_command moves.now.commands.items moves.now.rounds.items)
-        moves.now.commands.items lists.now) }
+) -> Result<Vec<Linked<E, A>, A>, AllocError>
+    ensures { IfOk result (λ kept. kept.items
+        ≡ kept_lists (E.table moves.now) (E.moved moves.now) (E.table moves.now) lists.now) }
 {
     let mut kept = Vec::new(alloc);
-    for index in 0..moves.commands.len() {
-        push_some(&mut kept, cut_at(alloc, lists, moves, index)?)?;
-    }
-    Ok(kept)
-}
-
-// The same of rounds.
-pub(crate) fn kept_rounds<A: Allocator + Copy>(
-    alloc: A,
-    lists: &[Linked<Part, A>],
-    moves: &Moves<A>,
-) -> Result<Vec<Linked<Part, A>, A>, AllocError>
-    ensures { IfOk result (λ kept. kept.items ≡ kept_lists moves.now.rounds.items
-        (moved moves.now.commands.items) moves.now.rounds.items lists.now) }
-{
-    let mut kept = Vec::new(alloc);
-    for index in 0..moves.rounds.len() {
-        push_some(&mut kept, cut_rounds_at(alloc, lists, moves, index)?)?;
+    for index in 0..E::table(moves).len() {
+        let Some(list) = cut_at(alloc, lists, moves, index)? else {
+            continue;
+        };
+        kept.push(list)?;
     }
     Ok(kept)
 }
 
 // ---- the search
-
-// A part that is of use.
-#[derive(Clone, Copy, Drop)]
-enum Used {
-    Commands(Part),
-    Rounds(Part),
-}
 
 // How many of the first entries of each list are of use, as far as the search came, and what it has still to look at.
 #[derive(Drop)]
@@ -436,54 +394,28 @@ fn marked(marks: &mut [Option<usize>], part: Part) -> Option<usize> {
     Some(before.unwrap_or(0))
 }
 
+// The part is of use.
+fn use_part<E: Entry<A>, A: Allocator + Copy>(
+    lists: &[Linked<E, A>],
+    marks: &mut [Option<usize>],
+    part: Part,
+    todo: &mut Vec<Used, A>,
+) -> Result<(), AllocError> {
+    let (Some(list), Some(from)) = (lists.get(part.list), marked(marks, part)) else {
+        return Ok(());
+    };
+    let (link, own) = list.cut(part.first);
+    if let Some(link) = link {
+        todo.push(E::used(link))?;
+    }
+    let (_link, start) = list.cut(from);
+    for index in start..own.min(list.own_len()) {
+        list.own_at(index).push_used(todo)?;
+    }
+    Ok(())
+}
+
 impl<A: Allocator + Copy> Search<A> {
-    // What a command stands for is of use.
-    fn use_command(&mut self, command: &Command<'_, A>) -> Result<(), AllocError> {
-        let Command::Nested { finished, current } = command else {
-            return Ok(());
-        };
-        self.todo.push(Used::Rounds(*finished))?;
-        self.todo.push(Used::Commands(*current))?;
-        Ok(())
-    }
-
-    // The part of a list of commands is of use.
-    fn use_part(
-        &mut self,
-        lists: &[Linked<Command<'_, A>, A>],
-        part: Part,
-    ) -> Result<(), AllocError> {
-        let (Some(list), Some(from)) = (lists.get(part.list), marked(&mut self.commands, part))
-        else {
-            return Ok(());
-        };
-        let (link, own) = list.cut(part.first);
-        if let Some(link) = link {
-            self.todo.push(Used::Commands(link))?;
-        }
-        let (_link, start) = list.cut(from);
-        for index in start..own.min(list.own_len()) {
-            self.use_command(list.own_at(index))?;
-        }
-        Ok(())
-    }
-
-    // The part of a list of rounds is of use.
-    fn use_rounds(&mut self, lists: &[Linked<Part, A>], part: Part) -> Result<(), AllocError> {
-        let (Some(list), Some(from)) = (lists.get(part.list), marked(&mut self.rounds, part)) else {
-            return Ok(());
-        };
-        let (link, own) = list.cut(part.first);
-        if let Some(link) = link {
-            self.todo.push(Used::Rounds(link))?;
-        }
-        let (_link, start) = list.cut(from);
-        for index in start..own.min(list.own_len()) {
-            self.todo.push(Used::Commands(*list.own_at(index)))?;
-        }
-        Ok(())
-    }
-
     // Marks all that is of use for what it has to look at. Each entry is looked at once.
     fn run(
         &mut self,
@@ -492,8 +424,12 @@ impl<A: Allocator + Copy> Search<A> {
     ) -> Result<(), AllocError> {
         for _step in 0..usize::MAX {
             match self.todo.pop() {
-                Some(Used::Commands(part)) => self.use_part(commands, part)?,
-                Some(Used::Rounds(part)) => self.use_rounds(rounds, part)?,
+                Some(Used::Commands(part)) => {
+                    use_part(commands, &mut self.commands, part, &mut self.todo)?
+                }
+                Some(Used::Rounds(part)) => {
+                    use_part(rounds, &mut self.rounds, part, &mut self.todo)?
+                }
                 None => return Ok(()),
             }
         }
@@ -502,10 +438,9 @@ impl<A: Allocator + Copy> Search<A> {
 }
 
 // All lists of the extent are of use, as they are.
-fn use_first<T, A: Allocator + Copy>(
-    lists: &[Linked<T, A>],
+fn use_first<E: Entry<A>, A: Allocator + Copy>(
+    lists: &[Linked<E, A>],
     count: usize,
-    of_rounds: bool,
     todo: &mut Vec<Used, A>,
 ) -> Result<(), AllocError> {
     for (list, entries) in lists.iter().take(count).enumerate() {
@@ -513,12 +448,7 @@ fn use_first<T, A: Allocator + Copy>(
             list,
             first: entries.len(),
         };
-        let used = if of_rounds {
-            Used::Rounds(part)
-        } else {
-            Used::Commands(part)
-        };
-        todo.push(used)?;
+        todo.push(E::used(part))?;
     }
     Ok(())
 }
@@ -575,8 +505,8 @@ pub(crate) fn found<A: Allocator + Copy>(
         rounds: vec![in alloc; unmarked; rounds.len()]?,
         todo: Vec::new(alloc),
     };
-    use_first(commands, extent.commands, false, &mut search.todo)?;
-    use_first(rounds, extent.rounds, true, &mut search.todo)?;
+    use_first(commands, extent.commands, &mut search.todo)?;
+    use_first(rounds, extent.rounds, &mut search.todo)?;
     use_handles(handles, &mut search.todo)?;
     search.run(commands, rounds)?;
     Ok(Moves {
@@ -586,7 +516,7 @@ pub(crate) fn found<A: Allocator + Copy>(
 }
 
 // Whether what was found may be written: what is kept stands for what is kept, and the lists of the extent stay.
-pub(crate) fn is_whole<A: Allocator>(
+pub(crate) fn is_whole<A: Allocator + Copy>(
     commands: &[Linked<Command<'_, A>, A>],
     rounds: &[Linked<Part, A>],
     extent: Extent,
@@ -603,7 +533,7 @@ pub(crate) fn is_whole<A: Allocator>(
     if !are_kept(commands, moves) {
         return false;
     }
-    are_all_rounds_kept(rounds, moves)
+    are_kept(rounds, moves)
 }
 
 // How many entries are kept.

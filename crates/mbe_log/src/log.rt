@@ -47,7 +47,7 @@ ghost use Rattle.mbe_log.specs.BindingViews.{fragment_seen};
 
 use crate::bindings::{Binding, Bindings};
 use crate::chain::{Linked, extend, is_within, only, places, two, unlinked};
-use crate::compact::{Compacted, Extent, found, is_whole, is_worth, kept_lists, kept_rounds};
+use crate::compact::{Compacted, Extent, found, is_whole, is_worth, kept_lists};
 use crate::fragment::Fragment;
 use mbe_semantics::kinds::MetaVarKind;
 use mbe_semantics::log::Part;
@@ -369,7 +369,7 @@ impl<'a, A: Allocator + Copy> BindingLog<'a, A> {
         let log = BindingLog {
             alloc: self.alloc,
             commands: kept_lists(self.alloc, &self.commands, &moves)?,
-            rounds: kept_rounds(self.alloc, &self.rounds, &moves)?,
+            rounds: kept_lists(self.alloc, &self.rounds, &moves)?,
             nested: self.nested,
         };
         Ok(Some(Compacted { log, moves }))

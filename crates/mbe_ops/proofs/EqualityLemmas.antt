@@ -4,7 +4,7 @@ use Rattle.std.specs.Coded.{coded_option}
 use Rattle.std.specs.Cmp.Lexicographic.{pointwise}
 use Rattle.std.proofs.Common.{ap, sym, ◌∙◌, subst, true≢false, eq-eqb, arith}
 use Rattle.std.proofs.lemmas.Option.{none-some, same_Some}
-use Rattle.std.proofs.lemmas.Bool.{ne_eqb}
+use Rattle.std.proofs.lemmas.Bool.{and_parts, ne_eqb}
 use Rattle.std.proofs.lemmas.List.{drop_more, drop_all, take_more, map-append}
 use base.Stored.{Gv, gnum, gcons}
 use Rattle.mbe_tt.specs.Laws.Same.{same_is, is_same}
@@ -211,14 +211,6 @@ inside_tells a b body other r ha hb h =
 
 -- ---- elements of `${concat(..)}`
 
-and_first : (s t : Bool) → (s && t) ≡ true → s ≡ true
-and_first true t h = refl
-and_first false t h = h
-
-and_second : (s t : Bool) → (s && t) ≡ true → t ≡ true
-and_second true t h = h
-and_second false t h = absurd (true≢false (sym h))
-
 module _ {A : Type 0} where
   elements_same : (xs ys : List (part.ConcatMetaVarExprElem A)) → pointwise element_eq xs ys ≡ true
       → elements_seen xs ≡ elements_seen ys
@@ -226,8 +218,9 @@ module _ {A : Type 0} where
   elements_same [] (y ∷ ys) h = absurd (true≢false (sym h))
   elements_same (x ∷ xs) [] h = absurd (true≢false (sym h))
   elements_same (x ∷ xs) (y ∷ ys) h =
-      let here = same_is element_code (element_seen x) (element_seen y) (and_first _ _ h) in
-      let following = elements_same xs ys (and_second (element_eq x y) _ h) in
+      let both = and_parts (element_eq x y) _ h in
+      let here = same_is element_code (element_seen x) (element_seen y) both.0 in
+      let following = elements_same xs ys both.1 in
       λ i. here i ∷ following i
 
   same_elements : (xs ys : List (part.ConcatMetaVarExprElem A)) → elements_seen xs ≡ elements_seen ys

@@ -6,3 +6,4 @@ pub mod Stories
 pub mod MoveLemmas
 pub mod InputLemmas
 pub mod PlainLemmas
+pub mod GivesLemmas

@@ -4,6 +4,7 @@ use Rattle.std.proofs.Common.{arith}
 use Rattle.mbe_semantics.specs.declared.log.Part.{Part}
 use Rattle.mbe_semantics.specs.Bindings.Account.{Command, Commands, CommandRounds, no_commands, command, no_command_rounds, command_round, Entry, RoundEntry, Log, Order, Gives, GivesRounds, PartGives, PartGivesRounds, gives_nothing, gives_binding, gives_empty, gives_skip, gives_missing, gives_nested, gives_link, gives_no_rounds, gives_round, gives_linked_rounds, part_gives, part_gives_rounds, IsBelow, AreRoundsBelow, NamesLower, RoundNamesLower, IsOrdered}
 use Rattle.mbe_semantics.specs.Laws.Laws.{EntriesHaveAccounts, EntriesFollow}
+use Rattle.mbe_semantics.proofs.GivesLemmas.{follow, rounds_follow}
 
 module _ (log : Log) (order : Order) where
   -- each entry has a number below n, and stands for lower ones
@@ -125,29 +126,6 @@ entries_have_accounts log order h o l =
     let q = rounds_part_some log order o d.0 d.0 h.finished (omega arith) (both_give log order o d.0).1 (l.1, d.1)
     no_command_rounds in
     (record { finished = q.0; current = p.0 }, record { current = p.1; finished = q.1 })
-
-follow : (log : Log) {cs middle : Commands} {es : List Entry} → Gives log cs es middle
-    → (more : List Entry) (all : Commands) → Gives log middle more all → Gives log cs (es ++ more) all
-follow log (gives_nothing cs) more all h = h
-follow log (gives_binding cs name x es _ r) more all h =
-    gives_binding cs name x (es ++ more) all (follow log r more all h)
-follow log (gives_empty cs name es _ r) more all h = gives_empty cs name (es ++ more) all (follow log r more all h)
-follow log (gives_skip cs name es _ r) more all h = gives_skip cs name (es ++ more) all (follow log r more all h)
-follow log (gives_missing cs name kind es _ r) more all h =
-    gives_missing cs name kind (es ++ more) all (follow log r more all h)
-follow log (gives_nested cs finished current es rs ds _ p q r) more all h =
-    gives_nested cs finished current (es ++ more) rs ds all p q (follow log r more all h)
-follow log (gives_link cs part es ds _ p r) more all h =
-    gives_link cs part (es ++ more) ds all p (follow log r more all h)
-
-rounds_follow : (log : Log) {rs middle : CommandRounds} {es : List RoundEntry} → GivesRounds log rs es middle
-    → (more : List RoundEntry) (all : CommandRounds) →
-    GivesRounds log middle more all → GivesRounds log rs (es ++ more) all
-rounds_follow log (gives_no_rounds rs) more all h = h
-rounds_follow log (gives_round rs part es cs _ p r) more all h =
-    gives_round rs part (es ++ more) cs all p (rounds_follow log r more all h)
-rounds_follow log (gives_linked_rounds rs part es qs _ p r) more all h =
-    gives_linked_rounds rs part (es ++ more) qs all p (rounds_follow log r more all h)
 
 pub entries_follow : EntriesFollow
 entries_follow = record {

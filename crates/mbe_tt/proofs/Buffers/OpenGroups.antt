@@ -1,5 +1,5 @@
 -- How many groups a builder has open after a call, for callers that close what they opened.
-use Rattle.std.proofs.Common.{◌≡◌, ◌∙◌, ◌+◌, ◌<◌, [], ◌∷◌, length, ap, arith}
+use Rattle.std.proofs.Common.{◌≡◌, ◌+◌, ◌<◌, [], ◌∷◌, length, ap, arith}
 use Rattle.mbe_tt.specs.Buffers.Building.{Levels, closed}
 use Rattle.mbe_tt.specs.declared.span.Span.{Span}
 

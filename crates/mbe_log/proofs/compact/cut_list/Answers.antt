@@ -1,21 +1,20 @@
 use Rattle.std.proofs.Common.{◌∙◌, List, ◌++◌, ◌∷◌, [], map, take, option_map, sym, ap}
 use Rattle.mbe_log.specs.Chain.{Chain, link_in}
 use Rattle.mbe_log.specs.Compacting.{moved}
-use Rattle.mbe_log.specs.KeptLists.{moved_command}
 use Rattle.mbe_log.proofs.CompactSteps.{cut_further}
 use Rattle.mbe_log.proofs.compact.cut_list.Goals as goal
 
 pub loop-index-preserved : goal.loop-index-preserved
 loop-index-preserved g c =
-    let f = moved_command c.args.moves.now.commands.items c.args.moves.now.rounds.items in
-    let link = option_map (moved c.args.moves.now.commands.items) (link_in c.args.list.now.link c.args.first) in
+    let f = g.E.Entry.moved c.args.moves.now in
+    let link = option_map (moved (g.E.Entry.table c.args.moves.now)) (link_in c.args.list.now.link c.args.first) in
     let own = c.args.list.now.own in
     let with : List _ → Chain _ = λ x. record { link = link; own = x } in
     c.in_ok-push.ensures.ok
     ∙ ap (λ (l : Chain _). record {
       link = l.link;
-      own = l.own ++ c.in_ok-moved_command.field-0 ∷ [];
+      own = l.own ++ c.in_ok-moved.field-0 ∷ [];
     }) c.loop-index.invariant
-    ∙ ap (λ x. with (map f (take c.loop-index.index own) ++ x ∷ [])) c.in_ok-moved_command.ensures
+    ∙ ap (λ x. with (map f (take c.loop-index.index own) ++ x ∷ [])) c.in_ok-moved.ensures
     ∙ ap with
     (sym (cut_further f own c.loop-index.index c.own_at.result.now c.own_at.ensures))

@@ -9,5 +9,5 @@ returns g c = λ t. record {
   rounds_stay = subst (λ t. Stay t c.args.rounds.now c.args.extent.rounds) c.deref-2.ensures.value
       (c.if-not-stay-2.ensures refl);
   commands_kept = c.if-not-are_kept.ensures refl;
-  rounds_kept = c.are_all_rounds_kept.ensures t;
+  rounds_kept = c.are_kept-2.ensures t;
 }

@@ -1,14 +1,28 @@
-use Rattle.std.proofs.Common.{◌∙◌, ◌++◌, ap, sym, take}
-use Rattle.std.specs.Prelude.{option_to_list}
-use Rattle.mbe_log.specs.KeptLists.{moved_command, kept_lists}
+use Rattle.std.proofs.Common.{◌≡◌, ◌∙◌, ◌++◌, [], ◌∷◌, Some, None, ap, sym, take, append-nil, rules}
+use Rattle.std.specs.Prelude.{option_to_list, slice_get}
+use Rattle.mbe_log.specs.Compacting.{kept_of}
+use Rattle.mbe_log.specs.KeptLists.{cut_at, kept_lists}
 use Rattle.mbe_log.proofs.CompactSteps.{kept_further}
 use Rattle.mbe_log.proofs.compact.kept_lists.Goals as goal
 
 pub loop-index-preserved : goal.loop-index-preserved
 loop-index-preserved g c =
-    let t = c.args.moves.now.commands.items in
-    let f = (moved_command c.args.moves.now.commands.items c.args.moves.now.rounds.items) in
-    c.in_ok-push_some.ensures
-    ∙ ap (λ x. x ++ option_to_list c.in_ok-cut_at.field-0) c.loop-index.invariant
-    ∙ ap (λ x. kept_lists t f (take c.loop-index.index t) c.args.lists.now ++ option_to_list x) c.in_ok-cut_at.ensures
+    let t = g.E.Entry.table c.args.moves.now in
+    let f = g.E.Entry.moved c.args.moves.now in
+    let cut : Some c.in-Some.list ≡ cut_at t f (kept_of (slice_get t c.loop-index.index)) (slice_get c.args.lists.now
+    c.loop-index.index) = search rules in
+    c.in_ok-push.ensures.items
+    ∙ ap (λ x. x ++ c.in-Some.list ∷ []) c.loop-index.invariant
+    ∙ ap (λ x. kept_lists t f (take c.loop-index.index t) c.args.lists.now ++ option_to_list x) cut
+    ∙ sym (kept_further t f t c.args.lists.now c.loop-index.index)
+
+pub loop-index-preserved-in_default : goal.loop-index-preserved-in_default
+loop-index-preserved-in_default g c =
+    let t = g.E.Entry.table c.args.moves.now in
+    let f = g.E.Entry.moved c.args.moves.now in
+    let cut : None ≡ cut_at t f (kept_of (slice_get t c.loop-index.index)) (slice_get c.args.lists.now
+    c.loop-index.index) = search rules in
+    c.loop-index.invariant
+    ∙ sym (append-nil (kept_lists t f (take c.loop-index.index t) c.args.lists.now))
+    ∙ ap (λ x. kept_lists t f (take c.loop-index.index t) c.args.lists.now ++ option_to_list x) cut
     ∙ sym (kept_further t f t c.args.lists.now c.loop-index.index)
