@@ -15,7 +15,7 @@ use mbe_tt::tt::{Delimiter, DelimiterKind, Leaf, Punct, Spacing, TokenTreesView,
 use std::alloc::{AllocError, Allocator};
 
 // What precedes a tree in its group.
-#[derive(Clone, Copy, Debug, Drop, PartialEq, Eq)]
+#[derive(Clone, Copy, Drop, PartialEq, Eq)]
 pub(crate) enum Before {
     // A `;`, braces, an attribute, or nothing in braces: a statement may begin here.
     Statement,
@@ -30,7 +30,7 @@ pub(crate) enum Before {
 }
 
 // How an expansion replaces its call.
-#[derive(Clone, Copy, Debug, Drop, PartialEq, Eq)]
+#[derive(Clone, Copy, Drop)]
 pub(crate) struct Fit {
     // An expression of several trees beside an operator is put in parentheses, and statements in braces where an expression is.
     pub(crate) wrap: Option<DelimiterKind>,
@@ -41,7 +41,7 @@ pub(crate) struct Fit {
 }
 
 // How trees end.
-#[derive(Clone, Copy, Debug, Drop, PartialEq, Eq)]
+#[derive(Clone, Copy, Drop, PartialEq, Eq)]
 enum Ending {
     // There are none.
     Empty,

@@ -147,7 +147,7 @@ fn are_in_one<A: Allocator>(crates: &[Outside<A>], other: usize, number: usize) 
 }
 
 /// Of which definitions one is looked for.
-#[derive(Clone, Copy, Debug, Drop)]
+#[derive(Clone, Copy, Drop)]
 enum Among<'n> {
     /// Of those that are no other crate's.
     Own,

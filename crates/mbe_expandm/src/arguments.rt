@@ -110,7 +110,7 @@ pub enum Asked<'w, A: Allocator = Global> {
 }
 
 // An option whose value is the next word.
-#[derive(Clone, Copy, Debug, Drop, PartialEq, Eq)]
+#[derive(Clone, Copy, Drop)]
 enum Valued {
     Depth,
     Fuel,

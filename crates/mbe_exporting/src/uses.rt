@@ -13,7 +13,7 @@ use std::alloc::{AllocError, Allocator};
 pub(crate) const LEVELS: u32 = 1000;
 
 // Where a path is.
-#[derive(Clone, Copy, Debug, Drop)]
+#[derive(Clone, Copy, Drop)]
 pub(crate) struct Walk<'t> {
     // The crate that it begins with.
     from: Option<&'t str>,

@@ -60,7 +60,7 @@ impl From<AllocError> for FlatError {
 }
 
 // Why one token isn't added.
-#[derive(Clone, Copy, Debug, Drop, PartialEq, Eq)]
+#[derive(Clone, Copy, Drop)]
 enum Refusal {
     Wrong(Wrong),
     OutOfMemory,

@@ -9,7 +9,7 @@ use mbe_tt::tt::{Ident, IdentIsRaw};
 use std::alloc::Allocator;
 
 /// A sort of puncts.
-#[derive(Clone, Copy, Debug, Drop, PartialEq, Eq)]
+#[derive(Clone, Copy, Drop)]
 pub(crate) enum Sign {
     Dot,
     Colon,
@@ -29,7 +29,7 @@ pub(crate) enum Sign {
 }
 
 /// A sort of words.
-#[derive(Clone, Copy, Debug, Drop, PartialEq, Eq)]
+#[derive(Clone, Copy, Drop)]
 pub(crate) enum Sort {
     Let,
     For,

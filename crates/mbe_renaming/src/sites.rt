@@ -17,7 +17,7 @@ use mbe_tt::tt::{DelimiterKind, Ident, Leaf, TokenTreesView};
 use std::alloc::Allocator;
 
 /// The last token before a place, in its group.
-#[derive(Clone, Copy, Debug, Drop, PartialEq, Eq)]
+#[derive(Clone, Copy, Drop)]
 pub(crate) enum Before {
     // None.
     Start,
@@ -61,7 +61,7 @@ pub(crate) enum Before {
 }
 
 /// What a group holds, up to a place.
-#[derive(Clone, Copy, Debug, Drop, PartialEq, Eq)]
+#[derive(Clone, Copy, Drop)]
 pub(crate) enum Region {
     // Items, statements and expressions.
     Code,
@@ -86,7 +86,7 @@ pub(crate) enum Region {
 }
 
 /// Which part of a statement or of a closure goes on.
-#[derive(Clone, Copy, Debug, Drop, PartialEq, Eq)]
+#[derive(Clone, Copy, Drop)]
 pub(crate) enum Part {
     // None of the others.
     Whole,
@@ -98,7 +98,7 @@ pub(crate) enum Part {
 }
 
 /// What is known at a place.
-#[derive(Clone, Copy, Debug, Drop, PartialEq, Eq)]
+#[derive(Clone, Copy, Drop)]
 pub(crate) struct Site {
     pub(crate) before: Before,
     pub(crate) region: Region,

@@ -8,7 +8,7 @@ use mbe_tt::span::Span;
 use mbe_tt::tt::Spacing;
 
 // What was written last.
-#[derive(Clone, Copy, Debug, Drop, PartialEq, Eq)]
+#[derive(Clone, Copy, Drop)]
 pub(crate) enum Last {
     // Nothing, or a line that a comment ended.
     Start,
@@ -28,7 +28,7 @@ pub(crate) enum Last {
 }
 
 // What is before a token.
-#[derive(Clone, Copy, Debug, Drop, PartialEq, Eq)]
+#[derive(Clone, Copy, Drop)]
 pub(crate) enum Gap {
     Nothing,
     Space,

@@ -1,8 +1,11 @@
 // Tests of the calls of `mbe`, `mbe_tt` and the program's `run` that a built program can't show, and no contract says in as many words:
 // trees that no text gives, grammars and markers that are handed in, rules that are kept beside a fault, equality of macros, derived texts,
-// memory that runs out at any request, and writers that fail at any call. What the program prints is tested by tests/mbex.
+// memory that runs out at any request, and writers that fail at any call; and the examples of docs/CALLING.md (`calling`). What the
+// program prints is tested by tests/mbex.
 #![tactic(auto)]
 
+#[cfg(test)]
+mod calling;
 #[cfg(test)]
 mod calls;
 #[cfg(test)]

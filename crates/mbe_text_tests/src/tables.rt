@@ -1,4 +1,4 @@
-// All tables. The rows are beside what they are about.
+// The tables of texts and grammars. The rows are beside what they are about.
 use crate::rust::{ROWS_2018, ROWS_2021, ROWS_2024};
 use crate::rust_rows::{COUNT_2018, COUNT_2021, COUNT_2024, RANDOM_2018, RANDOM_2021, RANDOM_2024};
 use crate::{

@@ -27,7 +27,7 @@ pub struct Builtins {
 }
 
 // In what trees are.
-#[derive(Clone, Copy, Debug, Drop)]
+#[derive(Clone, Copy, Drop)]
 pub(crate) enum Inside {
     Code,
     // The argument of `concat!`.
@@ -37,7 +37,7 @@ pub(crate) enum Inside {
 }
 
 // What precedes a tree.
-#[derive(Clone, Copy, Debug, Drop)]
+#[derive(Clone, Copy, Drop)]
 pub(crate) enum Before {
     Other,
     Colon,

@@ -22,7 +22,7 @@ use mbe_tt::tt::{DelimiterKind, TokenTreesView, TtElement};
 use std::alloc::{AllocError, Allocator};
 
 // Whether `#[macro_export]` and `#[macro_use]` precede a tree, since the last item ended.
-#[derive(Clone, Copy, Debug, Drop)]
+#[derive(Clone, Copy, Drop)]
 pub(crate) struct Marks {
     is_exported: bool,
     is_used: bool,

@@ -1,5 +1,5 @@
 // Requests for memory that are refused.
-use crate::expansions::expand_call;
+use crate::calling::expansions::expand_call;
 use mbe::DeclarativeMacro;
 use mbe_text::lexer::{LexError, lex};
 use mbe_tt::span::Edition;

@@ -1,5 +1,5 @@
 use Rattle.std.proofs.Common.{◌∙◌, ap, arith}
-use Rattle.mbe_calling_tests.proofs.logs.uses.numbers.Goals as goal
+use Rattle.mbe_tests.proofs.calling.logs.uses.numbers.Goals as goal
 
 pub returns-clause-pushed : goal.returns-clause-pushed
 returns-clause-pushed g c =

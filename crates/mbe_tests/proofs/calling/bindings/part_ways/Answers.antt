@@ -1,4 +1,4 @@
-use Rattle.mbe_calling_tests.proofs.bindings.part_ways.Goals as goal
+use Rattle.mbe_tests.proofs.calling.bindings.part_ways.Goals as goal
 
 pub push_empty-requires : goal.push_empty-requires
 push_empty-requires g c = c.in_ok-two.ensures.given.kept.entries c.in_ok-one.one c.in_ok-one.ensures.given.entries

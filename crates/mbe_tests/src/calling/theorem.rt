@@ -40,7 +40,7 @@ pub fn applied<A: Allocator + Copy, G: FragmentGrammar, M: Fn(Span) -> Span + Co
 
 pub mod tests {
     use super::applied;
-    use crate::expansions::read;
+    use crate::calling::expansions::read;
     use mbe::CheckedMacro;
     use mbe_grammar::SampleGrammar;
     use mbe_text::lexer::lex;

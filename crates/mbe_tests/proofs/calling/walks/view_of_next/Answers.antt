@@ -2,7 +2,7 @@ use Rattle.std.proofs.Common.{◌∙◌, ap, sym}
 use Rattle.mbe_tt.specs.Trees.Tree.{Tree, tree, none, append}
 use Rattle.mbe_tt.specs.Views.Element.{element_tree}
 use Rattle.mbe_tt.proofs.Buffers.Spelled.{first_rest}
-use Rattle.mbe_calling_tests.proofs.walks.view_of_next.Goals as goal
+use Rattle.mbe_tests.proofs.calling.walks.view_of_next.Goals as goal
 
 pub from_savepoint-requires : goal.from_savepoint-requires
 from_savepoint-requires g c =

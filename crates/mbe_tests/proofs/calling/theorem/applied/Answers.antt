@@ -1,7 +1,7 @@
 use Rattle.std.proofs.Common.{◌∙◌, ap, sym, is_some}
 use Rattle.std.proofs.lemmas.Bool.{true≢false}
 use Rattle.mbe_errors.specs.ErrorViews.{errors_of}
-use Rattle.mbe_calling_tests.proofs.theorem.applied.Goals as goal
+use Rattle.mbe_tests.proofs.calling.theorem.applied.Goals as goal
 
 -- With an error no rule applies: where one does, `expand` reports none.
 pub returns-in-Some-clause-none : goal.returns-in-Some-clause-none

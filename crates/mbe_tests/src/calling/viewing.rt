@@ -1,5 +1,5 @@
 // Calls whose argument is a group within a larger buffer.
-use crate::expansions::Expansion;
+use crate::calling::expansions::Expansion;
 use mbe::{CheckedMacro, MacroCallStyle, Verdict};
 use mbe_grammar::SampleGrammar;
 use mbe_tt::tt::SubtreeView;
@@ -31,7 +31,7 @@ pub fn fits_group<A: Allocator + Copy>(
 
 pub mod tests {
     use super::{expand_group, fits_group};
-    use crate::expansions::{read, tree_or_error};
+    use crate::calling::expansions::{read, tree_or_error};
     use mbe_text::lexer::lex;
     use mbe_tt::tt::{SubtreeView, TopSubtree};
     use std::alloc::Global;

@@ -1,5 +1,5 @@
 use Rattle.mbe.specs.Account.{no_account}
-use Rattle.mbe_calling_tests.proofs.bindings.bind_rounds.Goals as goal
+use Rattle.mbe_tests.proofs.calling.bindings.bind_rounds.Goals as goal
 
 pub push_nested-requires-clause-child : goal.push_nested-requires-clause-child
 push_nested-requires-clause-child g c =

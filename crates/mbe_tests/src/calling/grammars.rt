@@ -1,6 +1,6 @@
 // Grammars of one's own.
 ghost use Rattle.std.specs.Prelude.{◌≡◌};
-ghost use Rattle.mbe_calling_tests.specs.Words.{word_front};
+ghost use Rattle.mbe_tests.specs.Words.{word_front};
 ghost use Rattle.mbe_tt.specs.Trees.Tree.{flat};
 ghost use Rattle.mbe_tt.specs.Views.View.{trees};
 ghost use borrow.Author.Rules.{rules};
@@ -42,7 +42,7 @@ impl FragmentGrammar for NoFragments {
 pub struct Words;
 
 impl FragmentGrammar for Words {
-    ghost use Rattle.mbe_calling_tests.specs.Words.{words, words_lawful};
+    ghost use Rattle.mbe_tests.specs.Words.{words, words_lawful};
 
     ghost grammar = { λ _. words };
 
@@ -80,7 +80,7 @@ fn word_front<A: Allocator>(tokens: TokenTreesView<'_, A>) -> Front
 
 pub mod tests {
     use super::{NoFragments, Words};
-    use crate::expansions::{error_line, read};
+    use crate::calling::expansions::{error_line, read};
     use mbe::MacroCallStyle;
     use mbe_text::lexer::lex;
     use mbe_tt::grammar::FragmentGrammar;

@@ -35,7 +35,7 @@ pub fn write_verdicts<W: Write>(
 
 pub mod tests {
     use super::write_verdicts;
-    use crate::expansions::read;
+    use crate::calling::expansions::read;
     use mbe_text::lexer::lex;
     use std::alloc::Global;
 

@@ -1,18 +1,18 @@
 // What is tested of the rows of each table, and all tables. What the fields are is said at the tables.
-use crate::definitions::tests::{DESCRIBED, is_described, is_read};
-use crate::expansions::tests::{self, expands_nothing, is_expanded, is_marked};
-use crate::explaining::tests::are_explained;
-use crate::grammars::tests::are_handed_in;
-use crate::logs::many::is_last_of_many;
-use crate::logs::values::{are_bindings, are_fragments};
-use crate::memory::count_requests;
-use crate::results::tests::{are_made, is_call_changed, is_type_found};
-use crate::small::tests::{are_read, is_bound_in_one};
-use crate::tables::sum_of;
-use crate::tables::tests::SUMS;
-use crate::theorem::tests::{CALLS, becomes};
-use crate::viewing::tests::is_group_expanded;
-use crate::{bindings, texts, walks, writing};
+use crate::calling::definitions::tests::{DESCRIBED, is_described, is_read};
+use crate::calling::expansions::tests::{self, expands_nothing, is_expanded, is_marked};
+use crate::calling::explaining::tests::are_explained;
+use crate::calling::grammars::tests::are_handed_in;
+use crate::calling::logs::many::is_last_of_many;
+use crate::calling::logs::values::{are_bindings, are_fragments};
+use crate::calling::memory::count_requests;
+use crate::calling::results::tests::{are_made, is_call_changed, is_type_found};
+use crate::calling::small::tests::{are_read, is_bound_in_one};
+use crate::calling::tables::sum_of;
+use crate::calling::tables::tests::SUMS;
+use crate::calling::theorem::tests::{CALLS, becomes};
+use crate::calling::viewing::tests::is_group_expanded;
+use crate::calling::{bindings, texts, walks, writing};
 use std::alloc::{AllocError, Global};
 use test_rows::{Fields, Rows, Wrong, all, rows};
 

@@ -1,4 +1,4 @@
-// All tables, and what is tested once. The rows of the tables are beside what they are about.
+// The tables of what is around an expansion, and what is tested once. The rows are beside what they are about.
 use crate::carets::Carets;
 use crate::following::Crates;
 use crate::texts::RUST;

@@ -1,5 +1,5 @@
 // A value beside an error, and errors of a caller's own.
-use crate::expansions::Expansion;
+use crate::calling::expansions::Expansion;
 use mbe::{ExpandError, ExpandErrorKind, ExpandResult, ValueResult, expect_fragment};
 use mbe_grammar::SampleGrammar;
 use mbe_tt::grammar::PrefixEntryPoint;
@@ -41,7 +41,7 @@ pub fn leading_type<'a>(
 
 pub mod tests {
     use super::{leading_type, or_nothing, paired, summary, too_deep};
-    use crate::expansions::tests::expansion_of;
+    use crate::calling::expansions::tests::expansion_of;
     use mbe::{ExpandErrorKind, ValueResult};
     use mbe_text::lexer::lex;
     use mbe_tt::span::{DelimSpan, Span};

@@ -1,6 +1,6 @@
 use Rattle.mbe_semantics.specs.Bindings.Account.{Account, Command, no_account, pushed, pushed_nested}
 use Rattle.mbe_log.proofs.ClientLemmas.{all_accounts, kept-on}
-use Rattle.mbe_calling_tests.proofs.logs.uses.split.Goals as goal
+use Rattle.mbe_tests.proofs.calling.logs.uses.split.Goals as goal
 
 pub push_empty-requires-2 : goal.push_empty-requires-2
 push_empty-requires-2 g c = c.in_ok-second.ensures.given.kept.entries c.push_empty.new.handle
