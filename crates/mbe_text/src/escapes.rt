@@ -13,7 +13,7 @@ use crate::characters::{Class, before, begins_with, past, past_front, split_firs
 use crate::wrong::{Fault, Wrong, fault};
 
 // The literals that have escapes.
-#[derive(Clone, Copy, PartialEq, Eq)]
+#[derive(Clone, Copy)]
 pub(crate) enum Quoted {
     Char,
     Byte,

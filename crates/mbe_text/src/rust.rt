@@ -425,7 +425,7 @@ fn read_quote(edition: Edition, text: &str) -> Read<'_>
 // ---- numbers
 
 // The base that a number begins with.
-#[derive(Clone, Copy, PartialEq, Eq)]
+#[derive(Clone, Copy)]
 pub(crate) enum Base {
     Two,
     Eight,

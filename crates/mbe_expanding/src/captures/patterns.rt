@@ -39,7 +39,7 @@ fn are_chars<A: Allocator>(tokens: &[Token<'_, A>], at: usize, first: char, seco
 }
 
 // What ends the part of a group that is looked for.
-#[derive(Clone, Copy, Drop, PartialEq, Eq)]
+#[derive(Clone, Copy, Drop)]
 enum Stop {
     // The pattern of a `let`.
     Value,
