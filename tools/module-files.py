@@ -1,5 +1,5 @@
 #!/usr/bin/env python3
-"""Asks rustc of the rows in crates/mbe_text_tests/src/modules.rt: which file `mod x;` names.
+"""Asks rustc of the rows in crates/mbe_tests/src/text/modules.rt: which file `mod x;` names.
 
     tools/module-files.py       prints each row on which rustc differs; nothing, and status 0, if there is none
 
@@ -11,7 +11,7 @@ import subprocess
 import sys
 import tempfile
 
-ROWS = pathlib.Path(__file__).resolve().parent.parent / "crates/mbe_text_tests/src/modules.rt"
+ROWS = pathlib.Path(__file__).resolve().parent.parent / "crates/mbe_tests/src/text/modules.rt"
 
 STRING = r'"([^"]*)"'
 

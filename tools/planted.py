@@ -31,7 +31,7 @@ from run import texts_of, tried  # noqa: E402
 def tests_of(body):
     """The crate and the module whose tests refuse the body, with `::` between them; or the program and its module, with `/`."""
     with open(body, encoding="utf-8") as it:
-        return re.search(r"(?m)^tests: (\w+)(::|/)(\w+)$", it.read()).groups()
+        return re.search(r"(?m)^tests: (\w+?)(::|/)([\w:]+)$", it.read()).groups()
 
 
 def plant(body, crate):

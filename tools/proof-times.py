@@ -7,7 +7,7 @@
 With one job the files of crates/CRATE/out/incremental are written in the order of the proof, so the time between two is what the second took. It
 prints the seconds of each part over all functions (`Lts` and `Tie` grow with the code; `Proof` and `Answers` have what `search` took), and then the COUNT
 functions (by default 25) that took most, with the seconds of these parts and the megabytes of their `Lts`, which grow faster than the code: a function of
-more than 4 is worth being taken apart. A pause of a minute or more between two files is another check, and doesn't count.
+more than 4 is worth being taken apart. A pause of over 200 seconds between two files is another check, and doesn't count.
 """
 import collections
 import os
@@ -16,7 +16,7 @@ import sys
 
 PARTS = ("Lts", "Tie", "Proof", "Answers")
 NAMED = re.compile(r"Rattle-\w+-proofs\.(?P<function>.+?)\.(?:Code\.)?(?P<part>[A-Z]\w*)(?:\.decls)?\.oantt")
-PAUSE = 60
+PAUSE = 200
 
 
 def written(folder):

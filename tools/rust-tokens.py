@@ -1,7 +1,7 @@
 #!/usr/bin/env python3
-"""Prints the rows of crates/mbe_text_tests/src/rust_rows.rt: random texts, and what rustc makes of them. From any folder:
+"""Prints the rows of crates/mbe_tests/src/text/rust_rows.rt: random texts, and what rustc makes of them. From any folder:
 
-    python3 tools/rust-tokens.py SEED COUNT > crates/mbe_text_tests/src/rust_rows.rt
+    python3 tools/rust-tokens.py SEED COUNT > crates/mbe_tests/src/text/rust_rows.rt
 
 There is a table for each edition, of texts, each followed by its tokens without white space, or by the first fault and its byte: rustc's
 message in the words of `Wrong`. Texts that rustc reads otherwise before it looks for tokens, since they begin with `#!` or have a carriage return before

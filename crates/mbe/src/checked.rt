@@ -3,7 +3,7 @@ ghost use Rattle.std.specs.Prelude.{◌≡◌, ◌<◌, false, length, map, opti
 ghost use Rattle.mbe_tt.specs.Trees.Top.{top_group};
 ghost use Rattle.mbe_tt.specs.Views.View.{group_of};
 ghost use Rattle.mbe_errors.specs.ErrorViews.{errors_of};
-ghost use Rattle.mbe_log.specs.BindingViews.{bound_by};
+ghost use Rattle.mbe_bindings.specs.BindingViews.{bound_by};
 ghost use Rattle.mbe_matcher.specs.Matched.{verdict_seen};
 ghost use Rattle.mbe_matcher.specs.Wanted.{wanted_seen, pair_seen};
 ghost use Rattle.mbe_semantics.specs.Expansion.Macro.{IsChecked, Expands};
@@ -14,9 +14,9 @@ ghost use Rattle.mbe.specs.Recovering.{Recovers};
 ghost use Rattle.mbe.specs.Refused.{is_refused};
 
 use crate::macros::DeclarativeMacro;
+use mbe_bindings::bindings::Bindings;
 use mbe_errors::error::ParseError;
 use mbe_errors::value_result::{ExpandResult, MatchedArmIndex};
-use mbe_log::bindings::Bindings;
 use mbe_matcher::matching::Verdict;
 use mbe_matcher::wanting::Wants;
 use mbe_semantics::macro_call_style::MacroCallStyle;

@@ -12,14 +12,14 @@ ghost use Rattle.mbe_ops.specs.Views.{template_of};
 ghost use Rattle.mbe_matcher.specs.Fronts.{begins_otherwise};
 ghost use Rattle.mbe_parser.specs.RuleViews.{rule_of, rules_seen};
 ghost use Rattle.mbe_semantics.specs.Bindings.Environment.{binding_total};
-ghost use Rattle.mbe_log.specs.BindingViews.{bound_by};
+ghost use Rattle.mbe_bindings.specs.BindingViews.{bound_by};
 ghost use Rattle.mbe_transcriber.specs.Beside.{IsWhatIsLeft};
 ghost use Rattle.mbe.specs.Choice.{AreChecked, IsTried, IsChosen, IsRemains, is_nearer, nearer_of};
 ghost use Rattle.mbe.specs.Recovering.{IsRecovered, Recovers};
 
+use mbe_bindings::bindings::Bindings;
 use mbe_errors::error::{ExpandError, ExpandErrorKind};
 use mbe_errors::value_result::{ExpandResult, MatchedArmIndex, ValueResult};
-use mbe_log::bindings::Bindings;
 use mbe_log::log::BindingLog;
 use mbe_matcher::matching::{Match, match_argument};
 use mbe_matcher::start::{begins_otherwise, error_at_start};
@@ -245,7 +245,7 @@ fn match_rule<'a, A: Allocator + Copy, G: FragmentGrammar, M: Fn(Span) -> Span +
         bindings,
         err,
     } = matched;
-    let bindings = log.build(&bindings)?;
+    let bindings = Bindings::build(&log, &bindings)?;
     let nearness = nearness_of(unmatched, &bindings);
     if let Some(err) = err {
         return Ok(Tried::Fails(nearness, Remains::Unfit(bindings, err)));

@@ -15,7 +15,7 @@ use std::alloc::{AllocError, Allocator};
 
 /// An argument: which part of a text and of the tokens beside it, and the span of its call.
 #[repr(C)]
-#[derive(Clone, Copy, Debug, Default, Drop, PartialEq, Eq)]
+#[derive(Clone, Copy, Default, Drop)]
 pub struct Piece {
     pub offset: usize,
     pub len: usize,

@@ -28,7 +28,7 @@ use std::alloc::{Allocator, Global};
 
 /// What is said of an answer, in numbers.
 #[repr(C)]
-#[derive(Clone, Copy, Debug, Default, Drop, PartialEq, Eq)]
+#[derive(Clone, Copy, Default, Drop)]
 pub struct Reply {
     /// `Status::number`.
     pub status: u32,

@@ -5,7 +5,7 @@ ghost use Rattle.mbe_cfg.specs.Faults.{message};
 use mbe_tt::span::Span;
 
 /// What is wrong in a `cfg` or `cfg_attr` attribute.
-#[derive(Clone, Copy, Debug, Drop, PartialEq, Eq)]
+#[derive(Clone, Copy, Drop, PartialEq, Eq)]
 pub enum Wrong {
     /// No parentheses follow `cfg` or `cfg_attr`.
     Malformed,
@@ -32,7 +32,7 @@ pub enum Wrong {
 }
 
 /// What is wrong, and where.
-#[derive(Clone, Copy, Debug, Drop, PartialEq, Eq)]
+#[derive(Clone, Copy, Drop)]
 pub struct Fault {
     pub wrong: Wrong,
     pub at: Span,

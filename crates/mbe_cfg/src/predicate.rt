@@ -30,7 +30,7 @@ pub struct Verdict<'t, A: Allocator = Global> {
 }
 
 /// What a name before parentheses means.
-#[derive(Clone, Copy, Debug, Drop, PartialEq, Eq)]
+#[derive(Clone, Copy, Drop)]
 pub enum Operator {
     All,
     Any,

@@ -5,7 +5,7 @@ ghost use Rattle.mbe_cfg.specs.Targets.{rows, options};
 use crate::settings::Cfg;
 
 /// A target whose options are known.
-#[derive(Clone, Copy, Debug, Drop, PartialEq, Eq)]
+#[derive(Clone, Copy, Drop)]
 pub enum Target {
     /// `x86_64-unknown-linux-gnu`
     X86_64Linux,

@@ -3,7 +3,7 @@ ghost use Rattle.std.specs.Prelude.{◌≡◌};
 ghost use Rattle.mbe_diagnostics.specs.Diagnostics as spec;
 
 /// How much it means.
-#[derive(Clone, Copy, Debug, Drop, PartialEq, Eq)]
+#[derive(Clone, Copy, Drop)]
 pub enum Level {
     Error,
     Warning,
@@ -26,7 +26,7 @@ impl Level {
 }
 
 /// A byte of a file, counted from 0, and its line and column, counted from 1. A column counts characters.
-#[derive(Clone, Copy, Debug, Drop)]
+#[derive(Clone, Copy, Drop)]
 pub struct Point {
     pub byte: usize,
     pub line: usize,
@@ -34,7 +34,7 @@ pub struct Point {
 }
 
 /// Something that is said of a part of a file.
-#[derive(Clone, Copy, Debug, Drop)]
+#[derive(Clone, Copy, Drop)]
 pub struct Diagnostic<'t> {
     pub level: Level,
     pub message: &'t str,

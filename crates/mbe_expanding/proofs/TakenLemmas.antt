@@ -6,9 +6,9 @@ use Rattle.mbe_semantics.specs.Syntax.Op.{Ops}
 use Rattle.mbe_semantics.specs.Syntax.Definition.{Rule}
 use Rattle.mbe_semantics.specs.Bindings.Environment.{Environment, Value, list, Values, no_values, value}
 use Rattle.mbe_semantics.specs.Writing.Rounds.{value_count}
-use Rattle.mbe_log.specs.declared.bindings.Binding.{Binding, Nested}
-use Rattle.mbe_log.specs.BindingViews.{value_seen, values_seen}
-use Rattle.mbe_log.proofs.BindingLemmas.{seen-nested}
+use Rattle.mbe_bindings.specs.declared.bindings.Binding.{Binding, Nested}
+use Rattle.mbe_bindings.specs.BindingViews.{value_seen, values_seen}
+use Rattle.mbe_bindings.proofs.BindingLemmas.{seen-nested}
 use Rattle.mbe.specs.Explaining.{BindsThere, HasPattern}
 use Rattle.mbe_linting.specs.Variables.{bound_in}
 use Rattle.mbe_rust_text.specs.Writing.{text_of, written_after}

@@ -3,7 +3,7 @@ use mbe_tt::span::Span;
 use std::alloc::{Allocator, Global};
 
 /// How much a note means.
-#[derive(Clone, Copy, Debug, Drop, PartialEq, Eq)]
+#[derive(Clone, Copy, Drop)]
 pub enum Level {
     Error,
     Note,

@@ -25,7 +25,7 @@ use mbe_wording::typing::{typed_rules, typed_template};
 use std::alloc::{AllocError, Allocator, Global};
 
 /// What finds a definition.
-#[derive(Clone, Copy, Debug, Drop, PartialEq, Eq)]
+#[derive(Clone, Copy, Drop)]
 pub enum Reach {
     /// A name after it, in its group.
     Text,

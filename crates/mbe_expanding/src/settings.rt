@@ -5,7 +5,7 @@ ghost use Rattle.mbe_expanding.specs.Explained.{asks_for};
 use mbe_tt::span::{Edition, Span};
 
 /// Of which calls it is noted what each rule says.
-#[derive(Clone, Copy, Debug, Drop, PartialEq, Eq)]
+#[derive(Clone, Copy, Drop)]
 pub enum Explain {
     Nothing,
     /// Of those that no rule expands.
@@ -30,7 +30,7 @@ impl Explain {
 }
 
 /// How far calls are expanded, in which edition, and what is noted of them.
-#[derive(Clone, Copy, Debug, Drop, PartialEq, Eq)]
+#[derive(Clone, Copy, Drop)]
 pub struct Settings {
     pub edition: Edition,
     /// How deep expansions are in one another: 1 expands a file's calls, and no call in what they become.

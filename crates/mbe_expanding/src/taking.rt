@@ -2,7 +2,8 @@
 ghost use Rattle.std.specs.Prelude.{◌≡◌, ◌++◌, ◌<◌, IfOk, OnOk, length, map, option_map};
 ghost use Rattle.std.specs.String.{string_bytes};
 ghost use Rattle.mbe_semantics.specs.Expansion.Macro.{IsChecked};
-ghost use Rattle.mbe_log.specs.BindingViews.{bound_by, fragment_seen, value_seen, values_seen};
+ghost use Rattle.mbe_log.specs.FragmentViews.{fragment_seen};
+ghost use Rattle.mbe_bindings.specs.BindingViews.{bound_by, value_seen, values_seen};
 ghost use Rattle.mbe_ops.specs.Views.{template_of};
 ghost use Rattle.mbe.specs.MacroViews.{macro_of};
 ghost use Rattle.mbe_linting.specs.Variables.{bound_seen};
@@ -70,7 +71,7 @@ fn fragment_text<A: Allocator + Copy>(
 }
 
 #[cycle(values)]
-#[tactic(auto, using(mbe_log::proofs::BindingLemmas::seen))]
+#[tactic(auto, using(mbe_bindings::proofs::BindingLemmas::seen))]
 fn push_value<A: Allocator + Copy>(
     alloc: A,
     text: &mut String<A>,
@@ -154,7 +155,7 @@ fn value_text<A: Allocator + Copy>(
     Ok(text)
 }
 
-#[tactic(auto, using(mbe_log::proofs::BindingLemmas::seen))]
+#[tactic(auto, using(mbe_bindings::proofs::BindingLemmas::seen))]
 fn bound_text<A: Allocator + Copy>(
     alloc: A,
     binding: &Binding<'_, A>,

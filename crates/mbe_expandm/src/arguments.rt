@@ -53,7 +53,7 @@ options:
   --version         print the version";
 
 /// Another crate.
-#[derive(Clone, Copy, Debug, Drop)]
+#[derive(Clone, Copy, Drop)]
 pub struct Extern<'w> {
     pub name: &'w str,
     /// Its root, or the folder that it is in as `src/lib.rs`.

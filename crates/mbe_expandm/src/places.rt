@@ -3,7 +3,7 @@ ghost use Rattle.std.specs.Prelude.{◌≡◌};
 ghost use Rattle.mbe_expandm.specs.Expansions.{is_position};
 
 /// A line of a text, counted from 1, and perhaps a column, counted in characters from 1.
-#[derive(Clone, Copy, Debug, Drop, PartialEq, Eq)]
+#[derive(Clone, Copy, Drop)]
 pub struct Position {
     pub line: usize,
     pub column: Option<usize>,
@@ -62,7 +62,7 @@ impl Position {
 }
 
 /// A byte of a text by its line and column, both counted from 1, with the line. A column counts characters.
-#[derive(Clone, Copy, Debug, Drop)]
+#[derive(Clone, Copy, Drop)]
 pub struct Place<'t> {
     pub line: usize,
     pub column: usize,

@@ -19,7 +19,7 @@ use mbe_tt::span::Span;
 use std::alloc::{AllocError, Global};
 
 /// How reports are written.
-#[derive(Clone, Copy, Debug, Drop, PartialEq, Eq)]
+#[derive(Clone, Copy, Drop)]
 pub enum Form {
     /// As rustc writes them.
     Text,

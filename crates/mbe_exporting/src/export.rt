@@ -2,7 +2,7 @@
 use std::alloc::{Allocator, Global};
 
 /// What is exported of another crate.
-#[derive(Debug, Drop)]
+#[derive(Drop)]
 pub enum What<A: Allocator = Global> {
     /// All that it offers.
     All,
@@ -11,7 +11,7 @@ pub enum What<A: Allocator = Global> {
 }
 
 /// An export of a crate. Clauses see it by `export_of`.
-#[derive(Debug, Drop)]
+#[derive(Drop)]
 pub struct Export<A: Allocator = Global> {
     /// The crate that exports it.
     pub by: String<A>,

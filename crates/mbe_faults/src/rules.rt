@@ -27,7 +27,7 @@ use mbe_tt::tt::TtIter;
 use std::alloc::{AllocError, Allocator};
 
 /// Why a definition is refused. Clauses see it by `refusal_of`.
-#[derive(Clone, Copy, Debug, PartialEq, Eq)]
+#[derive(Clone, Copy)]
 pub enum Refusal {
     /// A token can't be read.
     Syntax(SyntaxFault),
@@ -36,7 +36,7 @@ pub enum Refusal {
 }
 
 /// Why a definition is refused, and where.
-#[derive(Clone, Copy, Debug, PartialEq, Eq)]
+#[derive(Clone, Copy)]
 pub struct RulesFault {
     pub fault: Refusal,
     /// The number of the rules that were read before.
@@ -46,7 +46,7 @@ pub struct RulesFault {
 }
 
 /// Why the one rule of a `macro` with arguments is refused, and where.
-#[derive(Clone, Copy, Debug, PartialEq, Eq)]
+#[derive(Clone, Copy)]
 pub struct PartFault {
     pub fault: Refusal,
     /// Whether that is in the arguments, which are the pattern, or in the body.

@@ -21,7 +21,7 @@ pub struct File<'f, A: Allocator = Global> {
 }
 
 /// Why a module or an `include!` has no file.
-#[derive(Clone, Copy, Debug, Drop, PartialEq, Eq)]
+#[derive(Clone, Copy, Drop)]
 pub enum Wrong {
     /// None was read that may be it.
     Missing,

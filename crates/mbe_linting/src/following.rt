@@ -15,7 +15,7 @@ use mbe_tt::tt::{DelimiterKind, Ident, IdentIsRaw, Literal, Punct};
 use std::alloc::{AllocError, Allocator, Global};
 
 /// What may come next in a pattern. Clauses see it by `next_seen`.
-#[derive_where(Clone, Copy, Debug)]
+#[derive_where(Clone, Copy)]
 pub enum Next<'a, A: Allocator = Global> {
     /// A token, a variable or a group.
     Op(&'a Op<A>),
@@ -24,7 +24,7 @@ pub enum Next<'a, A: Allocator = Global> {
 }
 
 /// A fragment, and what may come after it and mayn't. Clauses see it by `followed_seen`.
-#[derive_where(Clone, Copy, Debug)]
+#[derive_where(Clone, Copy)]
 pub struct Followed<'a, A: Allocator = Global> {
     pub name: &'a str,
     pub kind: Option<MetaVarKind>,

@@ -12,7 +12,7 @@ use mbe_tt::span::Span;
 use std::alloc::{AllocError, Allocator};
 
 /// A variable of a pattern. Clauses see it by `bound_seen`.
-#[derive(Clone, Copy, Debug, Drop)]
+#[derive(Clone, Copy, Drop)]
 pub struct Bound<'a> {
     pub name: &'a str,
     /// None where the specifier is unknown.
@@ -24,7 +24,7 @@ pub struct Bound<'a> {
 }
 
 /// A use of a name in a template. Clauses see it by `used_seen`.
-#[derive(Clone, Copy, Debug, Drop)]
+#[derive(Clone, Copy, Drop)]
 pub struct Used<'a> {
     pub name: &'a str,
     /// How many repetitions are around it.

@@ -2,7 +2,7 @@
 use mbe_tt::span::Span;
 
 /// A token of a definition.
-#[derive(Clone, Copy, Debug, Drop, PartialEq, Eq)]
+#[derive(Clone, Copy, Drop)]
 pub struct Spot {
     /// The number of the rules before its rule.
     pub rule: usize,

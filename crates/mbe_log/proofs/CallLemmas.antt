@@ -7,7 +7,7 @@ use Rattle.mbe_log.specs.Shared.{IsWhole, IsGiven, IsChanged, appended, with_lis
 use Rattle.mbe_log.specs.Sound.{depth, command_depth, rounds_depth, IsGrounded, GivesCommand}
 use Rattle.mbe_semantics.proofs.GivesLemmas.{follow, rounds_follow}
 use Rattle.mbe_log.proofs.LogLemmas.{get-front, get-last, get-more, get-appended, take-whole, appended-same, appended-other, HasMore, more-itself, more-list, more-entry, gives, rounds, part_rounds, kept, gives_one, whole, whole_rounds}
-use Rattle.mbe_log.proofs.BuildLemmas.{take-none, deeper, deeper_rounds}
+use Rattle.mbe_log.proofs.SeenLemmas.{take-none, deeper, deeper_rounds}
 use Rattle.mbe_log.proofs.ClientLemmas.{in_of, lists_there}
 use Rattle.mbe_log.proofs.OrderLemmas.{adds-none, adds-list, adds-entry, within, rounds-within, command-within, order-stays}
 

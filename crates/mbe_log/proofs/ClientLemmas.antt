@@ -6,7 +6,7 @@ use Rattle.mbe_semantics.specs.declared.log.Part.{Part}
 use Rattle.mbe_log.specs.Shared.{IsKept, IsEmptied}
 use Rattle.mbe_log.specs.Accounts.{Every, Held, HasAccounts}
 use Rattle.mbe_log.proofs.ChainLemmas.{in_range}
-use Rattle.mbe_log.proofs.BuildLemmas.{take-none}
+use Rattle.mbe_log.proofs.SeenLemmas.{take-none}
 
 pub in_of : (log : Log) {p : Part} {ds cs : Commands} → PartGives log ds p cs → IsIn log.commands p
 in_of log (part_gives ds p cs es i l h) = (es, i, l)

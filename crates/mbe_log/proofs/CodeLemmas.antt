@@ -1,17 +1,15 @@
 -- The calls of a log, on the code's lists.
-use Rattle.std.specs.Prelude.{◌≡◌, ◌≤◌, ◌+◌, ℕ, suc, List, [], ◌∷◌, ◌++◌, length, map, slice_get, Option, Some, None, Result, Ok, Err, IfOk, refl}
+use Rattle.std.specs.Prelude.{◌≡◌, ◌≤◌, ◌+◌, ℕ, suc, List, [], ◌∷◌, ◌++◌, length, map, slice_get, Option, Some, None, refl}
 use Rattle.std.proofs.Common.{arith, sym, ap, subst, ◌∙◌, get_or}
 use Rattle.mbe_semantics.specs.declared.log.Part.{Part}
 use Rattle.mbe_log.specs.declared.log.Command as code
 use Rattle.mbe_log.specs.Chain.{Chain, IsChained, IsWithin, IsExtended, chain_len, link_len, link_to, with_link, last_part}
 use Rattle.mbe_log.specs.Entries.{commands_seen, rounds_seen, first_link, first_round_link, entry_seen, log_of}
-use Rattle.mbe_semantics.specs.Bindings.Account.{Account, pushed, pushed_nested, pushed_default, Command, Commands, no_commands, no_command_rounds, command_round, Log, Handle, IsIn, HasEntriesOf, Gives, GivesRounds, PartGives, run, IsAccount, HasOneListMore}
+use Rattle.mbe_semantics.specs.Bindings.Account.{Account, pushed, pushed_nested, pushed_default, Command, no_commands, no_command_rounds, command_round, Log, Handle, IsIn, HasEntriesOf, Gives, GivesRounds, IsAccount, HasOneListMore}
 use Rattle.mbe_log.specs.Shared.{IsGiven, IsChanged, IsAtEnd, IsWhole, WritesOne, WritesRound, current_len, finished_len, len_at, IsPlain}
-use Rattle.mbe_log.specs.Sound.{IsSound, HasOrder, IsGrounded, GivesCommand, command_depth, IsPartGrounded}
-use Rattle.mbe_log.specs.declared.bindings.Bindings.{Bindings}
-use Rattle.mbe_log.specs.BindingViews.{bound_by}
+use Rattle.mbe_log.specs.Sound.{IsSound, HasOrder, IsGrounded, GivesCommand, command_depth}
 use Rattle.mbe_log.proofs.ChainLemmas.{got}
-use Rattle.mbe_log.proofs.BuildLemmas.{map-get, get-map, commands_len, rounds_len}
+use Rattle.mbe_log.proofs.SeenLemmas.{map-get, get-map, commands_len, rounds_len}
 use Rattle.mbe_log.proofs.CallLemmas.{grounded-part, grounded-rounds-part, with_lists, next_handle, given, given-account, step-changes, step-grounded, default-changes, default-grounded}
 use Rattle.mbe_log.proofs.SoundLemmas.{sound-copy, seen-lists, linked, linked_rounds, plain_command, chained-more, chained-extended, at-end, step-of, step-of-rounds}
 
@@ -180,19 +178,6 @@ module _ {A : Type 0} (C : List (Chain (code.Command A))) (R : List (Chain Part)
           (first_round_link (link_to finished e.0)) (step-of-rounds C R S finished q current e)
           (λ rs k. linked_rounds C R finished e.0 rs e.1 k) n k.grounded (entries_held l));
     }
-
-    -- building
-    pub build-grounded : (n : ℕ) → IsSound C R n → HasEntriesOf log h → IsPartGrounded (log_of C R) current n
-    build-grounded n s l = grounded-part (log_of C R) n s.grounded current (entries_held l).0
-
-    pub build-returns : (D : List (Chain (code.Command A))) (S : List (Chain Part)) → D ≡ C → S ≡ R
-        → {E : Type 0} (r : Result (Bindings A) E) →
-        IfOk r (λ b. (cs : Commands) → PartGives (log_of D S) no_commands current cs → bound_by b ≡ run cs []) →
-        IfOk r (λ b. (a : Account) → IsAccount log h a → bound_by b ≡ run a.current [])
-    build-returns D S d e (Err x) k = k
-    build-returns D S d e (Ok b) k = λ a m. k a.current
-        (subst (λ x. PartGives (log_of x S) no_commands current a.current) (sym d)
-        (subst (λ y. PartGives (log_of C y) no_commands current a.current) (sym e) (account_held a m).current))
 
     -- each live handle has an account
     pub account-there : (n : ℕ) → IsSound C R n → HasEntriesOf log h → (a : Account) × IsAccount log h a

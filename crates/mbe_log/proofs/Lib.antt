@@ -1,14 +1,8 @@
-pub mod BindingLemmas
-pub mod BuildLemmas
 pub mod CallLemmas
 pub mod ChainLemmas
 pub mod ClientLemmas
-pub mod CompactLemmas
-pub mod CompactSteps
-pub mod CountLemmas
 pub mod CodeLemmas
 pub mod LogLemmas
 pub mod OrderLemmas
-pub mod RowLemmas
+pub mod SeenLemmas
 pub mod SoundLemmas
-pub mod StepLemmas

@@ -11,7 +11,7 @@ use Rattle.mbe_log.specs.Shared.{appended, IsPlain}
 use Rattle.mbe_log.specs.Sound.{depth, command_depth, rounds_depth, IsGrounded, IsSound, GivesCommand}
 use Rattle.mbe_log.proofs.ChainLemmas.{in_range, link_some}
 use Rattle.mbe_log.proofs.LogLemmas.{get-front, get-more}
-use Rattle.mbe_log.proofs.BuildLemmas.{take-none, commands_len, rounds_len, map-get, is_within, is_rounds_within}
+use Rattle.mbe_log.proofs.SeenLemmas.{take-none, commands_len, rounds_len, map-get, is_within, is_rounds_within}
 use Rattle.mbe_log.proofs.CallLemmas.{with_lists, grounded-lists, grounded-part, grounded-rounds-part, IsStep}
 
 -- ---- no lists

@@ -1,5 +1,5 @@
 -- A list that may begin with the first entries of another.
-use Rattle.std.specs.Prelude.{◌≡◌, ◌<◌, ◌≤◌, ◌⊎◌, ◌+◌, ◌-◌, ℕ, zero, suc, List, [], ◌∷◌, ◌++◌, length, map, take, slice_get, Option, Some, None, refl}
+use Rattle.std.specs.Prelude.{◌≡◌, ◌<◌, ◌≤◌, ◌⊎◌, ◌+◌, ◌-◌, ℕ, zero, suc, List, [], ◌∷◌, ◌++◌, length, slice_get, Option, Some, None, refl}
 use Rattle.std.proofs.Common.{set}
 use Rattle.std.specs.Coded.{Coded, code_by, coded_ℕ, coded×, coded_list, coded_option}
 use Rattle.mbe_semantics.specs.declared.log.Part.{Part}
@@ -71,11 +71,6 @@ with_link lists link = lists ++ record { link = link; own = [] } ∷ []
 abbrev pub last_part : {T : Type 0} → List (Chain T) → Option Part → Part
 last_part lists link = record { list = length lists; first = link_len link }
 
--- a list's own entry at the index
-abbrev pub own_of : {T : Type 0} → Option (Chain T) → ℕ → Option T
-own_of None i = None
-own_of (Some l) i = slice_get l.own i
-
 module _ {T : Type 0} (lists : List (Chain T)) where
   -- the list is there, and has so many entries
   abbrev pub IsWithin : Part → Type 0
@@ -94,25 +89,3 @@ module _ {T : Type 0} (lists : List (Chain T)) where
       × (next ≡ record { list = part.list; first = chain_len (longer l x) }))
       ⊎ ((part.first < chain_len l) × (new ≡ lists ++ forked part l x ∷ [])
       × (next ≡ record { list = length lists; first = chain_len (forked part l x) })))
-
-  -- the entries of a part, where each link is replaced by what it stands for
-  pub data Flat : Part → List T → Type 0 where
-    ends : (part : Part) (l : Chain T) (xs : List T) → slice_get lists part.list ≡ Some l
-        → link_in l.link part.first ≡ None →
-        xs ≡ take (own_in l.link part.first) l.own → Flat part xs
-    goes_on : (part : Part) (l : Chain T) (link : Part) (ys xs : List T) → slice_get lists part.list ≡ Some l
-        → link_in l.link part.first ≡ Some link →
-        Flat link ys → xs ≡ ys ++ take (own_in l.link part.first) l.own → Flat part xs
-
-  -- what is at a place: a list, and an index among its own entries
-  abbrev pub entry_at : Part → Option T
-  entry_at place = own_of (slice_get lists place.list) place.first
-
-  -- the places hold the entries of the part
-  abbrev pub ArePlaces : Part → List Part → Type 0
-  ArePlaces part places = (xs : List T) × Flat part xs × (map entry_at places ≡ map Some xs)
-
--- the places of the first so many own entries, last first
-abbrev pub places_down : ℕ → ℕ → List Part
-places_down list zero = []
-places_down list (suc n) = record { list = list; first = n } ∷ places_down list n

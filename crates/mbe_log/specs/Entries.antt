@@ -13,7 +13,7 @@ use Rattle.mbe_semantics.specs.Syntax.Op.{Name}
 use Rattle.mbe_semantics.specs.Fragments.Kinds.{Style, plain, stripped, as_expression, as_path}
 use Rattle.mbe_semantics.specs.Readings.Item.{Fragment}
 use Rattle.mbe_semantics.specs.Bindings.Account.{Entry, RoundEntry, Log, Handle}
-use Rattle.mbe_log.specs.BindingViews.{fragment_seen}
+use Rattle.mbe_log.specs.FragmentViews.{fragment_seen}
 
 -- ---- views
 

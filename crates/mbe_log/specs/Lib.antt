@@ -1,13 +1,7 @@
 pub mod Accounts
-pub mod BindingViews
-pub mod Building
 pub mod Chain
-pub mod Collected
-pub mod Compacting
 pub mod Entries
-pub mod Growing
-pub mod KeptLists
+pub mod FragmentViews
 pub mod Printed
-pub mod Rows
 pub mod Shared
 pub mod Sound

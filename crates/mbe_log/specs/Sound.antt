@@ -43,9 +43,7 @@ pub record IsSound {A : Type 0} (commands : List (Chain (code.Command A))) (roun
   pub round_links : IsChained rounds
   pub grounded : IsGrounded (log_of commands rounds) most
 
--- ---- what building asks for and gives
-
--- a command that isn't a link
+-- what an entry gives that isn't a link
 abbrev pub GivesCommand : Log → Entry → Command → Type 0
 GivesCommand log (Entry.binds name x) c = c ≡ Command.binds name x
 GivesCommand log (Entry.binds_nothing name) c = c ≡ Command.binds_nothing name
@@ -56,15 +54,3 @@ GivesCommand log (Entry.nests finished current) c =
     × PartGives log no_commands current ds
     × (c ≡ Command.nests (command_round rs ds))
 GivesCommand log (Entry.links part) c = ⊥
-
-abbrev pub IsPartGrounded : Log → Part → ℕ → Type 0
-IsPartGrounded log part most = (cs : Commands) × PartGives log no_commands part cs × (depth cs ≤ most)
-
-abbrev pub IsCommandGrounded : Log → Entry → ℕ → Type 0
-IsCommandGrounded log e most = (c : Command) × GivesCommand log e c × (command_depth c ≤ most)
-
-abbrev pub AreRoundsGrounded : Log → Part → Part → ℕ → Type 0
-AreRoundsGrounded log finished last most =
-    (rs : CommandRounds) × (ds : Commands) × PartGivesRounds log no_command_rounds finished rs
-    × PartGives log no_commands last ds
-    × (rounds_depth (command_round rs ds) ≤ most)

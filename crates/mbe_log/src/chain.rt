@@ -1,8 +1,7 @@
 // A list that may begin with the first entries of another.
-ghost use Rattle.std.specs.Prelude.{◌≡◌, ◌↔◌, IsTrue, ◌<◌, [], ◌∷◌, ◌++◌, ◌≤◌, length, slice_get, take, Some};
-ghost use Rattle.std.specs.Prelude.{None, IfOk, OnOk, OnErr, IfSome};
-ghost use Rattle.mbe_log.specs.Chain.{chain_len, link_to, link_in, own_in, IsChained, IsWithin};
-ghost use Rattle.mbe_log.specs.Chain.{IsExtended, ArePlaces, Flat, places_down};
+ghost use Rattle.std.specs.Prelude.{◌≡◌, ◌↔◌, IsTrue, ◌<◌, [], ◌∷◌, ◌++◌, length, slice_get, Some};
+ghost use Rattle.std.specs.Prelude.{None, IfOk, OnOk, OnErr};
+ghost use Rattle.mbe_log.specs.Chain.{chain_len, link_to, link_in, own_in, IsWithin, IsExtended};
 
 use mbe_semantics::log::Part;
 use std::alloc::{AllocError, Allocator, Global};
@@ -10,7 +9,7 @@ use std::marker::Model;
 
 /// A link, which counts as an entry, and entries of its own after it.
 #[derive(Drop)]
-pub(crate) struct Linked<T, A: Allocator = Global> {
+pub struct Linked<T, A: Allocator = Global> {
     link: Option<Part>,
     // Most lists keep one entry, which needs no memory beside the list's own.
     first: Option<T>,
@@ -34,7 +33,7 @@ impl<T, A: Allocator> Model for Linked<T, A> {
 impl<T, A: Allocator> Linked<T, A> {
     /// A list that may begin with a link.
     #[inline(always)]
-    pub(crate) fn linked(alloc: A, link: Option<Part>) -> Linked<T, A>
+    pub fn linked(alloc: A, link: Option<Part>) -> Linked<T, A>
         ensures { result ≡ record { link = link; own = [] } }
     {
         Linked {
@@ -46,7 +45,7 @@ impl<T, A: Allocator> Linked<T, A> {
 
     /// The link that another list begins with to have a part of this one. A part that has only the link gives that link.
     #[inline(always)]
-    pub(crate) fn link_to(&self, part: Part) -> Option<Part>
+    pub fn link_to(&self, part: Part) -> Option<Part>
         ensures { result ≡ link_to part self.now }
     {
         let (link, own) = self.cut(part.first);
@@ -55,7 +54,7 @@ impl<T, A: Allocator> Linked<T, A> {
 
     /// How many entries it has.
     #[inline(always)]
-    pub(crate) fn len(&self) -> usize
+    pub fn len(&self) -> usize
         ensures { result ≡ chain_len self.now }
     {
         match self.link {
@@ -66,7 +65,7 @@ impl<T, A: Allocator> Linked<T, A> {
 
     /// How many entries of its own it has.
     #[inline(always)]
-    pub(crate) fn own_len(&self) -> usize
+    pub fn own_len(&self) -> usize
         ensures { result ≡ length self.now.own }
     {
         match self.first {
@@ -77,7 +76,7 @@ impl<T, A: Allocator> Linked<T, A> {
 
     /// The link among the first so many entries, and how many others are among them.
     #[inline(always)]
-    pub(crate) fn cut(&self, first: usize) -> (Option<Part>, usize)
+    pub fn cut(&self, first: usize) -> (Option<Part>, usize)
         ensures link { result.0 ≡ link_in self.now.link first }
         ensures own { result.1 ≡ own_in self.now.link first }
     {
@@ -90,7 +89,7 @@ impl<T, A: Allocator> Linked<T, A> {
 
     /// The entry of its own at the index.
     #[inline(always)]
-    pub(crate) fn own_at(&self, index: usize) -> &T
+    pub fn own_at(&self, index: usize) -> &T
         requires { index < length self.now.own }
         ensures { slice_get self.now.own index ≡ Some result.now }
     {
@@ -104,7 +103,7 @@ impl<T, A: Allocator> Linked<T, A> {
 impl<T: Drop, A: Allocator> Linked<T, A> {
     /// One entry more at the end. `AllocError` if out of memory.
     #[inline(always)]
-    pub(crate) fn push(&mut self, entry: T) -> Result<(), AllocError>
+    pub fn push(&mut self, entry: T) -> Result<(), AllocError>
         ensures ok { OnOk result (self.new ≡ record self.old { own = self.old.own ++ entry ∷ [] }) }
         ensures err { OnErr result (self.new ≡ self.old) }
     {
@@ -125,7 +124,7 @@ impl<T: Drop, A: Allocator> Linked<T, A> {
 }
 
 /// Whether the part's list is there, and has so many entries.
-pub(crate) fn is_within<T, A: Allocator>(lists: &[Linked<T, A>], part: Part) -> bool
+pub fn is_within<T, A: Allocator>(lists: &[Linked<T, A>], part: Part) -> bool
     ensures { IsTrue result ↔ IsWithin lists.now part }
 {
     part.list < lists.len() && part.first <= lists[part.list].len()
@@ -134,7 +133,7 @@ pub(crate) fn is_within<T, A: Allocator>(lists: &[Linked<T, A>], part: Part) -> 
 /// The part with one entry more: in its own list where it goes up to the end of that, else in a new list that links to the
 /// part. `AllocError` if out of memory.
 #[inline]
-pub(crate) fn extend<T: Drop, A: Allocator + Copy>(
+pub fn extend<T: Drop, A: Allocator + Copy>(
     alloc: A,
     lists: &mut Vec<Linked<T, A>, A>,
     part: Part,
@@ -161,88 +160,4 @@ pub(crate) fn extend<T: Drop, A: Allocator + Copy>(
         list: part.list,
         first,
     })
-}
-
-/// The entry of a part that has one alone, of its own.
-pub(crate) fn only<T, A: Allocator>(lists: &[Linked<T, A>], part: Part) -> Option<&T>
-    requires { IsWithin lists.now part }
-    ensures { IfSome result (λ entry. Flat lists.now part (entry.now ∷ [])) }
-{
-    let list = &lists[part.list];
-    match list.cut(part.first) {
-        (None, 1) => Some(list.own_at(0)),
-        _ => None,
-    }
-}
-
-/// The entries of a part that has two alone, of its own.
-#[inline(always)]
-pub(crate) fn two<T, A: Allocator>(lists: &[Linked<T, A>], part: Part) -> Option<(&T, &T)>
-    requires { IsWithin lists.now part }
-    ensures { IfSome result (λ p. Flat lists.now part (p.0.now ∷ (p.1.now ∷ []))) }
-{
-    let list = &lists[part.list];
-    match list.cut(part.first) {
-        (None, 2) => {
-            let first = list.own_at(0);
-            let second = list.own_at(1);
-            Some((first, second))
-        }
-        _ => None,
-    }
-}
-
-/// The list of a part that has no link, and how many of its first entries are the part's.
-#[inline(always)]
-pub(crate) fn unlinked<T, A: Allocator>(
-    lists: &[Linked<T, A>],
-    part: Part,
-) -> Option<(&Linked<T, A>, usize)>
-    requires { IsWithin lists.now part }
-    ensures { IfSome result (λ p. (p.1 ≤ length p.0.now.own)
-        × Flat lists.now part (take p.1 p.0.now.own)) }
-{
-    let list = &lists[part.list];
-    match list.cut(part.first) {
-        (None, count) => Some((list, count)),
-        _ => None,
-    }
-}
-
-/// Where the entries of a part are, if each link is replaced by the entries that it stands for. A place is a list and an
-/// index among its own entries.
-pub(crate) fn places<T, A: Allocator + Copy>(
-    alloc: A,
-    lists: &[Linked<T, A>],
-    part: Part,
-) -> Result<Vec<Part, A>, AllocError>
-    requires chained { IsChained lists.now }
-    requires within { IsWithin lists.now part }
-    ensures { IfOk result (λ v. ArePlaces lists.now part v.items) }
-{
-    let mut places = Vec::new(alloc);
-    let mut next = Some(part);
-    while let Some(part) = next {
-        let (link, own) = lists[part.list].cut(part.first);
-        push_places(&mut places, part.list, own)?;
-        next = link;
-    }
-    places.reverse();
-    Ok(places)
-}
-
-// The places of a list's first own entries, last first.
-fn push_places<A: Allocator>(
-    places: &mut Vec<Part, A>,
-    list: usize,
-    count: usize,
-) -> Result<(), AllocError>
-    ensures { OnOk result (places.new.items ≡ places.old.items ++ places_down list count) }
-{
-    let mut first = count;
-    while first > 0 {
-        first -= 1;
-        places.push(Part { list, first })?;
-    }
-    Ok(())
 }

@@ -2,7 +2,7 @@
 ghost use Rattle.std.specs.Prelude.{◌≡◌, IfOk};
 ghost use Rattle.mbe_tt.specs.Views.View.{trees};
 ghost use Rattle.mbe_semantics.specs.Fragments.Kinds.{style_of};
-ghost use Rattle.mbe_log.specs.BindingViews.{fragment_seen};
+ghost use Rattle.mbe_log.specs.FragmentViews.{fragment_seen};
 
 use mbe_semantics::kinds::MetaVarKind;
 use mbe_tt::tt::{TokenTreesView, TopSubtree};

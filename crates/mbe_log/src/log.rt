@@ -4,7 +4,7 @@
 //
 // What it is for: while an argument is matched, several positions of the pattern may be possible at once, and each has bound
 // some names. Copying all bindings for each position would cost their number at every token. So all positions write into
-// one log, each knows how much of it is its own, and only the position that the match ends with is built into `Bindings`.
+// one log, each knows how much of it is its own, and only the position that the match ends with is built into bindings.
 //
 // A log holds lists of commands and lists of finished rounds. A handle names a list of each sort, and how many of its first
 // entries are the handle's. A push goes on in place where the handle's entries end the list, and else begins a list that
@@ -18,36 +18,20 @@
 //     push v to h    h = 0,3            0: x y v
 //     push w to k    k = 2,2            0: x y v  2: ->0,2 w
 //
-// Building follows the links of a list by a loop, and recurses only into nested commands.
-ghost use Rattle.std.specs.Prelude.{◌≡◌, ◌↔◌, ◌≤◌, [], length, take, option_map, IsTrue, IfOk, OnOk, OnErr};
-ghost use Rattle.mbe_semantics.specs.Bindings.Account.{Account, Commands, CommandRounds, IsLive};
-ghost use Rattle.mbe_semantics.specs.Bindings.Account.{HasEntriesOf, Order, IsOrdered};
-ghost use Rattle.mbe_semantics.specs.Bindings.Account.{IsAccount, no_account, no_lists, pushed};
-ghost use Rattle.mbe_semantics.specs.Bindings.Account.{pushed_nested, pushed_default, run};
-ghost use Rattle.mbe_semantics.specs.Bindings.Account.{add_round_in, run_command, run_rounds, no_commands};
-ghost use Rattle.mbe_semantics.specs.Bindings.Account.{no_command_rounds, command_round, PartGives};
-ghost use Rattle.mbe_semantics.specs.Bindings.Account.{PartGivesRounds, Command as Written};
-ghost use Rattle.mbe_semantics.specs.Bindings.Account.{HasOneListMore};
-ghost use Rattle.mbe_semantics.specs.Bindings.Environment.{fragment};
-ghost use Rattle.mbe_log.specs.Compacting.{Sends, IsMoved, FitsIn};
-ghost use Rattle.mbe_log.specs.Shared.{IsKept};
-ghost use Rattle.std.specs.Prelude.{IfSome};
-ghost use Rattle.mbe_semantics.specs.Bindings.Account.{Handle as Held, Log};
+// What the entries of a handle bind is built by `mbe_bindings`.
+ghost use Rattle.std.specs.Prelude.{◌≡◌, ◌↔◌, ◌≤◌, length, IsTrue, IfOk, OnOk, OnErr};
+ghost use Rattle.mbe_semantics.specs.Bindings.Account.{Account, IsLive, HasEntriesOf, Order};
+ghost use Rattle.mbe_semantics.specs.Bindings.Account.{IsOrdered, IsAccount, no_account, no_lists};
+ghost use Rattle.mbe_semantics.specs.Bindings.Account.{pushed, pushed_nested, pushed_default};
+ghost use Rattle.mbe_semantics.specs.Bindings.Account.{Command as Written, HasOneListMore};
 ghost use Rattle.mbe_log.specs.Shared.{IsGiven, IsChanged, IsAtEnd, WritesOne, WritesRound};
 ghost use Rattle.mbe_log.specs.Shared.{current_len, finished_len, IsPlain, IsEmptied};
-ghost use Rattle.mbe_log.specs.BindingViews.{bound_by};
-ghost use Rattle.mbe_log.specs.Chain.{IsChained, with_link, last_part};
+ghost use Rattle.mbe_log.specs.Chain.{with_link, last_part};
 ghost use Rattle.mbe_log.specs.Entries.{entry_seen, log_of};
-ghost use Rattle.mbe_log.specs.Sound.{GivesCommand, IsPartGrounded, IsCommandGrounded};
-ghost use Rattle.mbe_log.specs.Sound.{AreRoundsGrounded};
-ghost use Rattle.mbe_log.specs.Building.{BindsRound};
-ghost use Rattle.mbe_log.specs.Growing.{grown};
-ghost use Rattle.mbe_log.specs.Rows.{entry_name, entry_row, entry_rows, names_of, BindsThat, BindApart};
-ghost use Rattle.mbe_log.specs.BindingViews.{fragment_seen};
+ghost use Rattle.mbe_log.specs.Sound.{GivesCommand, IsSound};
+ghost use Rattle.mbe_log.specs.FragmentViews.{fragment_seen};
 
-use crate::bindings::{Binding, Bindings};
-use crate::chain::{Linked, extend, is_within, only, places, two, unlinked};
-use crate::compact::{Compacted, Extent, found, is_whole, is_worth, kept_lists};
+use crate::chain::{Linked, extend, is_within};
 use crate::fragment::Fragment;
 use mbe_semantics::kinds::MetaVarKind;
 use mbe_semantics::log::Part;
@@ -100,6 +84,23 @@ pub fn again(handle: &Handle) -> Handle
     }
 }
 
+/// Which parts a handle is of: of a list of commands, and of a list of finished rounds.
+#[inline(always)]
+pub fn parts(handle: &Handle) -> (Part, Part)
+    ensures current { result.0 ≡ handle.now.current }
+    ensures finished { result.1 ≡ handle.now.finished }
+{
+    (handle.current, handle.finished)
+}
+
+/// The handle of these parts.
+#[inline(always)]
+pub fn handle_of(current: Part, finished: Part) -> Handle
+    ensures { result ≡ record { current = current; finished = finished } }
+{
+    Handle { current, finished }
+}
+
 /// None of the entries: nothing is bound, and no list is needed for it.
 #[inline(always)]
 pub fn emptied(handle: &Handle) -> Handle
@@ -119,12 +120,28 @@ pub fn emptied(handle: &Handle) -> Handle
 
 /// What is written into a list.
 #[derive(Drop)]
-pub(crate) enum Command<'a, A: Allocator = Global> {
+pub enum Command<'a, A: Allocator = Global> {
     Fragment(Symbol<A>, Fragment<'a, A>),
     Optional(Symbol<A>),
     Empty(Symbol<A>),
     Missing(Symbol<A>, MetaVarKind),
     Nested { finished: Part, current: Part },
+}
+
+/// How many lists a log has.
+#[derive(Clone, Copy, Debug, Drop, PartialEq, Eq)]
+pub struct Extent {
+    pub commands: usize,
+    pub rounds: usize,
+}
+
+/// What a log is made of, for those who build bindings from it, or write another log.
+pub struct Lists<'l, 'a, A: Allocator = Global> {
+    pub alloc: A,
+    pub commands: &'l [Linked<Command<'a, A>, A>],
+    pub rounds: &'l [Linked<Part, A>],
+    /// How many nested commands were written: none has more levels inside.
+    pub nested: usize,
 }
 
 /// What positions bind, each by a handle of its own.
@@ -346,48 +363,36 @@ impl<'a, A: Allocator + Copy> BindingLog<'a, A> {
         Ok(())
     }
 
-    /// A log that has what the handles stand for, and the lists of that extent as they are, where it has at most half as many
-    /// commands as this one, or `anyway`. None else, as it would take memory to save little. `AllocError` if out of memory.
-    pub fn compacted(
-        &self,
-        extent: Extent,
-        handles: &[Handle],
-        anyway: bool,
-    ) -> Result<Option<Compacted<'a, A>>, AllocError>
-        ensures moved { IfOk result (λ c. IfSome c (λ c. (h k : Held) → Sends c.moves h k
-            → IsMoved self.now c.log h k)) }
-        ensures kept { (first : Log) → IsKept first self.now → FitsIn extent first
-            → IfOk result (λ c. IfSome c (λ c. IsKept first c.log)) }
+    /// The lists.
+    #[inline(always)]
+    pub fn lists(&self) -> Lists<'_, 'a, A>
+        ensures seen { log_of result.commands.now result.rounds.now ≡ self.now }
+        ensures sound { IsSound result.commands.now result.rounds.now result.nested }
     {
-        let moves = found(self.alloc, &self.commands, &self.rounds, extent, handles)?;
-        if !anyway && !is_worth(&self.commands, &moves) {
-            return Ok(None);
-        }
-        if !is_whole(&self.commands, &self.rounds, extent, &moves) {
-            return Ok(None);
-        }
-        let log = BindingLog {
+        Lists {
             alloc: self.alloc,
-            commands: kept_lists(self.alloc, &self.commands, &moves)?,
-            rounds: kept_lists(self.alloc, &self.rounds, &moves)?,
+            commands: &self.commands,
+            rounds: &self.rounds,
             nested: self.nested,
-        };
-        Ok(Some(Compacted { log, moves }))
+        }
     }
 
-    /// The environment of the current commands. `AllocError` if out of memory.
-    pub fn build(&self, handle: &Handle) -> Result<Bindings<'a, A>, AllocError>
-        requires { HasEntriesOf self.now handle.now }
-        ensures { IfOk result (λ b. (a : Account)
-            → IsAccount self.now handle.now a → bound_by b ≡ run a.current []) }
+    /// The log of these lists.
+    pub fn of_lists(
+        alloc: A,
+        commands: Vec<Linked<Command<'a, A>, A>, A>,
+        rounds: Vec<Linked<Part, A>, A>,
+        nested: usize,
+    ) -> BindingLog<'a, A>
+        requires { IsSound commands.items rounds.items nested }
+        ensures { result ≡ log_of commands.entry.items rounds.items }
     {
-        build_part(
-            self.alloc,
-            &self.commands,
-            &self.rounds,
-            handle.current,
-            self.nested,
-        )
+        BindingLog {
+            alloc,
+            commands,
+            rounds,
+            nested,
+        }
     }
 }
 
@@ -483,276 +488,4 @@ fn begin<'a, A: Allocator + Copy>(
 
 fn release<T: Drop, A: Allocator>(lists: Vec<Linked<T, A>, A>) {
     let _lists = lists;
-}
-
-// The name that the command binds, which isn't nested.
-#[inline(always)]
-fn plain_name<'c, A: Allocator>(command: &'c Command<'_, A>) -> Option<&'c Symbol<A>>
-    ensures { option_map (λ x. x.now) result ≡ entry_name command.now }
-{
-    match command {
-        Command::Fragment(name, _) => Some(name),
-        Command::Optional(name) => Some(name),
-        Command::Empty(name) => Some(name),
-        Command::Missing(name, _) => Some(name),
-        Command::Nested { .. } => None,
-    }
-}
-
-// Whether the command binds the name at this index, by itself.
-#[inline(always)]
-fn binds_that_at<A: Allocator>(
-    command: &Command<'_, A>,
-    bindings: &Bindings<'_, A>,
-    index: usize,
-) -> bool
-    ensures { IsTrue result → BindsThat command.now (names_of (bound_by bindings.now)) index }
-{
-    match plain_name(command) {
-        Some(name) => bindings.is_at(index, name),
-        None => false,
-    }
-}
-
-// Whether the first so many commands bind the names from this index on, one each.
-fn bind_those_from<A: Allocator>(
-    list: &Linked<Command<'_, A>, A>,
-    count: usize,
-    bindings: &Bindings<'_, A>,
-    start: usize,
-) -> bool
-    requires { count ≤ length list.now.own }
-    ensures { IsTrue result → BindApart (take count list.now.own) }
-{
-    if !bindings.has_names(start, count) {
-        return false;
-    }
-    for index in 0..count {
-        if !binds_that_at(list.own_at(index), bindings, start + index) {
-            return false;
-        }
-    }
-    true
-}
-
-// A copy of the fragment is one value more of the name's list, most likely the one at this index.
-#[inline(always)]
-fn grow_copy<'a, A: Allocator + Copy>(
-    alloc: A,
-    number: usize,
-    index: usize,
-    name: &Symbol<A>,
-    value: &Fragment<'a, A>,
-    bindings: &mut Bindings<'a, A>,
-) -> Result<(), AllocError>
-    ensures { OnOk result (bound_by bindings.new
-        ≡ grown number (bound_by bindings.old) name.now (fragment (fragment_seen value.now))) }
-{
-    let copy = Binding::Fragment(value.try_clone()?);
-    bindings.grow_at(alloc, number, index, name, copy)
-}
-
-// What the command binds is one value more of its name's list, most likely the one at this index. Nested ones pass by.
-fn grow_own<'a, A: Allocator + Copy>(
-    alloc: A,
-    command: &Command<'a, A>,
-    number: usize,
-    index: usize,
-    bindings: &mut Bindings<'a, A>,
-) -> Result<(), AllocError>
-    ensures { OnOk result (bound_by bindings.new
-        ≡ add_round_in number (entry_row command.now) (bound_by bindings.old)) }
-{
-    match command {
-        Command::Fragment(name, fragment) => {
-            grow_copy(alloc, number, index, name, fragment, bindings)
-        }
-        Command::Optional(name) => bindings.grow_at(
-            alloc,
-            number,
-            index,
-            name,
-            Binding::Fragment(Fragment::Empty),
-        ),
-        Command::Empty(name) => bindings.grow_at(alloc, number, index, name, Binding::Empty),
-        Command::Missing(name, kind) => bindings.grow_at(
-            alloc,
-            number,
-            index,
-            name,
-            Binding::Missing(*kind),
-        ),
-        Command::Nested { .. } => Ok(()),
-    }
-}
-
-// The same for the first so many commands of the list.
-fn grow_all<'a, A: Allocator + Copy>(
-    alloc: A,
-    list: &Linked<Command<'a, A>, A>,
-    count: usize,
-    number: usize,
-    start: usize,
-    bindings: &mut Bindings<'a, A>,
-) -> Result<(), AllocError>
-    requires { count ≤ length list.now.own }
-    ensures { OnOk result (bound_by bindings.new
-        ≡ add_round_in number (entry_rows (take count list.now.own)) (bound_by bindings.old)) }
-{
-    for index in 0..count {
-        grow_own(
-            alloc,
-            list.own_at(index),
-            number,
-            start.saturating_add(index),
-            bindings,
-        )?;
-    }
-    Ok(())
-}
-
-// What the commands of a part bind, which nest no deeper than that.
-#[cycle(building)]
-fn build_part<'a, A: Allocator + Copy>(
-    alloc: A,
-    commands: &[Linked<Command<'a, A>, A>],
-    rounds: &[Linked<Part, A>],
-    part: Part,
-    depth: usize,
-) -> Result<Bindings<'a, A>, AllocError>
-    requires links { IsChained commands.now }
-    requires round_links { IsChained rounds.now }
-    requires grounded { IsPartGrounded (log_of commands.now rounds.now) part depth }
-    ensures { IfOk result (λ b. (cs : Commands)
-        → PartGives (log_of commands.now rounds.now) no_commands part cs → bound_by b ≡ run cs []) }
-{
-    let found = places(alloc, commands, part)?;
-    let mut bindings = Bindings::with_room(alloc, found.len())?;
-    for place in &found {
-        let command = commands[place.list].own_at(place.first);
-        bind_command(alloc, commands, rounds, command, depth, &mut bindings)?;
-    }
-    Ok(bindings)
-}
-
-// What the command binds, over what was bound before.
-#[cycle(building)]
-fn bind_command<'a, A: Allocator + Copy>(
-    alloc: A,
-    commands: &[Linked<Command<'a, A>, A>],
-    rounds: &[Linked<Part, A>],
-    command: &Command<'a, A>,
-    depth: usize,
-    bindings: &mut Bindings<'a, A>,
-) -> Result<(), AllocError>
-    requires links { IsChained commands.now }
-    requires round_links { IsChained rounds.now }
-    requires grounded { IsCommandGrounded (log_of commands.now rounds.now)
-        (entry_seen command.now) depth }
-    ensures { OnOk result ((c : Written)
-        → GivesCommand (log_of commands.now rounds.now) (entry_seen command.now) c
-        → bound_by bindings.new ≡ run_command c (bound_by bindings.old)) }
-{
-    match command {
-        Command::Fragment(name, fragment) => {
-            bindings.insert(name, Binding::Fragment(fragment.try_clone()?))
-        }
-        Command::Optional(name) => { bindings.insert(name, Binding::Fragment(Fragment::Empty)) }
-        Command::Empty(name) => bindings.insert(name, Binding::Empty),
-        Command::Missing(name, kind) => bindings.insert(name, Binding::Missing(*kind)),
-        Command::Nested { finished, current } => {
-            bind_rounds(
-                alloc,
-                commands,
-                rounds,
-                *finished,
-                *current,
-                depth - 1,
-                bindings,
-            )
-        }
-    }
-}
-
-// What the rounds bind, each by itself.
-#[cycle(building)]
-fn bind_rounds<'a, A: Allocator + Copy>(
-    alloc: A,
-    commands: &[Linked<Command<'a, A>, A>],
-    rounds: &[Linked<Part, A>],
-    finished: Part,
-    last: Part,
-    depth: usize,
-    bindings: &mut Bindings<'a, A>,
-) -> Result<(), AllocError>
-    requires links { IsChained commands.now }
-    requires round_links { IsChained rounds.now }
-    requires grounded { AreRoundsGrounded (log_of commands.now rounds.now) finished last depth }
-    ensures { OnOk result ((rs : CommandRounds) (ds : Commands)
-        → PartGivesRounds (log_of commands.now rounds.now) no_command_rounds finished rs
-        → PartGives (log_of commands.now rounds.now) no_commands last ds
-        → bound_by bindings.new ≡ run_rounds (command_round rs ds) (bound_by bindings.old)) }
-{
-    let found = places(alloc, rounds, finished)?;
-    let start = bindings.len();
-    for (number, place) in found.iter().enumerate() {
-        let part = *rounds[place.list].own_at(place.first);
-        bind_round(
-            alloc, commands, rounds, part, depth, number, start, bindings,
-        )?;
-    }
-    bind_round(
-        alloc,
-        commands,
-        rounds,
-        last,
-        depth,
-        found.len(),
-        start,
-        bindings,
-    )?;
-    Ok(())
-}
-
-// What the round of this number binds by itself, in the lists of its names.
-#[cycle(building)]
-fn bind_round<'a, A: Allocator + Copy>(
-    alloc: A,
-    commands: &[Linked<Command<'a, A>, A>],
-    rounds: &[Linked<Part, A>],
-    part: Part,
-    depth: usize,
-    number: usize,
-    start: usize,
-    bindings: &mut Bindings<'a, A>,
-) -> Result<(), AllocError>
-    requires links { IsChained commands.now }
-    requires round_links { IsChained rounds.now }
-    requires grounded { IsPartGrounded (log_of commands.now rounds.now) part depth }
-    ensures { OnOk result (BindsRound commands.now rounds.now part number
-        (bound_by bindings.old) (bound_by bindings.new)) }
-{
-    // Most rounds bind one variable, which needs no map of its own.
-    if let Some(Command::Fragment(name, fragment)) = only(commands, part) {
-        grow_copy(alloc, number, start, name, fragment, bindings)?;
-        return Ok(());
-    }
-    // Many bind two, each by its own name.
-    if let Some((Command::Fragment(name, one), Command::Fragment(other, two))) = two(commands, part)
-        && name != other
-    {
-        grow_copy(alloc, number, start, name, one, bindings)?;
-        grow_copy(alloc, number, start.saturating_add(1), other, two, bindings)?;
-        return Ok(());
-    }
-    // Most rounds bind the names of the one before, in their order.
-    if let Some((list, count)) = unlinked(commands, part)
-        && bind_those_from(list, count, bindings, start)
-    {
-        grow_all(alloc, list, count, number, start, bindings)?;
-        return Ok(());
-    }
-    let round = build_part(alloc, commands, rounds, part, depth)?;
-    bindings.add_round(alloc, number, round)?;
-    Ok(())
 }

@@ -6,8 +6,8 @@ use Rattle.mbe_tt.specs.Trees.Tree.{Forest}
 use Rattle.mbe_semantics.specs.Readings.Input.{Input}
 use Rattle.mbe_semantics.specs.Bindings.Account.{Log, Handle}
 use Rattle.mbe_semantics.specs.Matching.Outline.{Edge, gate, outline}
-use Rattle.mbe_log.specs.declared.compact.Moves.{Moves}
-use Rattle.mbe_log.specs.Compacting.{Sends}
+use Rattle.mbe_bindings.specs.declared.compact.Moves.{Moves}
+use Rattle.mbe_bindings.specs.Compacting.{Sends}
 use Rattle.mbe_log.proofs.LogLemmas.{get-last, get-more}
 use Rattle.mbe_ops.specs.Views.{ops_of}
 use Rattle.mbe_places.specs.declared.position.Outer.{Outer}

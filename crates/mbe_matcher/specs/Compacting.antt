@@ -4,9 +4,9 @@ use Rattle.mbe_tt.specs.Trees.Tree.{Forest}
 use Rattle.mbe_semantics.specs.Readings.Input.{Input}
 use Rattle.mbe_semantics.specs.Bindings.Account.{Log, Handle}
 use Rattle.mbe_semantics.specs.Matching.Outline.{Edge, Outline}
-use Rattle.mbe_log.specs.declared.compact.Extent.{Extent}
-use Rattle.mbe_log.specs.declared.compact.Moves.{Moves}
-use Rattle.mbe_log.specs.Compacting.{Sends, IsMoved, FitsIn}
+use Rattle.mbe_log.specs.declared.log.Extent.{Extent}
+use Rattle.mbe_bindings.specs.declared.compact.Moves.{Moves}
+use Rattle.mbe_bindings.specs.Compacting.{Sends, IsMoved, FitsIn}
 use Rattle.mbe_log.specs.Shared.{IsKept}
 use Rattle.mbe_places.specs.declared.position.Outer.{Outer}
 use Rattle.mbe_places.specs.declared.position.Position.{Position}

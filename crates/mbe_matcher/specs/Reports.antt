@@ -28,9 +28,11 @@ use Rattle.mbe_matcher.specs.Positions.{Both, Holds}
 use Rattle.mbe_places.specs.declared.position.Outer.{Outer}
 use Rattle.mbe_places.specs.declared.position.Waiting.{Waiting}
 use Rattle.mbe_places.specs.declared.position.Position.{Position}
-use Rattle.mbe_matcher.specs.Matched.{IsStackOf, AreSettled, AreSettledAt}
+use Rattle.mbe_matcher.specs.Matched.{IsStackOf, AreSettled, AreSettledAt, dots_in}
+use Rattle.mbe_places.specs.declared.stops.Stop.{Stop}
+use Rattle.mbe_places.specs.Counts.{AreBlankFrom}
 use Rattle.mbe_places.specs.Stops.{verdict_in}
-use Rattle.mbe_matcher.specs.Failures.{Misfit, Source, failed, ended, Notes, is_any, or_first, source_of, noted_at, AreNotes, Reports}
+use Rattle.mbe_matcher.specs.Failures.{Misfit, Source, failed, ended, Notes, no_notes, is_any, or_first, source_of, noted_at, AreNotes, Reports}
 
 -- what is to be reported of the bindings is in the log
 abbrev pub IsLast : {A : Type 0} → Log → Option (Last A) → Type 0
@@ -105,7 +107,20 @@ abbrev pub IsFullReport : {A : Type 0} → Grammar → Ops → Forest → Log �
 IsFullReport g pattern argument log q r =
     (notes : Notes) × AreNotes (input_of g argument) pattern q notes × IsReportOf log argument r [] notes
 
+-- As before the first place, of a pattern with so many dots: none was met, nothing is reported, and no position is
+-- there.
+pub record IsFresh {A : Type 0} (number : ℕ) (state : State A) (todo : List (Position A)) : Type 0 where
+  pub size : dots_in state ≡ number
+  pub blank : AreBlankFrom state.counts.marks.items 0
+  pub notes : (log : Log) (f : Forest) → IsReportOf log f state.report [] no_notes
+  pub none : todo ≡ []
+
 -- The report where the positions stop, if no third position of a dot was dropped.
+abbrev pub IsReportAt : {A : Type 0} → Grammar → Ops → Forest → Log → Stop → State A → Type 0
+IsReportAt g pattern argument log stop state = state.has_dropped ≡ false
+    → IsFullReport g pattern argument log (stop_of argument (verdict_in stop)) state.report
+
+-- The same of what is returned.
 abbrev pub IsReportIn : {A : Type 0} → Grammar → Ops → Forest → Log → Reached A → Type 0
 IsReportIn g pattern argument log r = r.has_dropped ≡ false
     → IsFullReport g pattern argument log (stop_of argument (verdict_in r.stop)) r.report

@@ -14,14 +14,14 @@
 // goes on with what it has. So it does where less than half of the log and of the open items would go.
 ghost use Rattle.std.specs.Prelude.{ℕ, ◌≡◌, ◌++◌, ◌∷◌, [], length, option_map, option_to_list, IfOk, OnOk, IfSome, Some};
 ghost use Rattle.mbe_semantics.specs.Bindings.Account.{Log};
-ghost use Rattle.mbe_log.specs.Compacting.{FitsIn};
+ghost use Rattle.mbe_bindings.specs.Compacting.{FitsIn};
 ghost use Rattle.mbe_matcher.specs.Positions.{Each};
 ghost use Rattle.mbe_matcher.specs.Compacting.{IsNumbered, IsCarried, AreCarried, AreHandles, Carries, CarriesPosition, PositionsStay, ReportStays, StartStays};
 
 use crate::report::Report;
 use crate::settle::State;
-use mbe_log::compact::{Compacted, Extent, Moves};
-use mbe_log::log::{BindingLog, Handle, again};
+use mbe_bindings::compact::{Compacted, Moves};
+use mbe_log::log::{BindingLog, Extent, Handle, again};
 use mbe_places::position::{Outer, Position, Rounds, Todo};
 use std::alloc::{AllocError, Allocator, Global};
 
@@ -197,7 +197,7 @@ impl<'a, A: Allocator + Copy> Moved<'a, A> {
         ensures start { IfOk result (λ m. IfSome m (λ m. StartStays extent log.now m.log)) }
     {
         let anyway = live.is_mostly_dropped(log);
-        let Some(compacted) = log.compacted(extent, &live.handles, anyway)? else {
+        let Some(compacted) = Compacted::of_log(log, extent, &live.handles, anyway)? else {
             return Ok(None);
         };
         let Compacted { log, moves } = compacted;

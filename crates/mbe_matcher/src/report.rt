@@ -13,8 +13,8 @@ ghost use Rattle.mbe_matcher.specs.Failures.{is_noted};
 ghost use Rattle.mbe_matcher.specs.Compacting.{CarriesReport};
 
 use crate::eat::is_refused;
+use mbe_bindings::compact::Moves;
 use mbe_errors::error::{ExpandError, ExpandErrorKind};
-use mbe_log::compact::Moves;
 use mbe_log::fragment::of_kind;
 use mbe_log::log::{BindingLog, Handle, again};
 use mbe_ops::ops::Op;

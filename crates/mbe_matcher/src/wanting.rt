@@ -10,17 +10,19 @@ ghost use Rattle.mbe_semantics.specs.Syntax.Nullable.{Checked};
 ghost use Rattle.mbe_semantics.specs.Readings.Input.{input_of};
 ghost use Rattle.mbe_semantics.specs.Readings.Verdict.{IsVerdict, stop_of};
 ghost use Rattle.mbe_semantics.specs.Syntax.Op.{no_ops};
+ghost use Rattle.mbe_semantics.specs.Matching.Dots.{dots};
 ghost use Rattle.mbe_semantics.specs.Matching.Outline.{Outline};
 ghost use Rattle.mbe_log.specs.Shared.{IsKept};
 ghost use Rattle.mbe_ops.specs.Views.{op_of, ops_of, separator_seen, template_of};
 ghost use Rattle.mbe_matcher.specs.Positions.{IsPosition, Shows};
 ghost use Rattle.mbe_matcher.specs.Matched.{IsStack, verdict_seen};
+ghost use Rattle.mbe_matcher.specs.Reports.{IsFresh};
 ghost use Rattle.mbe_places.specs.Stops.{verdict_in};
 ghost use Rattle.mbe_matcher.specs.Wanted.{AreWays, AreLooked, AreWanted, ClashThere, wanted_seen, pair_seen, way_seen, outline_wants, read_next, before_round, clashes, clash_with, first_clash, next_in};
 
-use crate::compacting::{Room, tidy};
+use crate::compacting::Room;
 use crate::matching::{Verdict, verdict_of};
-use crate::places::at_start;
+use crate::places::{at_start, go_on};
 use crate::settle::{Settled, State, settle};
 use crate::skipping::dots_of;
 use crate::steps::{push_some, steps};
@@ -29,7 +31,7 @@ use mbe_ops::ops::{MetaTemplate, Op, Separator};
 use mbe_places::counts::Counts;
 use mbe_places::position::{Outer, Position, Todo, Waiting};
 use mbe_places::source::Source;
-use mbe_places::stops::{Stop, after_step, come, stopped};
+use mbe_places::stops::{Stop, stopped};
 use mbe_semantics::kinds::RepeatKind;
 use mbe_tt::grammar::FragmentGrammar;
 use mbe_tt::tt::TokenTreesView;
@@ -205,7 +207,46 @@ fn copied<'a, A: Allocator + Copy>(
     Ok(copy)
 }
 
-// Follows the pattern's positions from place to place, as far as they go, and looks at those that are held there.
+// Follows the pattern's positions from place to place, as far as they go, and looks at those that are held there. All that it
+// needs memory for is the caller's, so that a failure has nothing to drop.
+fn walk_ways<'a, A: Allocator + Copy, G: FragmentGrammar>(
+    alloc: A,
+    grammar: &G,
+    pattern: &'a MetaTemplate<A>,
+    argument: TokenTreesView<'a, A>,
+    log: &mut BindingLog<'a, A>,
+    state: &mut State<'a, A>,
+    todo: &mut Todo<'a, '_, A>,
+    settled: &mut Settled<'a, '_, A>,
+) -> Result<Looked<'a, A>, AllocError>
+    requires checked { Checked (template_of pattern.now) }
+    requires fresh { IsFresh (dots (template_of pattern.now)) state.old todo.old.items }
+    ensures verdict { IfOk result (λ r. IsVerdict (G.grammar grammar.now) (template_of pattern.now)
+        (trees argument.entry) (verdict_in r.stop)) }
+    ensures ways { IfOk result (λ r. AreWays (input_of (G.grammar grammar.now) (trees argument.entry))
+        (template_of pattern.now) (stop_of (trees argument.entry) (verdict_in r.stop))
+        (verdict_in r.stop) r.ways.items) }
+{
+    let mut room = Room::new(log);
+    let number = state.counts.marks.len();
+    let position = at_start(pattern, number, log)?;
+    todo.push(position)?;
+    let mut source = Source::new(alloc, argument);
+    loop {
+        let mut stack = copied(alloc, todo.as_slice())?;
+        settle(grammar, &source, log, state, todo, settled)?;
+        if let Some(stop) = stopped(&source, &settled.waiting, &settled.ends) {
+            let outers = &mut state.outers;
+            let ways = look(alloc, grammar, &source, log, outers, number, &mut stack)?;
+            return Ok(Looked { stop, ways });
+        }
+        let step = &settled.waiting[0];
+        let waiting = &settled.waiting;
+        source = go_on(alloc, source, step, waiting, log, state, todo, &mut room)?;
+    }
+}
+
+// How the positions go on that are held where the match stops.
 fn reach_ways<'a, A: Allocator + Copy, G: FragmentGrammar>(
     alloc: A,
     grammar: &G,
@@ -221,25 +262,19 @@ fn reach_ways<'a, A: Allocator + Copy, G: FragmentGrammar>(
         (verdict_in r.stop) r.ways.items) }
 {
     let number = dots_of(&pattern.0).ok_or(AllocError)?;
-    let mut room = Room::new(log);
     let mut state = State::new(alloc, number)?;
     let mut todo = Todo::new(&alloc);
-    let position = at_start(pattern, number, log)?;
-    todo.push(position)?;
     let mut settled = Settled::new(&alloc);
-    let mut source = Source::new(alloc, argument);
-    loop {
-        let mut stack = copied(alloc, &todo)?;
-        settle(grammar, &source, log, &mut state, &mut todo, &mut settled)?;
-        if let Some(stop) = stopped(&source, &settled.waiting, &settled.ends) {
-            let outers = &mut state.outers;
-            let ways = look(alloc, grammar, &source, log, outers, number, &mut stack)?;
-            return Ok(Looked { stop, ways });
-        }
-        source = after_step(source, &settled.waiting[0])?;
-        come(&settled.waiting, &mut todo)?;
-        tidy(alloc, log, &mut state, &mut todo, &mut room)?;
-    }
+    walk_ways(
+        alloc,
+        grammar,
+        pattern,
+        argument,
+        log,
+        &mut state,
+        &mut todo,
+        &mut settled,
+    )
 }
 
 // Whether two steps are a local ambiguity, of which the second may be none.

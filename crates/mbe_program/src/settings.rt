@@ -6,7 +6,7 @@ use mbe_tt::span::Edition;
 
 /// What the words after the program's name ask for: whether to lint in place of expanding, the names of both files and the
 /// edition.
-#[derive(Clone, Copy, Debug, PartialEq, Eq)]
+#[derive(Clone, Copy)]
 pub struct Options<'a> {
     pub lint: bool,
     pub def: &'a str,

@@ -1,5 +1,5 @@
 -- The steps of trees, written one after another, are the trees with their new names.
-use Rattle.std.proofs.Common.{◌≡◌, ℕ, ◌<◌, List, [], ◌∷◌, ◌++◌, length, map, refl, ap, sym, ◌∙◌, append_assoc, append-nil, arith}
+use Rattle.std.proofs.Common.{◌≡◌, ◌<◌, List, [], ◌∷◌, ◌++◌, length, refl, ap, sym, ◌∙◌, append_assoc, append-nil, arith}
 use Rattle.std.proofs.lemmas.Bool.{lt-ltb}
 use Rattle.mbe_tt.proofs.Buffers.Built.{length-put}
 use Rattle.mbe_tt.proofs.Buffers.Grown.{put-none, put_one}
@@ -8,12 +8,8 @@ use Rattle.mbe_tt.specs.Trees.Top.{Top}
 use Rattle.mbe_tt.specs.Trees.Tree.{Forest, Leaf_tree, Group_tree, none, leaf, group, one_leaf}
 use Rattle.mbe_tt.specs.declared.tt.Delimiter.{Delimiter}
 use Rattle.mbe_renaming.specs.declared.sites.Site.{Site}
-use Rattle.mbe_renaming.specs.declared.naming.Doubt.{Doubt}
-use Rattle.mbe_renaming.specs.declared.naming.Naming as code_naming
-use Rattle.mbe_renaming.specs.declared.walking.Step as code
-use Rattle.mbe_renaming.specs.Naming.{Word, Naming, words, locals, names_from, namings, undecided_of, undecided, Nestings}
-use Rattle.mbe_renaming.specs.Renaming.{renamed_leaf, renamed, closed_inside, written, words_in, namings_in, renamed_tree, undecided_in}
-use Rattle.mbe_renaming.specs.Shown.{step_of, naming_of}
+use Rattle.mbe_renaming.specs.Naming.{Naming}
+use Rattle.mbe_renaming.specs.Renaming.{renamed_leaf, renamed, closed_inside, written}
 use Rattle.mbe_renaming.specs.Sites.{start, after_leaf, after_group, inside_group}
 use Rattle.mbe_renaming.specs.Steps.{Step, closing, leaf_role, steps}
 
@@ -59,47 +55,21 @@ all_written given f s d =
     let some : 0 < length b = omega arith in
     ap (λ k. written given k b) (sym (append-nil (steps s f))) ∙ steps_written given f s b [] some
 
--- ---- one call after another
-
-words_found : (ns : Nestings) (f : Forest) (xs : List Step) (ws : List Word) → xs ≡ steps start f → ws ≡ words ns xs
-    → ws ≡ words_in ns f
-words_found ns f xs ws x w = w ∙ ap (words ns) x
-
--- what is renamed
-pub all_given : (names : List (List ℕ)) (ns : Nestings) (f : Forest) (xs : List Step) (ws bound : List Word)
-    (given : List Naming) → xs ≡ steps start f → ws ≡ words ns xs → bound ≡ locals ws
-    → given ≡ names_from ws names [] bound → given ≡ namings_in names ns f
-all_given names ns f xs ws bound given x w b g =
-    g ∙ ap (names_from ws names []) b ∙ ap (λ k. namings k names) (words_found ns f xs ws x w)
-
--- what isn't decided
-pub all_undecided : (names : List (List ℕ)) (ns : Nestings) (t : Top) (xs : List Step) (ws bound : List Word)
-    (places : List Doubt) → xs ≡ steps start t.1 → ws ≡ words ns xs → bound ≡ locals ws
-    → places ≡ undecided_of ws names bound → places ≡ undecided_in names ns t
-all_undecided names ns t xs ws bound places x w b p =
-    p ∙ ap (undecided_of ws names) b ∙ ap (λ k. undecided k names) (words_found ns t.1 xs ws x w)
-
 -- what a builder holds that had the whole open alone
 whole_written : (given : List Naming) (f : Forest) (xs : List Step) (d : Delimiter) (b after : Levels)
     → xs ≡ steps start f → b ≡ (d, none) ∷ [] → after ≡ written given xs b → after ≡ (d, renamed given start f) ∷ []
 whole_written given f xs d b after x e w =
     w ∙ ap (λ k. written given k b) x ∙ ap (written given (steps start f)) e ∙ all_written given f start d
 
--- the same of what the program's values mean
-pub whole_seen : {A : Type 0} (f : Forest) (d read : Delimiter) (given named : List (code_naming.Naming A))
-    (found all : List (code.Step A)) (b after : Levels) → map step_of found ≡ steps start f → b ≡ (read, none) ∷ []
-    → read ≡ d → after ≡ written (map naming_of named) (map step_of all) b → named ≡ given → all ≡ found
-    → after ≡ (d, renamed (map naming_of given) start f) ∷ []
-whole_seen f d read given named found all b after x e r w n a =
-    whole_written (map naming_of given) f (map step_of found) d b after x
-    (e ∙ ap (λ (k : Delimiter). let y : Delimiter × Forest = (k, none) in y ∷ []) r)
-    (w ∙ ap (λ k. written (map naming_of k) (map step_of all) b) n
-    ∙ ap (λ k. written (map naming_of given) (map step_of k) b) a)
+-- the same, where the delimiter was read
+pub whole_seen : (f : Forest) (d read : Delimiter) (given : List Naming) (xs : List Step) (b after : Levels)
+    → xs ≡ steps start f → b ≡ (read, none) ∷ [] → read ≡ d → after ≡ written given xs b
+    → after ≡ (d, renamed given start f) ∷ []
+whole_seen f d read given xs b after x e r w =
+    whole_written given f xs d b after x
+    (e ∙ ap (λ (k : Delimiter). let y : Delimiter × Forest = (k, none) in y ∷ []) r) w
 
 -- the only tree that is built
-pub built : (names : List (List ℕ)) (ns : Nestings) (t r : Top) (given : List Naming) (after : Levels)
-    → given ≡ namings_in names ns t.1 → after ≡ (t.0, renamed given start t.1) ∷ [] → after ≡ r ∷ []
-    → r ≡ renamed_tree names ns t
-built names ns t r given after g w b =
-    let same : r ≡ (t.0, renamed given start t.1) = cc in
-    same ∙ ap (λ (k : List Naming). let x : Top = (t.0, renamed k start t.1) in x) g
+pub built : (t r : Top) (given : List Naming) (after : Levels)
+    → after ≡ (t.0, renamed given start t.1) ∷ [] → after ≡ r ∷ [] → r ≡ (t.0, renamed given start t.1)
+built t r given after w b = cc

@@ -3,8 +3,11 @@ ghost use Rattle.std.specs.Prelude.{◌≡◌, ◌<◌, IfOk, OnOk, length, map}
 ghost use Rattle.mbe_tt.specs.Buffers.Building.{put};
 ghost use Rattle.mbe_tt.specs.Views.Shown.{leaf_of};
 ghost use Rattle.mbe_tt.specs.Views.View.{trees};
-ghost use Rattle.mbe_renaming.specs.Shown.{step_of, naming_of, nestings_of};
+ghost use Rattle.mbe_renaming.specs.Shown.{step_of, word_of, naming_of, nestings_of};
+ghost use Rattle.mbe_renaming.specs.Naming as naming;
 ghost use Rattle.mbe_renaming.specs.Renaming as spec;
+ghost use Rattle.mbe_renaming.specs.Sites.{start};
+ghost use Rattle.mbe_renaming.specs.Steps.{steps as steps_from};
 
 use crate::lists::lists_for;
 use crate::naming::{Naming, Word, locals, name_in, namings, undecided, words_of};
@@ -102,6 +105,48 @@ fn write<A: Allocator>(
     Ok(())
 }
 
+// What locals are renamed to, and what keeps others from a new name.
+#[derive(Drop)]
+struct Names<'t, A: Allocator = Global> {
+    given: Vec<Naming<'t, A>, A>,
+    undecided: Vec<Doubt, A>,
+}
+
+// What the locals among these words are renamed to. `AllocError` if out of memory.
+fn named<'t, A: Allocator + Copy>(
+    alloc: A,
+    words: &[Word<'t>],
+    names: &[Symbol<A>],
+) -> Result<Names<'t, A>, AllocError>
+    ensures given { IfOk result (λ n. map naming_of n.given.items
+        ≡ naming.namings (map word_of words.now) names.now) }
+    ensures undecided { IfOk result (λ n. n.undecided.items
+        ≡ naming.undecided (map word_of words.now) names.now) }
+{
+    let bound = locals(alloc, words)?;
+    let lists = lists_for(alloc, words, bound.len())?;
+    let beside = lists.as_slice();
+    let given = namings(alloc, words, beside, names, bound.as_slice())?;
+    let undecided = undecided(alloc, words, beside, names, bound.as_slice())?;
+    Ok(Names { given, undecided })
+}
+
+// The trees of which these are the steps, with these names. `AllocError` if out of memory.
+fn rewritten<A: Allocator + Copy>(
+    alloc: A,
+    tree: &TopSubtree<A>,
+    given: &[Naming<'_, A>],
+    steps: &[Step<'_, A>],
+) -> Result<TopSubtree<A>, AllocError>
+    requires { map step_of steps.now ≡ steps_from start tree.now.1 }
+    ensures { IfOk result (λ t. t
+        ≡ (tree.now.0, spec.renamed (map naming_of given.now) start tree.now.1)) }
+{
+    let mut builder = TopSubtreeBuilder::new(alloc, tree.top_subtree().delimiter)?;
+    write(&mut builder, given, steps)?;
+    Ok(builder.build())
+}
+
 /// The trees with the locals and labels renamed that a step binds, a token of another context than 0, where another token of the
 /// trees has the same name and another context, or one of `names` is that name. Each gets the first of `a_1`, `a_2` and so on that
 /// the trees and `names` don't have. `nestings` says which steps wrote the macros of which.
@@ -122,15 +167,7 @@ pub fn rename<A: Allocator + Copy>(
 {
     let steps = steps_of(alloc, tree.iter().remaining())?;
     let words = words_of(alloc, nestings, steps.as_slice())?;
-    let bound = locals(alloc, words.as_slice())?;
-    let lists = lists_for(alloc, words.as_slice(), bound.len())?;
-    let beside = lists.as_slice();
-    let given = namings(alloc, words.as_slice(), beside, names, bound.as_slice())?;
-    let places = undecided(alloc, words.as_slice(), beside, names, bound.as_slice())?;
-    let mut builder = TopSubtreeBuilder::new(alloc, tree.top_subtree().delimiter)?;
-    write(&mut builder, given.as_slice(), steps.as_slice())?;
-    Ok(Renamed {
-        tree: builder.build(),
-        undecided: places,
-    })
+    let Names { given, undecided } = named(alloc, words.as_slice(), names)?;
+    let tree = rewritten(alloc, tree, given.as_slice(), steps.as_slice())?;
+    Ok(Renamed { tree, undecided })
 }

@@ -113,7 +113,7 @@ pub(crate) struct Site {
 }
 
 /// What a word may be.
-#[derive(Clone, Copy, Debug, Drop, PartialEq, Eq)]
+#[derive(Clone, Copy, Drop)]
 pub enum Role {
     /// No local and no label.
     Other,

@@ -16,7 +16,7 @@ use mbe_tt::span::Span;
 use std::alloc::{AllocError, Allocator};
 
 /// How a call ended.
-#[derive(Clone, Copy, Debug, Drop, PartialEq, Eq)]
+#[derive(Clone, Copy, Drop)]
 pub enum Status {
     /// The answer is whole.
     Done,
@@ -70,7 +70,7 @@ impl Status {
 }
 
 /// Which text or tokens of a call.
-#[derive(Clone, Copy, Debug, Drop, PartialEq, Eq)]
+#[derive(Clone, Copy, Drop)]
 pub enum Part {
     None,
     Definition,

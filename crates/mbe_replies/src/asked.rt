@@ -43,7 +43,7 @@ pub fn style_of(number: u32) -> Option<MacroCallStyle>
 }
 
 /// Where the grammar of fragments comes from.
-#[derive(Clone, Copy, Debug, Drop, PartialEq, Eq)]
+#[derive(Clone, Copy, Drop)]
 pub enum GrammarKind {
     /// `mbe_grammar`'s.
     Sample,
@@ -66,7 +66,7 @@ pub fn grammar_of(number: u32) -> Option<GrammarKind>
 }
 
 /// How trees are shown.
-#[derive(Clone, Copy, Debug, Drop, PartialEq, Eq)]
+#[derive(Clone, Copy, Drop)]
 pub enum Form {
     /// As flat tokens and the text beside them.
     Tokens,

@@ -32,7 +32,7 @@ use std::alloc::{AllocError, Allocator};
 
 /// What a call asks for, in numbers that `asked` explains.
 #[repr(C)]
-#[derive(Clone, Copy, Debug, Default, Drop, PartialEq, Eq)]
+#[derive(Clone, Copy, Default, Drop)]
 pub struct Request {
     pub edition: u32,
     pub dialect: u32,
@@ -270,7 +270,7 @@ pub fn expand<A: Allocator + Copy>(
 
 /// A verdict in numbers: 0 one reading, 1 several readings, 2 ambiguous at the place, 3 stuck at the place.
 #[repr(C)]
-#[derive(Clone, Copy, Debug, Default, Drop, PartialEq, Eq)]
+#[derive(Clone, Copy, Default, Drop)]
 pub struct FlatVerdict {
     pub kind: usize,
     pub place: usize,

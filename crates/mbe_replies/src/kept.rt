@@ -15,7 +15,7 @@ use std::alloc::{AllocError, Allocator};
 
 /// What a call asks of a macro that is kept, in numbers that `asked` explains.
 #[repr(C)]
-#[derive(Clone, Copy, Debug, Default, Drop, PartialEq, Eq)]
+#[derive(Clone, Copy, Default, Drop)]
 pub struct Call {
     pub style: u32,
     pub form: u32,

@@ -2,7 +2,7 @@
 use crate::runs::defined;
 use crate::trees::lexed;
 use mbe::{
-    Binding, BindingLog, CountError, ExpandError, ExpandErrorKind, ExprKind, Fragment,
+    Binding, BindingLog, Bindings, CountError, ExpandError, ExpandErrorKind, ExprKind, Fragment,
     MacroCallStyle, MacroCallStyles, MetaVarKind, ParseError, TokensOrigin, ValueResult,
 };
 use mbe_tt::grammar::{Front, PrefixEntryPoint};
@@ -150,7 +150,7 @@ fn is_bound_shown(
     let mut log = BindingLog::new(alloc);
     let mut handle = log.alloc()?;
     log.push_fragment(&mut handle, name, fragment)?;
-    let bindings = log.build(&handle)?;
+    let bindings = Bindings::build(&log, &handle)?;
     let missing: Binding = Binding::Missing(MetaVarKind::Expr(ExprKind::Expr2021));
     let parts = [
         "Handle {",

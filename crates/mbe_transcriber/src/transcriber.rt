@@ -17,7 +17,7 @@ ghost use Rattle.mbe_semantics.specs.Writing.Substitution.{variable_faults, sepa
 ghost use Rattle.mbe_semantics.specs.Writing.Substitution.{integer, punct_trees};
 ghost use Rattle.mbe_ops.specs.Expressions.{expression_seen};
 ghost use Rattle.mbe_ops.specs.Views.{op_of, ops_of, template_of, separator_seen};
-ghost use Rattle.mbe_log.specs.BindingViews.{bound_by};
+ghost use Rattle.mbe_bindings.specs.BindingViews.{bound_by};
 ghost use Rattle.mbe_transcriber.specs.Writing.{AreMarked, IsMarkedLiteral, IsMarkedIdent};
 ghost use Rattle.mbe_variables.specs.Fragments.{Appends};
 ghost use Rattle.mbe_transcriber.specs.Writing.{IsWritten, AreWritten, IsVariableWritten, IsParted};
@@ -30,8 +30,8 @@ ghost use Rattle.mbe_variables.specs.Lost.{at};
 mod expressions;
 
 use crate::transcriber::expressions::{find_ignored, write_concat, write_count, write_number};
+use mbe_bindings::bindings::Bindings;
 use mbe_errors::value_result::{ExpandResult, ValueResult};
-use mbe_log::bindings::Bindings;
 use mbe_ops::expression::Expression;
 use mbe_ops::ops::{MetaTemplate, Op, Separator};
 use mbe_semantics::kinds::RepeatKind;

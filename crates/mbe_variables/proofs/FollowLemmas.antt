@@ -16,7 +16,7 @@ use Rattle.mbe_ops.specs.declared.ops.Op.TheOpen.{MetaTemplate-F}
 use Rattle.mbe_ops.specs.declared.expression.Want.{Want}
 use Rattle.mbe_ops.specs.declared.expression.Want.TheVariants as wants
 use Rattle.mbe_log.specs.declared.fragment.Fragment.{Fragment as Took}
-use Rattle.mbe_log.specs.declared.bindings.Binding.{Binding, Fragment, Nested, Empty, Missing, the_lemmas}
+use Rattle.mbe_bindings.specs.declared.bindings.Binding.{Binding, Fragment, Nested, Empty, Missing, the_lemmas}
 use Rattle.mbe_semantics.specs.Syntax.Op.{Name, Op, Ops, op, no_ops, repetition, Use, used_name, uses_of, uses_of_op}
 use Rattle.mbe_semantics.specs.Bindings.Environment.{Environment, value_of, Value, fragment, list, empty, missing}
 use Rattle.mbe_semantics.specs.declared.rounds.Level.{Level}
@@ -24,7 +24,8 @@ use Rattle.mbe_semantics.specs.Writing.Rounds.{member, value_count, follow, reac
 use Rattle.mbe_variables.specs.Lost.{lost, lost_in}
 use Rattle.mbe_variables.specs.declared.following.Lost.TheVariants.{NoValue}
 use Rattle.mbe_variables.specs.Counting.{shorter, shortest}
-use Rattle.mbe_log.specs.BindingViews.{value_seen, values_seen, fragment_seen}
+use Rattle.mbe_log.specs.FragmentViews.{fragment_seen}
+use Rattle.mbe_bindings.specs.BindingViews.{value_seen, values_seen}
 use Rattle.mbe_ops.specs.Expressions.{use_seen}
 use Rattle.mbe_ops.specs.Views.{op_of, ops_of, separator_seen}
 

@@ -12,7 +12,7 @@ use Rattle.mbe_log.specs.declared.fragment.TokensOrigin.TheVariants.{Raw, Ast}
 use Rattle.mbe_semantics.specs.Fragments.Kinds.{plain, as_path}
 use Rattle.mbe_semantics.specs.Bindings.Missing.{default_trees}
 use Rattle.mbe_semantics.specs.Writing.Written.{IsWrittenAs, IsExpressionWritten, IsParenthesized, needs_parentheses, in_parentheses}
-use Rattle.mbe_log.specs.BindingViews.{origin_style}
+use Rattle.mbe_log.specs.FragmentViews.{origin_style}
 use Rattle.mbe_variables.specs.Fragments.{Appends, plain_fragment}
 use Rattle.mbe_variables.proofs.PutLemmas.{put-none, appended}
 

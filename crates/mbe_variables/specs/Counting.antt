@@ -4,7 +4,7 @@ use Rattle.mbe_variables.specs.declared.following.Extent as counted
 use Rattle.mbe_variables.specs.declared.following.Simple as single
 use Rattle.mbe_semantics.specs.Bindings.Environment.{Value, fragment, missing}
 use Rattle.mbe_semantics.specs.Writing.Rounds.{Extent, finite, endless, lesser}
-use Rattle.mbe_log.specs.BindingViews.{fragment_seen}
+use Rattle.mbe_log.specs.FragmentViews.{fragment_seen}
 
 abbrev pub extent_seen : counted.Extent → Extent
 extent_seen (counted.TheVariants.Finite n) = finite n

@@ -12,12 +12,12 @@ ghost use Rattle.mbe_semantics.specs.Writing.Rounds.{follow, reach, kept, finite
 ghost use Rattle.mbe_semantics.specs.Writing.Rounds.{rounds_of, value_total, totals};
 ghost use Rattle.mbe_semantics.specs.Writing.Substitution.{is_simple, extent_faults, index_of};
 ghost use Rattle.mbe_semantics.specs.Writing.Substitution.{rounds_in};
-ghost use Rattle.mbe_log.specs.BindingViews.{bound_by, value_seen, values_seen};
+ghost use Rattle.mbe_bindings.specs.BindingViews.{bound_by, value_seen, values_seen};
 ghost use Rattle.mbe_ops.specs.Expressions.{use_seen, expression_seen};
 ghost use Rattle.mbe_ops.specs.Views.{op_of, ops_of};
 
 use crate::fault::{FaultKind, WritingFault};
-use mbe_log::bindings::{Binding, Bindings};
+use mbe_bindings::bindings::{Binding, Bindings};
 use mbe_log::fragment::Fragment;
 use mbe_ops::expression::{Expression, Want};
 use mbe_ops::ops::Op;

@@ -19,7 +19,7 @@ ghost use Rattle.mbe_semantics.specs.Laws.Marking.{MayMark};
 ghost use Rattle.mbe_semantics.specs.Bindings.Missing.{default_trees};
 ghost use Rattle.mbe_semantics.specs.Syntax.Op.{Name};
 ghost use Rattle.mbe_semantics.specs.Writing.Substitution.{unbound_variable};
-ghost use Rattle.mbe_log.specs.BindingViews.{fragment_seen, origin_style};
+ghost use Rattle.mbe_log.specs.FragmentViews.{fragment_seen, origin_style};
 ghost use Rattle.mbe_variables.specs.Fragments.{Appends, plain_fragment};
 ghost use Rattle.mbe_semantics.specs.Writing.Written as spec;
 ghost use Rattle.mbe_semantics.specs.Writing.Written.{IsWrittenAs, path_trees};

@@ -18,7 +18,7 @@ use std::alloc::{AllocError, Allocator};
 const LEVELS: u32 = 1000;
 
 /// Which macros are the ones that are built in, and what calls of `line!` and `column!` are.
-#[derive(Clone, Copy, Debug, Drop)]
+#[derive(Clone, Copy, Drop)]
 pub struct Builtins {
     pub line: Option<u32>,
     pub column: Option<u32>,

@@ -1,12 +1,12 @@
 // What the variables of a rule take.
 ghost use Rattle.std.specs.Prelude.{◌<◌, length, option_map, IfOk};
 ghost use Rattle.mbe_ops.specs.Views.{template_of};
-ghost use Rattle.mbe_log.specs.BindingViews.{bound_by};
+ghost use Rattle.mbe_bindings.specs.BindingViews.{bound_by};
 ghost use Rattle.mbe_semantics.specs.Expansion.Macro.{IsChecked};
 ghost use Rattle.mbe.specs.Explaining.{BindsThere, HasPattern};
 
 use crate::macros::DeclarativeMacro;
-use mbe_log::bindings::Bindings;
+use mbe_bindings::bindings::Bindings;
 use mbe_log::log::BindingLog;
 use mbe_matcher::matching::{Verdict, match_argument};
 use mbe_ops::ops::MetaTemplate;
@@ -55,7 +55,7 @@ impl<A: Allocator + Copy> DeclarativeMacro<A> {
         let rule = &self.rules[rule];
         let matched = match_argument(alloc, grammar, &rule.lhs, argument, around, &mut log)?;
         match matched.verdict {
-            Verdict::OneReading => Ok(Some(log.build(&matched.bindings)?)),
+            Verdict::OneReading => Ok(Some(Bindings::build(&log, &matched.bindings)?)),
             Verdict::ManyReadings | Verdict::Ambiguous(_) | Verdict::Stuck(_) => Ok(None),
         }
     }

@@ -17,7 +17,7 @@ pub fn bind_rounds<'a, A: Allocator + Copy>(
     log.push_optional(&mut rounds, name)?;
     let mut whole = log.alloc()?;
     log.push_nested(&mut whole, &rounds)?;
-    let bindings = log.build(&whole)?;
+    let bindings = Bindings::build(&log, &whole)?;
     Ok(bindings)
 }
 
@@ -30,8 +30,8 @@ pub fn part_ways<'a, A: Allocator + Copy>(
     let mut one = log.alloc()?;
     let two = log.copy(&one)?;
     log.push_empty(&mut one, name)?;
-    let with_name = log.build(&one)?;
-    let without = log.build(&two)?;
+    let with_name = Bindings::build(&log, &one)?;
+    let without = Bindings::build(&log, &two)?;
     Ok((with_name, without))
 }
 

@@ -53,7 +53,7 @@ pub fn bound_in<'a>(
     if !log.has_entries_of(handle) {
         return Ok(None);
     }
-    let bindings = log.build(handle)?;
+    let bindings = Bindings::build(log, handle)?;
     Ok(Some(bindings))
 }
 

@@ -16,7 +16,8 @@ ghost use Rattle.mbe_semantics.specs.Bindings.Missing.{default_trees, no_span};
 ghost use Rattle.mbe_semantics.specs.Writing.Rounds.{followed};
 ghost use Rattle.mbe_semantics.specs.Writing.Substitution.{integer, total_of, is_simple};
 ghost use Rattle.mbe_semantics.specs.Writing.Substitution.{is_counted};
-ghost use Rattle.mbe_log.specs.BindingViews.{bound_by, fragment_seen};
+ghost use Rattle.mbe_log.specs.FragmentViews.{fragment_seen};
+ghost use Rattle.mbe_bindings.specs.BindingViews.{bound_by};
 ghost use Rattle.mbe_ops.specs.Expressions.{element_seen, elements_seen};
 ghost use Rattle.mbe_transcriber.specs.Writing.{Wrote, IsNumber, IsConcatWritten};
 ghost use Rattle.mbe_variables.specs.Fragments.{Appends};
@@ -31,7 +32,7 @@ ghost use Rattle.mbe_variables.specs.Lost.{at};
 ghost use Rattle.mbe_transcriber.specs.Faults.{element_fault, expression_fault, first_of, joined};
 
 use crate::transcriber::ExpandCtx;
-use mbe_log::bindings::Bindings;
+use mbe_bindings::bindings::Bindings;
 use mbe_log::fragment::{Fragment, TokensOrigin};
 use mbe_ops::expression::ConcatMetaVarExprElem;
 use mbe_semantics::kinds::{MetaVarKind, Missing};

@@ -1,4 +1,4 @@
-use Rattle.mbe_log.specs.BindingViews.{value_seen, values_seen}
+use Rattle.mbe_bindings.specs.BindingViews.{value_seen, values_seen}
 use Rattle.mbe_expanding.proofs.TakenLemmas.{value_size, values_size}
 use Rattle.mbe_expanding.proofs.taking.+values.Given as goal
 

@@ -1,5 +1,5 @@
 use Rattle.std.proofs.Common.{◌≡◌, ◌++◌, map, drop}
-use Rattle.mbe_log.specs.BindingViews.{bound_by}
+use Rattle.mbe_bindings.specs.BindingViews.{bound_by}
 use Rattle.mbe_ops.specs.Views.{template_of}
 use Rattle.mbe_linting.specs.Variables.{bound_in, bound_seen}
 use Rattle.mbe_expanding.specs.Taking.{taken_of, taken_seen}

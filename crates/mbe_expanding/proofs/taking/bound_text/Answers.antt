@@ -1,7 +1,7 @@
 use Rattle.std.proofs.Common.{◌∙◌, ap, sym}
 use Rattle.std.proofs.lemmas.Result.{IfOk-weaker}
-use Rattle.mbe_log.specs.BindingViews.{value_seen, values_seen}
-use Rattle.mbe_log.proofs.BindingLemmas.{seen-nested}
+use Rattle.mbe_bindings.specs.BindingViews.{value_seen, values_seen}
+use Rattle.mbe_bindings.proofs.BindingLemmas.{seen-nested}
 use Rattle.mbe_expanding.specs.Taking.{bound_text, list_text}
 use Rattle.mbe_expanding.proofs.taking.bound_text.Goals as goal
 

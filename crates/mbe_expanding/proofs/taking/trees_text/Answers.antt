@@ -1,5 +1,5 @@
 use Rattle.std.proofs.Common.{◌∙◌, ap, sym}
-use Rattle.mbe_log.specs.BindingViews.{fragment_seen}
+use Rattle.mbe_log.specs.FragmentViews.{fragment_seen}
 use Rattle.mbe_expanding.specs.Taking.{trees_text}
 use Rattle.mbe_expanding.proofs.TakenLemmas.{nothing_written}
 use Rattle.mbe_expanding.proofs.taking.trees_text.Goals as goal

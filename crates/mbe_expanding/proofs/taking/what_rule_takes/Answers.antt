@@ -1,7 +1,7 @@
 use Rattle.std.proofs.Common.{ap, map, subst}
 use Rattle.std.specs.Prelude.{option_map}
 use Rattle.std.proofs.lemmas.Result.{IfOk-weaker}
-use Rattle.mbe_log.specs.BindingViews.{bound_by}
+use Rattle.mbe_bindings.specs.BindingViews.{bound_by}
 use Rattle.mbe_ops.specs.Views.{template_of}
 use Rattle.mbe.specs.Explaining.{BindsThere}
 use Rattle.mbe.specs.MacroViews.{macro_of}

@@ -4,8 +4,8 @@ use Rattle.mbe_tt.specs.Trees.Tree.{flat_len, rest_at}
 use Rattle.mbe_tt.specs.Views.View.{trees}
 use Rattle.mbe_semantics.specs.Matching.Dots.{dots}
 use Rattle.mbe_semantics.specs.Readings.Input.{input_of}
-use Rattle.mbe_log.specs.declared.compact.Extent.{Extent}
-use Rattle.mbe_log.specs.Compacting.{FitsIn}
+use Rattle.mbe_log.specs.declared.log.Extent.{Extent}
+use Rattle.mbe_bindings.specs.Compacting.{FitsIn}
 use Rattle.mbe_log.specs.Shared.{IsKept}
 use Rattle.mbe_log.proofs.ClientLemmas.{kept-on}
 use Rattle.mbe_ops.specs.Views.{ops_of, template_of}

@@ -2,7 +2,7 @@ use Rattle.std.proofs.Common.{◌≡◌, ◌-◌, ◌≤◌, length}
 use Rattle.mbe_tt.specs.Views.View.{trees}
 use Rattle.mbe_semantics.specs.Matching.Dots.{dots}
 use Rattle.mbe_semantics.specs.Readings.Input.{input_of}
-use Rattle.mbe_log.specs.Compacting.{FitsIn}
+use Rattle.mbe_bindings.specs.Compacting.{FitsIn}
 use Rattle.mbe_log.specs.Shared.{IsKept}
 use Rattle.mbe_ops.specs.Views.{template_of}
 use Rattle.mbe_matcher.specs.Met.{AreUnmetFrom}

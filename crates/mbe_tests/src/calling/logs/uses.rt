@@ -3,9 +3,9 @@ ghost use Rattle.std.specs.Prelude.{◌≡◌, IfOk, OnOk};
 ghost use Rattle.mbe_semantics.specs.Bindings.Account.{environment_of_account, no_account, pushed, pushed_nested};
 ghost use Rattle.mbe_semantics.specs.Bindings.Account.{Command as Written};
 ghost use Rattle.mbe_log.specs.Accounts.{Held, HasAccounts};
-ghost use Rattle.mbe_log.specs.BindingViews.{bound_by as bound_in};
+ghost use Rattle.mbe_bindings.specs.BindingViews.{bound_by as bound_in};
 
-use mbe_log::bindings::Bindings;
+use mbe_bindings::bindings::Bindings;
 use mbe_log::log::BindingLog;
 use mbe_tt::symbol::Symbol;
 use std::alloc::{AllocError, Allocator};
@@ -29,7 +29,7 @@ pub fn split<'a, A: Allocator + Copy>(
     let mut outer = log.alloc()?;
     log.push_nested(&mut outer, &second)?;
     log.push_empty(&mut second, name)?;
-    let bindings = log.build(&outer)?;
+    let bindings = Bindings::build(&log, &outer)?;
     Ok(bindings)
 }
 

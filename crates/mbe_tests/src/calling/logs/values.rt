@@ -1,4 +1,4 @@
-use mbe_log::bindings::{Binding, Bindings};
+use mbe_bindings::bindings::{Binding, Bindings};
 use mbe_log::fragment::{Fragment, TokensOrigin};
 use mbe_semantics::kinds::{ExprKind, MetaVarKind};
 use mbe_tt::span::{DelimSpan, Span};

@@ -2,7 +2,7 @@ use Rattle.std.proofs.Common.{◌≡◌, ◌+◌, ◌*◌, drop}
 use Rattle.std.specs.Prelude.{is_some, option_map}
 use Rattle.mbe_ops.specs.Views.{op_of, ops_of, separator_seen}
 use Rattle.mbe_ops.proofs.EqualityLemmas.{op_weight, ops_weight}
-use Rattle.mbe_log.specs.BindingViews.{bound_by}
+use Rattle.mbe_bindings.specs.BindingViews.{bound_by}
 use Rattle.std.specs.Option.{option_or}
 use Rattle.mbe_semantics.specs.Writing.Rounds.{level}
 use Rattle.mbe_variables.specs.FaultViews.{error_of_fault}

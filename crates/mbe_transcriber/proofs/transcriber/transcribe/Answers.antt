@@ -7,7 +7,7 @@ use Rattle.mbe_tt.specs.declared.tt.Delimiter.{Delimiter}
 use Rattle.mbe_tt.specs.Trees.Tree.{Forest, none}
 use Rattle.mbe_semantics.specs.Writing.Substitution.{faults}
 use Rattle.mbe_ops.specs.Views.{template_of}
-use Rattle.mbe_log.specs.BindingViews.{bound_by}
+use Rattle.mbe_bindings.specs.BindingViews.{bound_by}
 use Rattle.mbe_transcriber.proofs.LeftLemmas.{left_whole}
 use Rattle.mbe_transcriber.proofs.WroteLemmas.{wrote_whole}
 use Rattle.mbe_transcriber.proofs.transcriber.transcribe.Goals as goal

@@ -4,7 +4,7 @@ use Rattle.mbe_tt.specs.Views.Shown.{literal_of, ident_of}
 use Rattle.mbe_semantics.specs.Writing.Rounds.{level, kept, kept_rounds, finite}
 use Rattle.mbe_ops.specs.Expressions.{elements_seen}
 use Rattle.mbe_ops.specs.Views.{op_of, ops_of, separator_seen}
-use Rattle.mbe_log.specs.BindingViews.{bound_by}
+use Rattle.mbe_bindings.specs.BindingViews.{bound_by}
 use Rattle.mbe_ops.proofs.EqualityLemmas.{op_no_heavier}
 use Rattle.mbe_variables.proofs.FollowLemmas.{ops_split, ops_over}
 use Rattle.mbe_variables.proofs.FollowLemmas.{seen_copied}

@@ -1,6 +1,7 @@
 use Rattle.std.proofs.Common.{◌∙◌, ap, sym}
 use Rattle.std.specs.Prelude.{option_map}
-use Rattle.mbe_log.specs.BindingViews.{bound_by, value_seen, fragment_seen}
+use Rattle.mbe_log.specs.FragmentViews.{fragment_seen}
+use Rattle.mbe_bindings.specs.BindingViews.{bound_by, value_seen}
 use Rattle.mbe_transcriber.proofs.VariableLemmas.{unbound_wrote, fragment_wrote, missing_wrote}
 use Rattle.mbe_transcriber.proofs.transcriber.write_var.Goals as goal
 

@@ -5,7 +5,7 @@ use Rattle.mbe_semantics.specs.Syntax.Op.{uses_of, uses_of_op}
 use Rattle.mbe_semantics.specs.Writing.Rounds.{extent_under}
 use Rattle.mbe_ops.specs.Views.{ops_of, op_of}
 use Rattle.mbe_ops.specs.Walk.{stops_left, ops_in}
-use Rattle.mbe_log.specs.BindingViews.{bound_by}
+use Rattle.mbe_bindings.specs.BindingViews.{bound_by}
 use Rattle.mbe_ops.proofs.EqualityLemmas.{ops_weight}
 use Rattle.mbe_ops.proofs.WalkLemmas.{op_first, no_op_first, ops_at_first}
 use Rattle.mbe_ops.proofs.OpViews.{view-open}

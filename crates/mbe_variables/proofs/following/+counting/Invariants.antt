@@ -7,7 +7,7 @@ use Rattle.mbe_ops.specs.Views.{op_of, ops_of}
 use Rattle.mbe_ops.specs.Walk.{stops_left, ops_in}
 use Rattle.mbe_ops.proofs.WalkLemmas.{stops_weight}
 use Rattle.mbe_ops.proofs.EqualityLemmas.{op_weight, ops_weight}
-use Rattle.mbe_log.specs.BindingViews.{bound_by}
+use Rattle.mbe_bindings.specs.BindingViews.{bound_by}
 use Rattle.mbe_variables.proofs.following.+counting.Given as goal
 
 abbrev pub invariant-shortest-loop-stop : goal.invariant-shortest-loop-stop

@@ -1,7 +1,7 @@
 use Rattle.std.proofs.Common.{◌≡◌, length, ap, sym, ◌∙◌, rules, arith}
-use Rattle.mbe_log.specs.declared.bindings.Binding.{Nested}
+use Rattle.mbe_bindings.specs.declared.bindings.Binding.{Nested}
 use Rattle.mbe_semantics.specs.Writing.Rounds.{value_total}
-use Rattle.mbe_log.specs.BindingViews.{value_seen}
+use Rattle.mbe_bindings.specs.BindingViews.{value_seen}
 use Rattle.mbe_variables.proofs.FollowLemmas.{total_zero, total_step}
 use Rattle.mbe_variables.proofs.following.+totals.Goals as goal
 

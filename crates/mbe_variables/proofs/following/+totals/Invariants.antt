@@ -1,6 +1,6 @@
 use Rattle.std.proofs.Common.{◌≡◌, ◌+◌, drop}
 use Rattle.mbe_semantics.specs.Writing.Rounds.{totals}
-use Rattle.mbe_log.specs.BindingViews.{values_seen}
+use Rattle.mbe_bindings.specs.BindingViews.{values_seen}
 use Rattle.mbe_variables.proofs.following.+totals.Given as goal
 
 abbrev pub invariant-values_total-loop-value : goal.invariant-values_total-loop-value

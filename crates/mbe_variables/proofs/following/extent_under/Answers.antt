@@ -1,5 +1,5 @@
 use Rattle.std.proofs.Common.{◌≡◌, length, ap, rules}
-use Rattle.mbe_log.specs.BindingViews.{value_seen, bound_by}
+use Rattle.mbe_bindings.specs.BindingViews.{value_seen, bound_by}
 use Rattle.mbe_variables.proofs.FollowLemmas.{extent_list}
 use Rattle.mbe_variables.proofs.following.extent_under.Goals as goal
 

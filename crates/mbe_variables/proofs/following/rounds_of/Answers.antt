@@ -4,7 +4,7 @@ use Rattle.mbe_variables.specs.Counting.{extent_seen}
 use Rattle.mbe_semantics.specs.Syntax.Op.{uses_of}
 use Rattle.mbe_semantics.specs.Writing.Rounds.{extent_under, finite}
 use Rattle.mbe_ops.specs.Views.{ops_of}
-use Rattle.mbe_log.specs.BindingViews.{bound_by}
+use Rattle.mbe_bindings.specs.BindingViews.{bound_by}
 use Rattle.mbe_variables.proofs.FollowLemmas.{least_of}
 use Rattle.mbe_variables.proofs.following.rounds_of.Goals as goal
 

@@ -4,7 +4,7 @@ use Rattle.mbe_variables.specs.Counting.{shortest, shorter, extent_seen}
 use Rattle.mbe_semantics.specs.Syntax.Op.{uses_of_expression}
 use Rattle.mbe_semantics.specs.Writing.Rounds.{extent_under}
 use Rattle.mbe_ops.specs.Expressions.{mentions_left, expression_seen}
-use Rattle.mbe_log.specs.BindingViews.{bound_by}
+use Rattle.mbe_bindings.specs.BindingViews.{bound_by}
 use Rattle.mbe_variables.proofs.following.shortest_of_expression.Given as goal
 
 abbrev pub invariant-loop-mention : goal.invariant-loop-mention

@@ -4,7 +4,7 @@ use Rattle.mbe_semantics.specs.Readings.Verdict.{IsVerdict, one_reading}
 use Rattle.mbe_semantics.specs.Bindings.Account.{run}
 use Rattle.mbe_semantics.specs.Bindings.Environment.{environment_of}
 use Rattle.mbe_laws.proofs.Bindings.CommandLemmas.{commands_bind_alike}
-use Rattle.mbe_log.specs.BindingViews.{bound_by}
+use Rattle.mbe_bindings.specs.BindingViews.{bound_by}
 use Rattle.mbe_parser.specs.RuleViews.{rule_of}
 use Rattle.mbe_matcher.specs.Matched.{verdict_seen, Binds}
 use Rattle.mbe.specs.MacroViews.{macro_of}

@@ -1,7 +1,7 @@
 use Rattle.std.proofs.Common.{◌≡◌, ap, sym, rules}
 use Rattle.mbe_semantics.specs.Bindings.Account.{Command}
 use Rattle.mbe_log.proofs.log.BindingLog.push_fragment.Goals as goal
-use Rattle.mbe_log.specs.BindingViews.{fragment_seen}
+use Rattle.mbe_log.specs.FragmentViews.{fragment_seen}
 
 pub returns-clause-ok : goal.returns-clause-ok
 returns-clause-ok g c =

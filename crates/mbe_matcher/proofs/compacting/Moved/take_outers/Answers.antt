@@ -2,7 +2,7 @@ use Rattle.std.proofs.Common.{◌≡◌, ◌∙◌, ◌∷◌, [], Some, option_
 use Rattle.std.specs.Prelude.{slice_get}
 use Rattle.std.proofs.lemmas.Option.{slice_get_read}
 use Rattle.mbe_semantics.specs.Bindings.Account.{Log}
-use Rattle.mbe_log.specs.declared.compact.Moves.{Moves}
+use Rattle.mbe_bindings.specs.declared.compact.Moves.{Moves}
 use Rattle.mbe_matcher.specs.Compacting.{AreHandles, AreCarried}
 use Rattle.mbe_matcher.proofs.Carrying.{carried_more}
 use Rattle.mbe_matcher.proofs.compacting.Moved.take_outers.Goals as goal

@@ -4,7 +4,7 @@ use Rattle.std.specs.Option.{option_or}
 use Rattle.mbe_variables.specs.FaultViews.{error_of_fault}
 use Rattle.mbe_transcriber.specs.Faults.{joined, first_of, element_fault}
 use Rattle.mbe_ops.specs.Expressions.{elements_seen}
-use Rattle.mbe_log.specs.BindingViews.{bound_by}
+use Rattle.mbe_bindings.specs.BindingViews.{bound_by}
 use Rattle.mbe_transcriber.proofs.JoinLemmas.{Joining}
 use Rattle.mbe_transcriber.proofs.transcriber.expressions.joined_text.Given as goal
 

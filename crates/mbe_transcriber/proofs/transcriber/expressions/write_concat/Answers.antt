@@ -1,7 +1,7 @@
 use Rattle.std.proofs.Common.{subst, Some, ◌≡◌, ◌∙◌, ap, sym, rules}
 use Rattle.std.specs.Prelude.{is_some, string_bytes, chars}
 use Rattle.mbe_semantics.specs.Writing.Concat.{are_identifier_chars}
-use Rattle.mbe_log.specs.BindingViews.{bound_by}
+use Rattle.mbe_bindings.specs.BindingViews.{bound_by}
 use Rattle.mbe_ops.specs.Expressions.{elements_seen}
 use Rattle.mbe_transcriber.specs.Writing.{IsConcatWritten}
 use Rattle.mbe_variables.specs.Fragments.{Appends}
