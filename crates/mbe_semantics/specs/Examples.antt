@@ -1,4 +1,4 @@
--- Worked examples, proved in mbe_laws.
+-- Worked examples, proved in mbe_examples.
 pub mod Sample
 pub mod FirstExamples
 pub mod Examples

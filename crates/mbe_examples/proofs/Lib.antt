@@ -1,0 +1,9 @@
+pub mod RuleLemmas
+pub mod ConcatLemmas
+pub mod ExampleLemmas
+pub mod FirstExampleLemmas
+pub mod RepeatLemmas
+pub mod VerdictLemmas
+pub mod FurtherExampleLemmas
+pub mod FaultExampleLemmas
+pub mod LogExampleLemmas
