@@ -29,7 +29,7 @@ pub fn split<'a, A: Allocator + Copy>(
     let mut outer = log.alloc()?;
     log.push_nested(&mut outer, &second)?;
     log.push_empty(&mut second, name)?;
-    let bindings = Bindings::build(&log, &outer)?;
+    let bindings = Bindings::build(log, &outer)?;
     Ok(bindings)
 }
 
