@@ -162,7 +162,7 @@ fn choose<'a, A: Allocator + Copy, G: FragmentGrammar, M: Fn(Span) -> Span + Cop
                     nearness,
                     remains,
                 };
-                nearest = Some(nearer(nearest, next));
+                consider(&mut nearest, next);
             }
         }
     }
@@ -179,21 +179,16 @@ fn arm_index(idx: usize) -> MatchedArmIndex
     u32::try_from(idx).ok()
 }
 
-// The next one, where it is nearer than the best of those before it.
-fn nearer<'a, A: Allocator>(
-    best: Option<Candidate<'a, A>>,
-    next: Candidate<'a, A>,
-) -> Candidate<'a, A>
-    ensures { result ≡ nearer_of best.entry next.entry }
+// The best so far, and the next one, if it is nearer.
+fn consider<'a, A: Allocator>(nearest: &mut Option<Candidate<'a, A>>, next: Candidate<'a, A>)
+    ensures { nearest.new ≡ Some (nearer_of nearest.old next.entry) }
 {
-    let Some(best) = best else {
-        return next;
-    };
-    if next.nearness.is_nearer(best.nearness) {
-        next
-    } else {
-        best
+    if let Some(best) = &*nearest
+        && !next.nearness.is_nearer(best.nearness)
+    {
+        return;
     }
+    *nearest = Some(next);
 }
 
 // What a rule comes to, in a call of so many trees.

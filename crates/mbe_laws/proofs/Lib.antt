@@ -4,3 +4,17 @@ pub mod Definitions
 pub mod Bindings
 pub mod Writing
 pub mod Expansion
+pub mod Dots
+pub mod Run
+pub mod Loop
+pub mod Orders
+pub mod Reports
+pub mod RuleLemmas
+pub mod ConcatLemmas
+pub mod ExampleLemmas
+pub mod FirstExampleLemmas
+pub mod RepeatLemmas
+pub mod VerdictLemmas
+pub mod FurtherExampleLemmas
+pub mod FaultExampleLemmas
+pub mod LogExampleLemmas

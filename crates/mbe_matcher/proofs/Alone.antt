@@ -12,7 +12,7 @@ use Rattle.mbe_semantics.specs.Bindings.Account.{Log}
 use Rattle.mbe_semantics.specs.Matching.Dots.{dots}
 use Rattle.mbe_semantics.specs.Matching.Outline.{Outline, finished_of}
 use Rattle.mbe_semantics.proofs.InputLemmas.{lawful_input}
-use Rattle.mbe_bounds.specs.Loop.Kept.{kept}
+use Rattle.mbe_laws.specs.Loop.Kept.{kept}
 use Rattle.mbe_places.specs.declared.source.Source.{Source}
 use Rattle.mbe_places.specs.declared.position.Outer.{Outer}
 use Rattle.mbe_places.specs.declared.position.Position.{Position}

@@ -13,8 +13,8 @@ use Rattle.mbe_semantics.specs.Matching.Dots.{dots}
 use Rattle.mbe_semantics.specs.Matching.Outline.{Outline, outline}
 use Rattle.mbe_semantics.specs.Matching.Settled.{clash, after_of, first_width}
 use Rattle.mbe_semantics.proofs.InputLemmas.{lawful_input}
-use Rattle.mbe_bounds.specs.Loop.Kept.{kept_moves}
-use Rattle.mbe_bounds.proofs.Loop.TurnedPlaces.{ComesTo, turned_start}
+use Rattle.mbe_laws.specs.Loop.Kept.{kept_moves}
+use Rattle.mbe_laws.proofs.Loop.TurnedPlaces.{ComesTo, turned_start}
 use Rattle.mbe_places.specs.declared.stops.Stop.{Stop}
 use Rattle.mbe_places.specs.declared.position.Outer.{Outer}
 use Rattle.mbe_places.specs.declared.position.Position.{Position}

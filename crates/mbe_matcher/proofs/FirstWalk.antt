@@ -10,7 +10,7 @@ use Rattle.mbe_semantics.specs.Syntax.Op.{Ops}
 use Rattle.mbe_semantics.specs.Bindings.Account.{Log, Handle}
 use Rattle.mbe_semantics.specs.Matching.Dots.{dots, outline_number}
 use Rattle.mbe_semantics.specs.Matching.Outline.{Outline, idle_of, next_of, finished_of}
-use Rattle.mbe_bounds.specs.Bounded.TwoEach.{times}
+use Rattle.mbe_laws.specs.Bounded.TwoEach.{times}
 use Rattle.mbe_ops.specs.Views.{ops_of}
 use Rattle.mbe_places.specs.declared.position.Outer.{Outer}
 use Rattle.mbe_places.specs.declared.position.Position.{Position}

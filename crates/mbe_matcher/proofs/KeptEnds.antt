@@ -23,14 +23,14 @@ use Rattle.mbe_laws.proofs.Matching.Outlines.{erase_idle}
 use Rattle.mbe_laws.proofs.Matching.Moves.{next-takes}
 use Rattle.mbe_laws.proofs.Matching.Clashes.{from_filter, in_filter, from_targets, in_targets}
 use Rattle.mbe_laws.proofs.Matching.Advance.{inv-start}
-use Rattle.mbe_bounds.specs.Bounded.TwoEach.{cons_if, append_if, times, walk, turns}
-use Rattle.mbe_bounds.specs.Reports.Ends.{firsts, lasts}
-use Rattle.mbe_bounds.specs.Reports.Backward as back
-use Rattle.mbe_bounds.specs.Reports.Backward.{visits, visit_number, left_in, visit_turns, held_first, held_back}
-use Rattle.mbe_bounds.proofs.Dots.Sift.{from_sift}
-use Rattle.mbe_bounds.proofs.Loop.BoundedPlaces.{same_number, erase_moves, after_alike, width_alike}
-use Rattle.mbe_bounds.proofs.Loop.TurnedPlaces.{map_reverse}
-use Rattle.mbe_bounds.proofs.Reports.EndLemmas.{from_reverse}
+use Rattle.mbe_laws.specs.Bounded.TwoEach.{cons_if, append_if, times, walk, turns}
+use Rattle.mbe_laws.specs.Reports.Ends.{firsts, lasts}
+use Rattle.mbe_laws.specs.Reports.Backward as back
+use Rattle.mbe_laws.specs.Reports.Backward.{visits, visit_number, left_in, visit_turns, held_first, held_back}
+use Rattle.mbe_laws.proofs.Dots.Sift.{from_sift}
+use Rattle.mbe_laws.proofs.Loop.BoundedPlaces.{same_number, erase_moves, after_alike, width_alike}
+use Rattle.mbe_laws.proofs.Loop.TurnedPlaces.{map_reverse}
+use Rattle.mbe_laws.proofs.Reports.EndLemmas.{from_reverse}
 use Rattle.mbe_matcher.specs.Failures.{Notes, no_notes, noted_at, ComesWith, at_start, at_next, AreNotes}
 use Rattle.mbe_matcher.specs.TwoEnds.{ends_noted, Visit, enter, leave, visits_of, key_of, left_of, kept_first, kept_back, first_moves, back_moves, kept_noted, EndsFollow, follow_start, follow_next, AreKeptNotes, KeptPassLaw}
 use Rattle.mbe_matcher.proofs.TwoEnds.{head, head_some, Ends, ends_at_start, ends_same, same_move, ends_go, led, known, here, calm_moves}

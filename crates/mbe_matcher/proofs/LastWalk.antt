@@ -12,7 +12,7 @@ use Rattle.mbe_semantics.specs.Syntax.Op.{Ops}
 use Rattle.mbe_semantics.specs.Bindings.Account.{Log, Handle}
 use Rattle.mbe_semantics.specs.Matching.Dots.{dots, outline_number}
 use Rattle.mbe_semantics.specs.Matching.Outline.{Outline, idle_of, next_of}
-use Rattle.mbe_bounds.specs.Bounded.TwoEach.{times}
+use Rattle.mbe_laws.specs.Bounded.TwoEach.{times}
 use Rattle.mbe_ops.specs.Views.{ops_of}
 use Rattle.mbe_matcher.specs.declared.ends.Failed.{Failed}
 use Rattle.mbe_matcher.specs.declared.ends.Left.{Left}
@@ -29,7 +29,7 @@ use Rattle.mbe_matcher.specs.Reports.{IsReportOf}
 use Rattle.mbe_matcher.specs.TwoEnds.{Visit, enter, leave, visits_of, key_of, left_of, only_first, kept_back}
 use Rattle.mbe_matcher.specs.EndsMatched.{to_enter, FailsBy, Leaves, VisitShows, IsLastStack, Enters, FirstFails, AreLasts}
 use Rattle.mbe_matcher.proofs.Keeping.{both_weaker, each_weaker, each_append, both_each, shows_keep, leads_keep, holds_keep}
-use Rattle.mbe_bounds.proofs.Loop.TurnedPlaces.{map_reverse}
+use Rattle.mbe_laws.proofs.Loop.TurnedPlaces.{map_reverse}
 use Rattle.mbe_matcher.proofs.MatchEnds.{each_length}
 use Rattle.mbe_matcher.proofs.Reporting.{is_step, step_same, shown_ops, shown_bound, misfit_fails}
 use Rattle.mbe_matcher.proofs.Settling.{Last, last_of, each_none, one_step, shown_number}

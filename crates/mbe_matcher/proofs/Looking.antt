@@ -10,9 +10,9 @@ use Rattle.mbe_semantics.specs.Syntax.Op.{Ops}
 use Rattle.mbe_semantics.specs.Bindings.Account.{Log}
 use Rattle.mbe_semantics.specs.Matching.Dots.{dots, outline_number}
 use Rattle.mbe_semantics.specs.Matching.Outline.{Outline, Advance, advance, idle_of, next_of}
-use Rattle.mbe_bounds.specs.Bounded.TwoEach.{times}
-use Rattle.mbe_bounds.specs.Loop.Kept.{kept}
-use Rattle.mbe_bounds.proofs.Loop.TurnedLoop.{KeepsTo, turned_keeps, turned_done, turned_number, turned_drop, turned_take}
+use Rattle.mbe_laws.specs.Bounded.TwoEach.{times}
+use Rattle.mbe_laws.specs.Loop.Kept.{kept}
+use Rattle.mbe_laws.proofs.Loop.TurnedLoop.{KeepsTo, turned_keeps, turned_done, turned_number, turned_drop, turned_take}
 use Rattle.mbe_places.specs.declared.position.Outer.{Outer}
 use Rattle.mbe_places.specs.declared.position.Position.{Position}
 use Rattle.mbe_places.specs.declared.position.Steps.{Steps}

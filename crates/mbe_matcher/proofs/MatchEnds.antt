@@ -13,8 +13,8 @@ use Rattle.mbe_semantics.specs.Laws.Lawful.{Lawful}
 use Rattle.mbe_semantics.specs.Matching.Dots.{dots}
 use Rattle.mbe_semantics.specs.Matching.Outline.{Outline, Advance, advance}
 use Rattle.mbe_semantics.specs.Matching.Settled.{clash_with, clash, after_of, first_width}
-use Rattle.mbe_bounds.specs.Loop.Kept.{kept_moves, kept_ends}
-use Rattle.mbe_bounds.proofs.Loop.TurnedPlaces.{ComesTo, turned_clash, turned_none, turned_end, turned_binds, turned_next}
+use Rattle.mbe_laws.specs.Loop.Kept.{kept_moves, kept_ends}
+use Rattle.mbe_laws.proofs.Loop.TurnedPlaces.{ComesTo, turned_clash, turned_none, turned_end, turned_binds, turned_next}
 use Rattle.mbe_log.proofs.ClientLemmas.{has_entries}
 use Rattle.mbe_places.specs.declared.stops.Stop.{Stop}
 use Rattle.mbe_places.specs.declared.stops.Stop.TheVariants as variants

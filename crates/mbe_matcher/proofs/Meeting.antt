@@ -2,7 +2,7 @@
 use Rattle.std.proofs.Common.{ℕ, ◌+◌, ◌≡◌, ◌<◌, inl, inr, ◌⊎◌, Option, Some, None, List, length, set, get_or, ◌∙◌, ap, arith}
 use Rattle.std.proofs.lemmas.Bool.Decides.{nat_tests}
 use Rattle.std.proofs.lemmas.List.{get_or-set_same, get_or-set_other, length-set}
-use Rattle.mbe_bounds.proofs.Dots.Sift.{equal_or_not}
+use Rattle.mbe_laws.proofs.Dots.Sift.{equal_or_not}
 use Rattle.mbe_matcher.specs.Met.{met_at, AreUnmetFrom}
 
 -- the dot counts nothing elsewhere

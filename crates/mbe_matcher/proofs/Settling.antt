@@ -15,9 +15,9 @@ use Rattle.mbe_semantics.specs.Matching.Held.{held}
 use Rattle.mbe_semantics.specs.Bindings.Account.{Log, Handle}
 use Rattle.mbe_semantics.specs.Matching.Dots.{dots, outline_number}
 use Rattle.mbe_semantics.specs.Matching.Outline.{Outline, outline, erase, idle_of, next_of, finished_of}
-use Rattle.mbe_bounds.specs.Bounded.TwoEach.{times}
-use Rattle.mbe_bounds.specs.Loop.Kept.{kept}
-use Rattle.mbe_bounds.proofs.Loop.TurnedLoop.{KeepsTo, turned_keeps, turned_done, turned_number, turned_drop, turned_take}
+use Rattle.mbe_laws.specs.Bounded.TwoEach.{times}
+use Rattle.mbe_laws.specs.Loop.Kept.{kept}
+use Rattle.mbe_laws.proofs.Loop.TurnedLoop.{KeepsTo, turned_keeps, turned_done, turned_number, turned_drop, turned_take}
 use Rattle.mbe_places.specs.declared.position.Outer.{Outer}
 use Rattle.mbe_places.specs.declared.position.Position.{Position}
 use Rattle.mbe_places.specs.declared.position.Steps.{Steps}

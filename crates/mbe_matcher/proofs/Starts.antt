@@ -23,9 +23,9 @@ use Rattle.mbe_semantics.specs.Matching.Held.{held}
 use Rattle.mbe_semantics.specs.Matching.Lists.{In}
 use Rattle.mbe_semantics.specs.Matching.Outline.{Edge, gate, Outline, outline, advance, erase, idle_of, next_of, finished_of, empty_by, over_advance, empty_bound, bound_advance, when_advance}
 use Rattle.mbe_semantics.proofs.InputLemmas.{lawful_input}
-use Rattle.mbe_bounds.specs.Loop.Kept.{kept, kept_moves, kept_ends}
-use Rattle.mbe_bounds.proofs.Loop.TurnedLoop.{KeepsTo, turned_keeps, turned_done, turned_take}
-use Rattle.mbe_bounds.proofs.Loop.TurnedPlaces.{turned_start}
+use Rattle.mbe_laws.specs.Loop.Kept.{kept, kept_moves, kept_ends}
+use Rattle.mbe_laws.proofs.Loop.TurnedLoop.{KeepsTo, turned_keeps, turned_done, turned_take}
+use Rattle.mbe_laws.proofs.Loop.TurnedPlaces.{turned_start}
 use Rattle.mbe_matcher.specs.Fronts.{IsUnlike, BeginsUnlike, is_other, begins_otherwise, failing_first}
 use Rattle.mbe_matcher.specs.Positions.{Each, LeadsTo, Holds}
 use Rattle.mbe_places.specs.declared.stops.Stop.{Stop}

@@ -27,14 +27,14 @@ use Rattle.mbe_laws.proofs.Matching.Clashes.{from_filter}
 use Rattle.mbe_laws.proofs.Matching.Moves.{next-takes}
 use Rattle.mbe_laws.proofs.Matching.Law.{Inv, held-sound}
 use Rattle.mbe_laws.proofs.Matching.Advance.{inv-start, inv-next, right-ambiguous}
-use Rattle.mbe_bounds.specs.Bounded.Dots.{dot_of, blank}
-use Rattle.mbe_bounds.specs.Orders.Order.{ComesWhole, whole_start, whole_next, turn_round}
-use Rattle.mbe_bounds.specs.Reports.Ends.{firsts, lasts, first_if, first_that, turned}
-use Rattle.mbe_bounds.specs.Reports.Backward.{held_first, held_back, BothWays, Swap}
-use Rattle.mbe_bounds.proofs.Orders.Spare.{turning}
-use Rattle.mbe_bounds.proofs.Orders.DropLemmas.{whole-inv}
-use Rattle.mbe_bounds.proofs.Reports.EndLemmas.{ends_are_kept}
-use Rattle.mbe_bounds.proofs.Reports.BackwardLemmas.{both_ways, swap_law}
+use Rattle.mbe_laws.specs.Bounded.Dots.{dot_of, blank}
+use Rattle.mbe_laws.specs.Orders.Order.{ComesWhole, whole_start, whole_next, turn_round}
+use Rattle.mbe_laws.specs.Reports.Ends.{firsts, lasts, first_if, first_that, turned}
+use Rattle.mbe_laws.specs.Reports.Backward.{held_first, held_back, BothWays, Swap}
+use Rattle.mbe_laws.proofs.Orders.Spare.{turning}
+use Rattle.mbe_laws.proofs.Orders.DropLemmas.{whole-inv}
+use Rattle.mbe_laws.proofs.Reports.EndLemmas.{ends_are_kept}
+use Rattle.mbe_laws.proofs.Reports.BackwardLemmas.{both_ways, swap_law}
 use Rattle.mbe_matcher.specs.Failures.{Misfit, Source, failed, ended, Notes, is_any, has_step, is_noted, or_first, last_of, source_of, misfit, misfit_unless, noted_with, noted_at, ComesWith, at_start, at_next, AreNotes}
 use Rattle.mbe_matcher.proofs.Reporting.{source_snoc}
 use Rattle.mbe_matcher.specs.TwoEnds.{only_first, ends_noted, ends_noted_at, EndsCome, ends_start, ends_next, AreEndNotes, SecondPassLaw}

@@ -13,13 +13,13 @@ use Rattle.mbe_semantics.specs.Matching.Dots.{dots, outline_number}
 use Rattle.mbe_laws.proofs.Matching.Forest.{in_either}
 use Rattle.mbe_laws.proofs.Matching.Sound.{idle-sound}
 use Rattle.mbe_laws.proofs.Matching.Outlines.{erase_idle}
-use Rattle.mbe_bounds.specs.Bounded.TwoEach.{cons_if, append_if, times, walk, turns}
-use Rattle.mbe_bounds.specs.Reports.Backward.{visit_turns}
-use Rattle.mbe_bounds.proofs.Dots.Sift.{room, room_taken, equal_or_not, times_same, times_other, times_grow}
-use Rattle.mbe_bounds.proofs.Dots.Walk.{steps_for, len_append}
-use Rattle.mbe_bounds.proofs.Dots.Dots.{number-within}
+use Rattle.mbe_laws.specs.Bounded.TwoEach.{cons_if, append_if, times, walk, turns}
+use Rattle.mbe_laws.specs.Reports.Backward.{visit_turns}
+use Rattle.mbe_laws.proofs.Dots.Sift.{room, room_taken, equal_or_not, times_same, times_other, times_grow}
+use Rattle.mbe_laws.proofs.Dots.Walk.{steps_for, len_append}
+use Rattle.mbe_laws.proofs.Dots.Dots.{number-within}
 use Rattle.mbe_laws.proofs.Matching.Outlines.{idle_short}
-use Rattle.mbe_bounds.proofs.Loop.BoundedPlaces.{same_number}
+use Rattle.mbe_laws.proofs.Loop.BoundedPlaces.{same_number}
 use Rattle.mbe_matcher.specs.EndsMatched.{IsHere}
 use Rattle.mbe_matcher.specs.TwoEnds.{Visit, enter, leave, visits_of, key_of, left_of, kept_first, kept_back}
 

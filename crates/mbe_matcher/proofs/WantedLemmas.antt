@@ -24,13 +24,13 @@ use Rattle.mbe_semantics.specs.Matching.Outline.{Outline, erase, erase_move}
 use Rattle.mbe_semantics.specs.Matching.Story.{story}
 use Rattle.mbe_laws.proofs.Matching.Clashes.{from_filter, in_filter}
 use Rattle.mbe_laws.proofs.Matching.Outlines.{erase_next}
-use Rattle.mbe_bounds.specs.Bounded.Dots.{dot_of}
-use Rattle.mbe_bounds.specs.Bounded.TwoEach.{two_each}
-use Rattle.mbe_bounds.specs.Loop.Kept.{kept, kept_moves}
-use Rattle.mbe_bounds.proofs.Run.Moves.{same-clash}
-use Rattle.mbe_bounds.proofs.Run.BoundedRun.{two_each-is, holds_two_each}
-use Rattle.mbe_bounds.proofs.Loop.BoundedPlaces.{erase_held, clash_is}
-use Rattle.mbe_bounds.proofs.Loop.TurnedPlaces.{ComesTo}
+use Rattle.mbe_laws.specs.Bounded.Dots.{dot_of}
+use Rattle.mbe_laws.specs.Bounded.TwoEach.{two_each}
+use Rattle.mbe_laws.specs.Loop.Kept.{kept, kept_moves}
+use Rattle.mbe_laws.proofs.Run.Moves.{same-clash}
+use Rattle.mbe_laws.proofs.Run.BoundedRun.{two_each-is, holds_two_each}
+use Rattle.mbe_laws.proofs.Loop.BoundedPlaces.{erase_held, clash_is}
+use Rattle.mbe_laws.proofs.Loop.TurnedPlaces.{ComesTo}
 use Rattle.mbe_places.specs.declared.position.Outer.{Outer}
 use Rattle.mbe_places.specs.declared.position.Waiting.{Waiting}
 use Rattle.mbe_matcher.specs.declared.wanting.Step.{Step}

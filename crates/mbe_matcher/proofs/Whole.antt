@@ -15,13 +15,13 @@ use Rattle.mbe_semantics.specs.Matching.Held.{held, moves_of, targets, clashing}
 use Rattle.mbe_semantics.specs.Matching.Outline.{Outline, erase, erase_move, idle_of, next_of}
 use Rattle.mbe_semantics.specs.Matching.Settled.{clash, after_of, first_width}
 use Rattle.mbe_laws.proofs.Matching.Law.{Inv, held-sound}
-use Rattle.mbe_bounds.specs.Loop.Kept.{kept, kept_moves}
-use Rattle.mbe_bounds.specs.Orders.Order.{ComesWhole, whole_start, whole_next, turn_round}
-use Rattle.mbe_bounds.proofs.Orders.Spare.{turning}
-use Rattle.mbe_bounds.proofs.Orders.DropLemmas.{whole-inv}
-use Rattle.mbe_bounds.proofs.Loop.BoundedPlaces.{erase_moves, clash_alike, after_alike, width_alike}
-use Rattle.mbe_bounds.proofs.Loop.TurnedPlaces.{map_reverse}
-use Rattle.mbe_bounds.proofs.Loop.FlagLoop.{Fills, fills_start, fills_take, fills_end}
+use Rattle.mbe_laws.specs.Loop.Kept.{kept, kept_moves}
+use Rattle.mbe_laws.specs.Orders.Order.{ComesWhole, whole_start, whole_next, turn_round}
+use Rattle.mbe_laws.proofs.Orders.Spare.{turning}
+use Rattle.mbe_laws.proofs.Orders.DropLemmas.{whole-inv}
+use Rattle.mbe_laws.proofs.Loop.BoundedPlaces.{erase_moves, clash_alike, after_alike, width_alike}
+use Rattle.mbe_laws.proofs.Loop.TurnedPlaces.{map_reverse}
+use Rattle.mbe_laws.proofs.Loop.FlagLoop.{Fills, fills_start, fills_take, fills_end}
 use Rattle.mbe_matcher.specs.Failures.{Notes, no_notes, noted_at, ComesWith, at_start, at_next, AreNotes}
 
 -- ---- at a place

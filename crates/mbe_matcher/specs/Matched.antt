@@ -14,7 +14,7 @@ use Rattle.mbe_semantics.specs.Readings.Reading.{Beginning}
 use Rattle.mbe_semantics.specs.Matching.Dots.{dots}
 use Rattle.mbe_semantics.specs.Matching.Outline.{Outline}
 use Rattle.mbe_semantics.specs.Matching.Settled.{Stack}
-use Rattle.mbe_bounds.specs.Loop.Kept.{kept_moves, kept_ends}
+use Rattle.mbe_laws.specs.Loop.Kept.{kept_moves, kept_ends}
 use Rattle.mbe_places.specs.declared.position.Outer.{Outer}
 use Rattle.mbe_places.specs.declared.position.Position.{Position}
 use Rattle.mbe_places.specs.declared.position.Waiting.{Waiting}

@@ -1,7 +1,7 @@
 -- Whether each dot is met at a place.
 use Rattle.std.specs.Prelude.{ℕ, suc, ◌-◌, ◌==◌, ◌≡◌, ◌<◌, ◌≤◌, if◌then◌else◌, Bool, false, Option, Some, None, List, [], length, slice_index_or}
 use Rattle.std.specs.List.{sum_by}
-use Rattle.mbe_bounds.specs.Bounded.TwoEach.{times}
+use Rattle.mbe_laws.specs.Bounded.TwoEach.{times}
 
 -- the dot was met last at this place
 abbrev pub is_met : ℕ → Option ℕ → Bool

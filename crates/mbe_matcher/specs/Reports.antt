@@ -15,7 +15,7 @@ use Rattle.mbe_semantics.specs.Readings.Reading.{Beginning, At}
 use Rattle.mbe_semantics.specs.Matching.Held.{held}
 use Rattle.mbe_semantics.specs.Matching.Lists.{In}
 use Rattle.mbe_semantics.specs.Matching.Outline.{Outline, erase}
-use Rattle.mbe_bounds.specs.Loop.Kept.{kept as kept_at}
+use Rattle.mbe_laws.specs.Loop.Kept.{kept as kept_at}
 use Rattle.mbe_ops.specs.Views.{op_of}
 use Rattle.mbe_places.specs.declared.source.Source.{Source as Argument}
 use Rattle.mbe_matcher.specs.declared.places.Reached.{Reached}

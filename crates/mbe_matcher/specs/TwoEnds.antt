@@ -19,8 +19,8 @@ use Rattle.mbe_semantics.specs.Matching.Dots.{dots, outline_number}
 use Rattle.mbe_semantics.specs.Matching.Held.{moves_of, targets}
 use Rattle.mbe_semantics.specs.Matching.Outline.{Outline, Advance, erase, idle_of, next_of, finished_of}
 use Rattle.mbe_semantics.specs.Matching.Settled.{after_of, first_width}
-use Rattle.mbe_bounds.specs.Bounded.TwoEach.{walk, turns}
-use Rattle.mbe_bounds.specs.Reports.Backward.{visit_turns, held_first, held_back}
+use Rattle.mbe_laws.specs.Bounded.TwoEach.{walk, turns}
+use Rattle.mbe_laws.specs.Reports.Backward.{visit_turns, held_first, held_back}
 use Rattle.mbe_matcher.specs.Failures.{Notes, no_notes, misfit, noted_with, AreNotes}
 
 -- the first member alone

@@ -14,7 +14,7 @@ use Rattle.mbe_semantics.specs.Matching.Held.{moves_of, clashing}
 use Rattle.mbe_semantics.specs.Matching.Lists.{In, Distinct}
 use Rattle.mbe_semantics.specs.Matching.Outline.{gate, edge, Outline, outline, Advance, advance, next_of}
 use Rattle.mbe_semantics.specs.Matching.Story.{story}
-use Rattle.mbe_bounds.specs.Bounded.Dots.{dot_of}
+use Rattle.mbe_laws.specs.Bounded.Dots.{dot_of}
 use Rattle.mbe_ops.specs.Views.{op_of, separator_seen}
 use Rattle.mbe_matcher.specs.declared.wanting.Step.{Step}
 use Rattle.mbe_matcher.specs.declared.wanting.Way as declared
@@ -25,7 +25,7 @@ use Rattle.mbe_places.specs.declared.position.Position.{Position}
 use Rattle.mbe_matcher.specs.Matched.{IsStack}
 use Rattle.mbe_semantics.specs.Bindings.Account.{Log}
 use Rattle.mbe_semantics.specs.Matching.Dots.{dots}
-use Rattle.mbe_bounds.specs.Loop.Kept.{kept}
+use Rattle.mbe_laws.specs.Loop.Kept.{kept}
 use Rattle.mbe_tt.specs.Fragments.Grammar.{Grammar}
 
 -- ---- what is next

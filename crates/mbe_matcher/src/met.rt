@@ -1,6 +1,6 @@
 // Whether each dot of a pattern is met at a place.
 ghost use Rattle.std.specs.Prelude.{◌≡◌, ℕ, ◌+◌, ◌<◌, ◌≤◌, List, [], length, IfOk, true, false, nat_lt};
-ghost use Rattle.mbe_bounds.specs.Bounded.TwoEach.{times, cons_if};
+ghost use Rattle.mbe_laws.specs.Bounded.TwoEach.{times, cons_if};
 ghost use Rattle.mbe_matcher.specs.Met.{is_met, AreMet, AreUnmetFrom, unmet};
 
 use std::alloc::{AllocError, Allocator, Global};

@@ -68,7 +68,7 @@ struct Step {
 }
 
 // How a position goes on.
-#[derive_where(Clone, Copy)]
+#[derive(Drop)]
 struct Way<'a, A: Allocator = Global> {
     next: Option<Wanted<'a, A>>,
     step: Option<Step>,

@@ -14,7 +14,7 @@ use Rattle.mbe_semantics.specs.Readings.Reading.{Frame, inside, within, Beginnin
 use Rattle.mbe_semantics.specs.Readings.Steps.{idle, Move, move, next, round_move}
 use Rattle.mbe_semantics.specs.Matching.Dots.{dots, number_of}
 use Rattle.mbe_semantics.specs.Matching.Lists.{In}
-use Rattle.mbe_bounds.proofs.Dots.Dots.{number-within}
+use Rattle.mbe_laws.proofs.Dots.Dots.{number-within}
 use Rattle.mbe_laws.proofs.Matching.Forest.{in_either}
 use Rattle.mbe_matcher.specs.Wanted.{Wanted, wanted}
 use Rattle.mbe_parting.specs.declared.edges.Edge.{Edge}

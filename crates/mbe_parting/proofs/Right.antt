@@ -6,7 +6,7 @@ use Rattle.mbe_semantics.specs.Readings.Input.{Input}
 use Rattle.mbe_semantics.specs.Readings.Reading.{inside, within, Beginning, dot, place, start, Begins, At}
 use Rattle.mbe_semantics.specs.Matching.Dots.{dots, number_of}
 use Rattle.mbe_semantics.specs.Matching.Lists.{In}
-use Rattle.mbe_bounds.proofs.Dots.Dots.{number-within}
+use Rattle.mbe_laws.proofs.Dots.Dots.{number-within}
 use Rattle.mbe_parting.specs.declared.edges.Edge.{Edge}
 use Rattle.mbe_parting.specs.declared.edges.Step.{Step}
 use Rattle.mbe_parting.specs.Parting.{steps, Leads, IsBeginningOf, PartAt, IsPartingOf}

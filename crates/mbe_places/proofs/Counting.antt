@@ -4,7 +4,7 @@ use Rattle.std.proofs.lemmas.Bool.Decides.{nat_tests}
 use Rattle.std.proofs.lemmas.List.{get_or-set_same, get_or-set_other, length-set}
 use Rattle.std.proofs.lemmas.List.Sums.{sum_by-cons, sum_by-set}
 use Rattle.std.proofs.lemmas.Option.{slice_get_read, get_or_from_slice_get}
-use Rattle.mbe_bounds.proofs.Dots.Sift.{equal_or_not}
+use Rattle.mbe_laws.proofs.Dots.Sift.{equal_or_not}
 use Rattle.mbe_places.specs.declared.counts.Mark.{Mark}
 use Rattle.mbe_places.specs.Counts.{count_at, unmet, AreBlankFrom, vacancies}
 

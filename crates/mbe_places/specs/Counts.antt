@@ -1,7 +1,7 @@
 -- How often each dot was met at a place.
 use Rattle.std.specs.Prelude.{ℕ, suc, ◌-◌, ◌==◌, ◌≡◌, ◌<◌, ◌≤◌, if◌then◌else◌, List, [], length, slice_index_or}
 use Rattle.std.specs.List.{sum_by}
-use Rattle.mbe_bounds.specs.Bounded.TwoEach.{times}
+use Rattle.mbe_laws.specs.Bounded.TwoEach.{times}
 use Rattle.mbe_places.specs.declared.counts.Mark.{Mark}
 
 -- how often the mark says at the place

@@ -1,4 +1,4 @@
--- Worked examples, proved in mbe_examples.
+-- Worked examples, proved in mbe_laws.
 pub mod Sample
 pub mod FirstExamples
 pub mod Examples

@@ -10,14 +10,14 @@ use mbe_tt::symbol::Symbol;
 use std::alloc::{AllocError, Allocator};
 
 /// The first fault that was met, and where it is reported.
-#[derive_where(Clone, Copy)]
+#[derive(Drop)]
 pub struct WritingFault<'t, A: Allocator> {
     pub span: Span,
     pub kind: FaultKind<'t, A>,
 }
 
 /// What is wrong; the symbol is the name that it is about.
-#[derive_where(Clone, Copy)]
+#[derive(Drop)]
 pub enum FaultKind<'t, A: Allocator> {
     /// Nothing is bound to it.
     Unresolved(&'t Symbol<A>),

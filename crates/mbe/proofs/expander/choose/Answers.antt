@@ -1,4 +1,5 @@
-use Rattle.std.proofs.Common.{◌≡◌, ◌≤◌, ◌+◌, ◌∙◌, ap, subst, sym, refl, rules, Some}
+use Rattle.std.proofs.Common.{◌≡◌, ◌≤◌, ◌+◌, ◌∙◌, ap, subst, sym, refl, rules, Some, option_map}
+use Rattle.std.specs.Prelude.{IfSome}
 use denote.Enum.Bare.{differs_true, differs_false}
 use Rattle.mbe_tt.specs.Views.View.{group_of}
 use Rattle.mbe_tt.specs.Trees.Tree.{tree_count}
@@ -74,10 +75,10 @@ loop-idx-preserved g c =
     record {
       none = none_more h style input.1 rs c.loop-idx.idx r c.loop-idx.invariant.none here not_this;
       nearest = subst (λ x. IsSoFar h site input style rs (c.loop-idx.idx + 1)
-          (Some (candidate_seen x))) (sym c.nearer.ensures)
+          (option_map candidate_seen x)) (sym c.consider.ensures)
           (so_far_tried h site input style rs c.loop-idx.idx r here
           c.loop-idx.nearest _ refl it.1 c.loop-idx.invariant.nearest);
-      kept = subst (IsCandidate h marks site input style rs) (sym c.nearer.ensures)
+      kept = subst (λ x. IfSome x (IsCandidate h marks site input style rs)) (sym c.consider.ensures)
           (kept_tried (IsCandidate h marks site input style rs) c.loop-idx.nearest _
           c.loop-idx.invariant.kept
           (candidate h marks site input style rs c.loop-idx.idx r here _ own it.2

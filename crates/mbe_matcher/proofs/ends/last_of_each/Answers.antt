@@ -3,7 +3,7 @@ use Rattle.mbe_tt.specs.Trees.Tree.{rest_at}
 use Rattle.mbe_tt.specs.Views.View.{trees}
 use Rattle.mbe_semantics.specs.Readings.Input.{input_of}
 use Rattle.mbe_semantics.specs.Matching.Dots.{dots}
-use Rattle.mbe_bounds.specs.Bounded.TwoEach.{cons_if}
+use Rattle.mbe_laws.specs.Bounded.TwoEach.{cons_if}
 use Rattle.mbe_matcher.specs.declared.ends.Visit.TheVariants.{Enter}
 use Rattle.mbe_matcher.specs.Met.{AreMet, unmet}
 use Rattle.mbe_matcher.specs.Positions.{IsPosition}

@@ -16,7 +16,7 @@ use Rattle.mbe_log.specs.declared.log.Extent.{Extent}
 use Rattle.mbe_bindings.specs.Compacting.{FitsIn}
 use Rattle.mbe_log.specs.Shared.{IsKept}
 use Rattle.mbe_log.proofs.ClientLemmas.{kept-on}
-use Rattle.mbe_bounds.specs.Loop.Kept.{kept, kept_moves}
+use Rattle.mbe_laws.specs.Loop.Kept.{kept, kept_moves}
 use Rattle.mbe_matcher.specs.declared.settle.State.{State}
 use Rattle.mbe_places.specs.declared.counts.Counts.{Counts}
 use Rattle.mbe_places.specs.declared.position.Waiting.{Waiting}

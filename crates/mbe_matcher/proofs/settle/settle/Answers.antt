@@ -4,8 +4,8 @@ use Rattle.mbe_tt.specs.Views.View.{trees}
 use Rattle.mbe_semantics.specs.Matching.Dots.{dots}
 use Rattle.mbe_semantics.specs.Readings.Input.{input_of}
 use Rattle.mbe_semantics.proofs.InputLemmas.{lawful_input}
-use Rattle.mbe_bounds.specs.Bounded.TwoEach.{cons_if}
-use Rattle.mbe_bounds.specs.Loop.Kept.{kept}
+use Rattle.mbe_laws.specs.Bounded.TwoEach.{cons_if}
+use Rattle.mbe_laws.specs.Loop.Kept.{kept}
 use Rattle.mbe_places.specs.declared.counts.Counts.{Counts}
 use Rattle.mbe_places.specs.Counts.{AreCounted, vacancies}
 use Rattle.mbe_places.proofs.Counting.{vacancies_most}

@@ -2,7 +2,7 @@ use Rattle.std.proofs.Common.{◌++◌, ◌<◌, ◌≤◌, ◌∷◌, ◌∙◌
 use Rattle.mbe_tt.specs.Views.View.{trees}
 use Rattle.mbe_semantics.specs.Readings.Input.{input_of}
 use Rattle.mbe_semantics.specs.Matching.Dots.{dots}
-use Rattle.mbe_bounds.specs.Bounded.TwoEach.{cons_if}
+use Rattle.mbe_laws.specs.Bounded.TwoEach.{cons_if}
 use Rattle.mbe_places.specs.declared.counts.Counts.{Counts}
 use Rattle.mbe_places.specs.Counts.{AreCounted, vacancies}
 use Rattle.mbe_matcher.specs.Positions.{IsPosition, Shows}

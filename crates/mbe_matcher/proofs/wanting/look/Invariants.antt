@@ -2,7 +2,7 @@ use Rattle.std.proofs.Common.{◌≡◌, ◌+◌, ℕ, List, length, reverse}
 use Rattle.mbe_tt.specs.Views.View.{trees}
 use Rattle.mbe_semantics.specs.Matching.Dots.{dots}
 use Rattle.mbe_semantics.specs.Readings.Input.{input_of}
-use Rattle.mbe_bounds.specs.Loop.Kept.{kept}
+use Rattle.mbe_laws.specs.Loop.Kept.{kept}
 use Rattle.mbe_places.specs.Counts.{AreCounted, vacancies}
 use Rattle.mbe_matcher.specs.Positions.{Keeps}
 use Rattle.mbe_matcher.specs.Matched.{IsStack}

@@ -1,9 +1,0 @@
-pub mod RuleLemmas
-pub mod ConcatLemmas
-pub mod ExampleLemmas
-pub mod FirstExampleLemmas
-pub mod RepeatLemmas
-pub mod VerdictLemmas
-pub mod FurtherExampleLemmas
-pub mod FaultExampleLemmas
-pub mod LogExampleLemmas

@@ -1,5 +1,0 @@
-use Rattle.mbe_examples.proofs.FirstExampleLemmas.{cast_example}
-use Rattle.mbe_examples.proofs.examples.cast_example.Goals as goal
-
-pub returns : goal.returns
-returns c = cast_example

@@ -1,5 +1,0 @@
-use Rattle.mbe_examples.proofs.ConcatLemmas.{concat_example}
-use Rattle.mbe_examples.proofs.examples.concat_example.Goals as goal
-
-pub returns : goal.returns
-returns c = concat_example

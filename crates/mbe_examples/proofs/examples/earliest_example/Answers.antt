@@ -1,5 +1,0 @@
-use Rattle.mbe_examples.proofs.FurtherExampleLemmas.{earliest_example}
-use Rattle.mbe_examples.proofs.examples.earliest_example.Goals as goal
-
-pub returns : goal.returns
-returns c = earliest_example

@@ -1,5 +1,0 @@
-use Rattle.mbe_examples.proofs.FaultExampleLemmas.{fault_examples}
-use Rattle.mbe_examples.proofs.examples.fault_examples.Goals as goal
-
-pub returns : goal.returns
-returns c = fault_examples

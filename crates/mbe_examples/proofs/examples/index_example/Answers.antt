@@ -1,5 +1,0 @@
-use Rattle.mbe_examples.proofs.RepeatLemmas.{index_example}
-use Rattle.mbe_examples.proofs.examples.index_example.Goals as goal
-
-pub returns : goal.returns
-returns c = index_example

@@ -1,5 +1,0 @@
-use Rattle.mbe_examples.proofs.FurtherExampleLemmas.{invisible_example}
-use Rattle.mbe_examples.proofs.examples.invisible_example.Goals as goal
-
-pub returns : goal.returns
-returns c = invisible_example

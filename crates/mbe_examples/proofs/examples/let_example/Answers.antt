@@ -1,5 +1,0 @@
-use Rattle.mbe_examples.proofs.ExampleLemmas.{let_example}
-use Rattle.mbe_examples.proofs.examples.let_example.Goals as goal
-
-pub returns : goal.returns
-returns c = let_example

@@ -1,5 +1,0 @@
-use Rattle.mbe_examples.proofs.ExampleLemmas.{no_rule_example}
-use Rattle.mbe_examples.proofs.examples.no_rule_example.Goals as goal
-
-pub returns : goal.returns
-returns c = no_rule_example

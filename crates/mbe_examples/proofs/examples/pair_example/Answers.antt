@@ -1,5 +1,0 @@
-use Rattle.mbe_examples.proofs.FirstExampleLemmas.{pair_example}
-use Rattle.mbe_examples.proofs.examples.pair_example.Goals as goal
-
-pub returns : goal.returns
-returns c = pair_example

@@ -1,5 +1,0 @@
-use Rattle.mbe_examples.proofs.ExampleLemmas.{puncts_example}
-use Rattle.mbe_examples.proofs.examples.puncts_example.Goals as goal
-
-pub returns : goal.returns
-returns c = puncts_example

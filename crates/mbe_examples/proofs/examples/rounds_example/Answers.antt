@@ -1,5 +1,0 @@
-use Rattle.mbe_examples.proofs.FirstExampleLemmas.{rounds_example}
-use Rattle.mbe_examples.proofs.examples.rounds_example.Goals as goal
-
-pub returns : goal.returns
-returns c = rounds_example

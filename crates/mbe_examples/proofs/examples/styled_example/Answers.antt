@@ -1,5 +1,0 @@
-use Rattle.mbe_examples.proofs.ExampleLemmas.{styled_example}
-use Rattle.mbe_examples.proofs.examples.styled_example.Goals as goal
-
-pub returns : goal.returns
-returns c = styled_example

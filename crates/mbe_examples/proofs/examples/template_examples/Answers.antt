@@ -1,5 +1,0 @@
-use Rattle.mbe_examples.proofs.FirstExampleLemmas.{template_examples}
-use Rattle.mbe_examples.proofs.examples.template_examples.Goals as goal
-
-pub returns : goal.returns
-returns c = template_examples

@@ -1,5 +1,0 @@
-use Rattle.mbe_examples.proofs.ExampleLemmas.{unbound_example}
-use Rattle.mbe_examples.proofs.examples.unbound_example.Goals as goal
-
-pub returns : goal.returns
-returns c = unbound_example

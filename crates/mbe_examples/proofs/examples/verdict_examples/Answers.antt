@@ -1,5 +1,0 @@
-use Rattle.mbe_examples.proofs.FirstExampleLemmas.{verdict_examples}
-use Rattle.mbe_examples.proofs.examples.verdict_examples.Goals as goal
-
-pub returns : goal.returns
-returns c = verdict_examples
