@@ -16,7 +16,6 @@ use std::alloc::{AllocError, Allocator};
 
 // A token of an expansion. Groups are an opening and a closing.
 #[derive(Drop)]
-#[derive_where(Clone, Copy)]
 pub(crate) enum Token<'t, A: Allocator> {
     Name(&'t Ident<A>),
     Punct(char),

@@ -30,7 +30,7 @@ pub(crate) enum Before {
 }
 
 // How an expansion replaces its call.
-#[derive(Clone, Copy, Drop)]
+#[derive(Drop)]
 pub(crate) struct Fit {
     // An expression of several trees beside an operator is put in parentheses, and statements in braces where an expression is.
     pub(crate) wrap: Option<DelimiterKind>,
@@ -41,7 +41,7 @@ pub(crate) struct Fit {
 }
 
 // How trees end.
-#[derive(Clone, Copy, Drop, PartialEq, Eq)]
+#[derive(Drop, PartialEq, Eq)]
 enum Ending {
     // There are none.
     Empty,

@@ -17,7 +17,7 @@ use mbe_tt::tt::TtIter;
 use std::alloc::{AllocError, Allocator};
 
 /// A fault and its place.
-#[derive(Clone, Copy)]
+#[derive(Drop)]
 pub struct Found {
     pub fault: SyntaxFault,
     /// The number of flat tokens before the token that can't be read.

@@ -19,7 +19,7 @@ use mbe_tt::tt::{
 use std::alloc::{AllocError, Allocator};
 
 /// What is wrong with a flat token.
-#[derive(Clone, Copy, Drop)]
+#[derive(Drop)]
 pub enum Wrong {
     /// Its kind is none of the five.
     Kind,
@@ -42,7 +42,7 @@ pub enum Wrong {
 }
 
 /// Why flat tokens aren't trees.
-#[derive(Clone, Copy, Drop)]
+#[derive(Drop)]
 pub enum FlatError {
     /// What is wrong with the token of that index; of `Wrong::Whole` the index is 0, of `Wrong::Open` that of the last token.
     Fault { index: usize, wrong: Wrong },
@@ -60,7 +60,7 @@ impl From<AllocError> for FlatError {
 }
 
 // Why one token isn't added.
-#[derive(Clone, Copy, Drop)]
+#[derive(Drop)]
 enum Refusal {
     Wrong(Wrong),
     OutOfMemory,

@@ -12,7 +12,7 @@ use mbe_ops::ops::MetaTemplate;
 use std::alloc::{AllocError, Allocator, Global};
 
 /// What is found of a rule. Clauses see it by `finding_seen`.
-#[derive_where(Clone, Copy)]
+#[derive(Drop)]
 pub enum Finding<'a, A: Allocator = Global> {
     /// A variable of the pattern, and a later one of its name. rustc refuses it.
     BoundTwice(Bound<'a>, Bound<'a>),

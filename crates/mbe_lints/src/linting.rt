@@ -62,7 +62,7 @@ fn push_findings<A: Allocator + Copy>(
         ++ findings_lints (defined_shown defined.entry) (map finding_seen found.now)) }
 {
     for one in found {
-        push_finding(alloc, lints, defined, *one)?;
+        push_finding(alloc, lints, defined, one)?;
     }
     Ok(())
 }

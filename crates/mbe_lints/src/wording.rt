@@ -311,30 +311,30 @@ pub fn push_finding<A: Allocator + Copy>(
     alloc: A,
     lints: &mut Vec<Lint<A>, A>,
     defined: Defined<'_, A>,
-    finding: Finding<'_, A>,
+    finding: &Finding<'_, A>,
 ) -> Result<(), AllocError>
     ensures { OnOk result (map lint_seen lints.new.items ≡ map lint_seen lints.old.items
-        ++ spec.finding_lints (defined_shown defined.entry) (finding_seen finding.entry)) }
+        ++ spec.finding_lints (defined_shown defined.entry) (finding_seen finding.now)) }
 {
     match finding {
         Finding::BoundTwice(first, later) => {
-            let first = shown_bound(defined, first);
-            push_twice(alloc, lints, first, shown_bound(defined, later))
+            let first = shown_bound(defined, *first);
+            push_twice(alloc, lints, first, shown_bound(defined, *later))
         }
         Finding::UnknownSpecifier(bound) => {
-            push_unknown(alloc, lints, shown_bound(defined, bound))
+            push_unknown(alloc, lints, shown_bound(defined, *bound))
         }
         Finding::NeverUsed(bound) => {
-            push_unused(alloc, lints, bound.name, shown_bound(defined, bound))
+            push_unused(alloc, lints, bound.name, shown_bound(defined, *bound))
         }
         Finding::StillRepeats(bound, used) => {
             let at = show(defined, used.place.unwrap_or(bound.place), None);
-            push_repeating(alloc, lints, bound, used, shown_bound(defined, bound), at)
+            push_repeating(alloc, lints, *bound, *used, shown_bound(defined, *bound), at)
         }
         Finding::Forbidden(followed) => {
             let next = next_part(alloc, defined, followed.next)?;
             let variable = show(defined, followed.place, followed.kind);
-            push_followed(alloc, lints, followed, variable, next)
+            push_followed(alloc, lints, *followed, variable, next)
         }
     }
 }

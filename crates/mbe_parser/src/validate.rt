@@ -27,7 +27,7 @@ pub fn refuses_some<A: Allocator>(rules: &[Rule<A>]) -> bool
 }
 
 // What the check has found of some ops.
-#[derive(Clone, Copy)]
+#[derive(Drop)]
 struct Found {
     // They can read nothing.
     empty: bool,

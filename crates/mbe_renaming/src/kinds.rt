@@ -29,7 +29,7 @@ pub(crate) enum Sign {
 }
 
 /// A sort of words.
-#[derive(Clone, Copy, Drop)]
+#[derive(Drop)]
 pub(crate) enum Sort {
     Let,
     For,

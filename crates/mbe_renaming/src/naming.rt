@@ -34,7 +34,7 @@ pub(crate) struct Naming<'t, A: Allocator> {
 
 /// A local or a label that keeps its name, though another token has that: whether what is at `place` is that local can't be
 /// decided, or it is a field's name too. `bound` is where it is bound first, and both have the context of the local.
-#[derive(Clone, Copy, Drop)]
+#[derive(Drop)]
 pub struct Doubt {
     pub bound: Span,
     pub place: Span,

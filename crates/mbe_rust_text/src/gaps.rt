@@ -28,7 +28,7 @@ pub(crate) enum Last {
 }
 
 // What is before a token.
-#[derive(Clone, Copy, Drop)]
+#[derive(Drop)]
 pub(crate) enum Gap {
     Nothing,
     Space,

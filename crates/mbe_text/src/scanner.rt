@@ -45,7 +45,7 @@ pub struct LexFault {
 }
 
 /// What a token is. Texts are those of the source.
-#[derive(Clone, Copy)]
+#[derive(Drop)]
 pub enum Lexeme<'t> {
     Ident {
         name: &'t str,
@@ -76,7 +76,7 @@ pub enum Lexeme<'t> {
 }
 
 /// A token, and where it is in the text.
-#[derive(Clone, Copy)]
+#[derive(Drop)]
 pub struct Token<'t> {
     pub lexeme: Lexeme<'t>,
     pub span: Span,

@@ -122,7 +122,7 @@ impl fmt::Display for Wrong {
 }
 
 /// What is wrong with a text, and the text from there on.
-#[derive(Clone, Copy)]
+#[derive(Drop)]
 pub(crate) struct Fault<'t> {
     pub wrong: Wrong,
     pub at: &'t str,

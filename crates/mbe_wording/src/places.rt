@@ -3,7 +3,7 @@ ghost use Rattle.std.specs.Prelude.{◌≡◌};
 ghost use Rattle.mbe_wording.specs.Places as spec;
 
 /// A place in a text: its line, counted from 1, and its column, which counts the characters of the line from 1.
-#[derive(Clone, Copy, Drop)]
+#[derive(Drop)]
 pub struct Place {
     pub line: u32,
     pub column: u32,

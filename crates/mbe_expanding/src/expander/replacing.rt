@@ -371,12 +371,12 @@ impl<A: Allocator + Copy> Expander<'_, A> {
         ensures state { OnOk result (state_of self.new ≡ state_of self.old) }
     {
         for doubt in doubts {
-            self.note_doubt(name_at(texts, doubt.bound), *doubt)?;
+            self.note_doubt(name_at(texts, doubt.bound), doubt)?;
         }
         Ok(())
     }
 
-    fn note_doubt(&mut self, name: &str, doubt: Doubt) -> Result<(), AllocError>
+    fn note_doubt(&mut self, name: &str, doubt: &Doubt) -> Result<(), AllocError>
         ensures setting { OnOk result (setting_of self.new ≡ setting_of self.old) }
         ensures state { OnOk result (state_of self.new ≡ state_of self.old) }
     {
