@@ -10,7 +10,7 @@ use Rattle.mbe_tt.specs.Trees.Top.{Top}
 use Rattle.mbe_calls.specs.Beside.{is_standard}
 use Rattle.mbe_calls.specs.Fronts.{Call, Defined, Definition, ACall, Other, front, is_item}
 use Rattle.mbe_calls.specs.Splicing.{Part, spliced}
-use Rattle.mbe_rust_text.specs.Writing.{text_of}
+use Rattle.mbe_text.specs.RustText.Writing.{text_of}
 use Rattle.mbe_expanding.specs.Becoming.{Becomes, StandsFor, after_group}
 use Rattle.mbe_expanding.specs.Calls.{Setting, State, Stays, IsReplaced, after_step}
 use Rattle.mbe_expanding.specs.Fitting.{IsLeft}

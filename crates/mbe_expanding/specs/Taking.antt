@@ -14,7 +14,7 @@ use Rattle.mbe.specs.Explaining.{BindsThere, HasPattern}
 use Rattle.mbe_linting.specs.Variables.{Bound, bound_in}
 use Rattle.mbe_explaining.specs.Excerpt.{excerpt}
 use Rattle.mbe_explaining.specs.Saying.{Part, part_seen, quoted, variable_text}
-use Rattle.mbe_rust_text.specs.Writing.{text_of}
+use Rattle.mbe_text.specs.RustText.Writing.{text_of}
 use Rattle.mbe_expanding.specs.declared.taking.Taken as code
 
 -- ---- texts

@@ -17,7 +17,7 @@ use Rattle.mbe_rules_text.specs.Views.{plain_keyword, plain_node}
 use Rattle.mbe_rust.specs.Closed.{are_there}
 use Rattle.mbe_rust.specs.Keywords.{rows, rust_keywords}
 use Rattle.mbe_rust.specs.Starts.{rust_starts}
-use Rattle.mbe_rust_text.specs.Writing.{text_of}
+use Rattle.mbe_text.specs.RustText.Writing.{text_of}
 use Rattle.mbe_semantics.specs.Syntax.Definition.{Rule}
 use Rattle.mbe_semantics.specs.Syntax.Template.{Fault}
 use Rattle.mbe_semantics.specs.Expansion.Error.{ExpandError, text_of_kind}

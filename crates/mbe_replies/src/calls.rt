@@ -21,7 +21,7 @@ use mbe_grammar::SampleGrammar;
 use mbe_program::expanding::{Expansion, defined, verdicts_by};
 use mbe_rules_text::rules::Rules;
 use mbe_rust::fragments::rust_rules;
-use mbe_rust_text::writing::Writer;
+use mbe_text::writing::Writer;
 use mbe_text::dialect::Dialect;
 use mbe_text::lexer::{LexError, lex_as};
 use mbe_text::printing::print_tree;

@@ -14,3 +14,7 @@ pub mod Printed
 pub mod Reading
 pub mod TailLemmas
 pub mod Taken
+pub mod ClosedLemmas
+pub mod IndentLemmas
+pub mod WalkLemmas
+pub mod ReadBack

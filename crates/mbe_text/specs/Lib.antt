@@ -16,3 +16,5 @@ pub mod Tokens
 pub mod Trivia
 pub mod Words
 pub mod Writing
+pub mod RustText
+pub mod Laws

@@ -2,12 +2,16 @@
 #![tactic(auto)]
 
 mod characters;
+mod comments;
 pub mod dialect;
 mod escapes;
+mod gaps;
+pub mod laws;
 pub mod lexer;
 pub mod output;
 pub mod printing;
 mod rust;
 pub mod scanner;
 pub mod symbols;
+pub mod writing;
 pub mod wrong;

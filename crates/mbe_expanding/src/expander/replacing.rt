@@ -7,7 +7,7 @@ ghost use Rattle.mbe_tt.specs.Views.View.{trees};
 ghost use Rattle.mbe_calls.specs.Beside.{is_standard};
 ghost use Rattle.mbe_calls.specs.Replacements.{part_of};
 ghost use Rattle.mbe_calls.specs.Shown.{call_shown, defined_shown};
-ghost use Rattle.mbe_rust_text.specs.Writing as writing;
+ghost use Rattle.mbe_text.specs.RustText.Writing as writing;
 ghost use Rattle.mbe_wording.specs.Wording as wording;
 ghost use Rattle.mbe_expanding.specs.Replacing as spec;
 ghost use Rattle.mbe_expanding.specs.Replacing.{Adds, IsExpanded, IsOfCall, IsPartOf, last_span};

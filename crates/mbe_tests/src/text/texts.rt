@@ -1,5 +1,5 @@
 // Trees of texts, and texts of trees.
-use mbe_rust_text::writing::Writer;
+use mbe_text::writing::Writer;
 use mbe_text::dialect::Dialect;
 use mbe_text::lexer::lex_as;
 use mbe_tt::span::Edition;

@@ -1,6 +1,6 @@
 // Trees as Rust text.
 use crate::text::texts::{RUST, read, written};
-use mbe_rust_text::writing::Writer;
+use mbe_text::writing::Writer;
 use mbe_text::dialect::Dialect;
 use mbe_text::scanner::file_span;
 use mbe_tt::symbol::Symbol;

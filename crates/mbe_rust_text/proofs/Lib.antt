@@ -1,3 +1,0 @@
-pub mod ClosedLemmas
-pub mod IndentLemmas
-pub mod WalkLemmas

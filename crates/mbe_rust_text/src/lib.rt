@@ -1,6 +1,0 @@
-// Trees as Rust text.
-#![tactic(auto)]
-
-mod comments;
-mod gaps;
-pub mod writing;

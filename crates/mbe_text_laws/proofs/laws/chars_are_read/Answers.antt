@@ -1,5 +1,0 @@
-use Rattle.mbe_text_laws.proofs.CharLemmas.{chars_are_read}
-use Rattle.mbe_text_laws.proofs.laws.chars_are_read.Goals as goal
-
-pub returns : goal.returns
-returns c = chars_are_read

@@ -1,5 +1,0 @@
-use Rattle.mbe_text_laws.proofs.GapLemmas.{gaps_are_blank}
-use Rattle.mbe_text_laws.proofs.laws.gaps_are_blank.Goals as goal
-
-pub returns : goal.returns
-returns c = gaps_are_blank

@@ -1,5 +1,0 @@
-use Rattle.mbe_text_laws.proofs.GapLemmas.{gaps_are_in_bytes}
-use Rattle.mbe_text_laws.proofs.laws.gaps_are_in_bytes.Goals as goal
-
-pub returns : goal.returns
-returns c = gaps_are_in_bytes

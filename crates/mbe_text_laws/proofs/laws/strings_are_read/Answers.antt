@@ -1,5 +1,0 @@
-use Rattle.mbe_text_laws.proofs.QuoteLemmas.{strings_are_read}
-use Rattle.mbe_text_laws.proofs.laws.strings_are_read.Goals as goal
-
-pub returns : goal.returns
-returns c = strings_are_read
