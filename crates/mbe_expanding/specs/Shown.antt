@@ -2,7 +2,7 @@
 use Rattle.std.specs.Prelude.{map}
 use Rattle.std.specs.String.{string_bytes}
 use Rattle.mbe.specs.MacroViews.{macro_of}
-use Rattle.mbe_rules.specs.Lawful.{grammar_of}
+use Rattle.mbe_grammar.specs.Tables.Lawful.{grammar_of}
 use Rattle.mbe_expanding.specs.Calls as calls
 use Rattle.mbe_expanding.specs.Scopes as spec
 use Rattle.mbe_expanding.specs.declared.scope.Definition.{Definition}

@@ -8,7 +8,7 @@ ghost use Rattle.mbe_expanding.specs.Fitting as spec;
 
 use mbe::expect_fragment;
 use mbe_calls::calls::{Call, binds};
-use mbe_rules::table::RuleTable;
+use mbe_grammar::tables::table::RuleTable;
 use mbe_tt::grammar::{FragmentGrammar, PrefixEntryPoint};
 use mbe_tt::span::Span;
 use mbe_tt::tt::{Delimiter, DelimiterKind, Leaf, Punct, Spacing, TokenTreesView, TtElement};

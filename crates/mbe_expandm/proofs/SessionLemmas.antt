@@ -10,9 +10,9 @@ use Rattle.mbe_expanding.specs.Calls.{Setting, State}
 use Rattle.mbe_expanding.specs.Scopes.{Scope}
 use Rattle.mbe_expandm.specs.declared.places.Position.{Position}
 use Rattle.mbe_expandm.specs.declared.reading.Reading.{Reading}
-use Rattle.mbe_rules.specs.declared.table.RuleTable.{RuleTable}
-use Rattle.mbe_rust.specs.Keywords.{rows, rust_keywords}
-use Rattle.mbe_rust.specs.Starts.{rust_starts}
+use Rattle.mbe_grammar.specs.declared.tables.table.RuleTable.{RuleTable}
+use Rattle.mbe_grammar.specs.Rust.Keywords.{rows, rust_keywords}
+use Rattle.mbe_grammar.specs.Rust.Starts.{rust_starts}
 use Rattle.mbe_expandm.specs.Conditions.{Conditions, IsUnder}
 use Rattle.mbe_expandm.specs.Readings.{IsReading, IsRustTable}
 use Rattle.mbe_expandm.specs.Expansions as spec

@@ -1,9 +1,9 @@
 -- How texts are read.
 use Rattle.std.specs.Prelude.{◌≡◌}
 use Rattle.mbe_tt.specs.declared.span.Edition.{Edition}
-use Rattle.mbe_rules.specs.declared.table.RuleTable.{RuleTable}
-use Rattle.mbe_rust.specs.Keywords.{rows, rust_keywords}
-use Rattle.mbe_rust.specs.Starts.{rust_starts}
+use Rattle.mbe_grammar.specs.declared.tables.table.RuleTable.{RuleTable}
+use Rattle.mbe_grammar.specs.Rust.Keywords.{rows, rust_keywords}
+use Rattle.mbe_grammar.specs.Rust.Starts.{rust_starts}
 use Rattle.mbe_expandm.specs.declared.reading.Reading.{Reading}
 use Rattle.mbe_expandm.specs.Conditions.{Conditions, IsUnder}
 

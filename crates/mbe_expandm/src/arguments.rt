@@ -11,7 +11,7 @@ use mbe_cfg::settings as cfg;
 use mbe_cfg::settings::Cfg;
 use mbe_cfg::targets::Target;
 use mbe_expanding::settings::{Explain, Settings};
-use mbe_rules::table::RuleTable;
+use mbe_grammar::tables::table::RuleTable;
 use mbe_tt::span::Edition;
 use std::alloc::{AllocError, Allocator, Global};
 

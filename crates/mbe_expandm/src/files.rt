@@ -4,7 +4,7 @@ ghost use Rattle.std.specs.String.{string_bytes};
 ghost use Rattle.mbe_expandm.specs.Returns.{plain, returns};
 ghost use Rattle.mbe_expandm.specs.Shown.{returns_of};
 ghost use Rattle.mbe_expandm.specs.Sources.{IsNoRust, IsTreeOf};
-ghost use Rattle.mbe_rules.specs.Lawful.{grammar_of};
+ghost use Rattle.mbe_grammar.specs.Tables.Lawful.{grammar_of};
 ghost use Rattle.mbe_stripping.specs.Stripping.{tree_without};
 ghost use Rattle.mbe_text.specs.Division.{trees_of};
 ghost use Rattle.mbe_text.specs.declared.dialect.Dialect.TheVariants.{Rust};

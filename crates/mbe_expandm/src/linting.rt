@@ -14,7 +14,7 @@ use crate::sessions::{DONE, ERRORS, Named, sources};
 use mbe_expanding::notes::Note;
 use mbe_lints::lint::Lint;
 use mbe_lints::linting::push_lints;
-use mbe_rust::fragments::rust_rules;
+use mbe_grammar::rust::fragments::rust_rules;
 use mbe_tt::span::Edition;
 use mbe_tt::tt::TopSubtree;
 use std::alloc::{AllocError, Global};

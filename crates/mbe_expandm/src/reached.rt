@@ -7,7 +7,7 @@ use crate::reading::Reading;
 use crate::sessions::Named;
 use mbe_following::following::Unfound;
 use mbe_modules::places::{Candidates, Place};
-use mbe_rust::fragments::rust_rules;
+use mbe_grammar::rust::fragments::rust_rules;
 use std::alloc::Global;
 use std::fs;
 use std::io::{self, Read};

@@ -1,6 +1,6 @@
 // How texts are read.
 use mbe_cfg::settings::Settings;
-use mbe_rules::table::RuleTable;
+use mbe_grammar::tables::table::RuleTable;
 use mbe_tt::span::Edition;
 
 /// How texts are read: in which edition, what `cfg` is evaluated under, and what is an item.

@@ -19,7 +19,7 @@ use crate::reading::Reading;
 use crate::saying::explained;
 use mbe_expanding::expander::Expander;
 use mbe_expanding::notes::{Level, Note};
-use mbe_rust::fragments::rust_rules;
+use mbe_grammar::rust::fragments::rust_rules;
 use mbe_text::symbols::SymbolTable;
 use std::alloc::{AllocError, Global};
 use std::io;

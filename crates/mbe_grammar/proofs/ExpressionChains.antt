@@ -2,13 +2,13 @@
 use Rattle.std.proofs.Common.{◌≡◌, ℕ, ◌<◌, Bool, true, false, List, [], ◌∷◌, map, None, Ok, Err, refl, sym, ap, ◌∙◌, subst, arith}
 use Rattle.std.specs.Prelude.{codes}
 use Rattle.mbe_tt.specs.Trees.Tree.{Forest, flat_len}
-use Rattle.mbe_rules.specs.declared.step.Miss.{Miss}
-use Rattle.mbe_rules.specs.declared.step.Miss.TheVariants.{Absent, Fault}
+use Rattle.mbe_grammar.specs.declared.tables.step.Miss.{Miss}
+use Rattle.mbe_grammar.specs.declared.tables.step.Miss.TheVariants.{Absent, Fault}
 use Rattle.mbe_grammar.specs.Rule.{one, part, ◌or◌, meaning, in_turn}
-use Rattle.mbe_rules.specs.Terminals.{Step, or_absent, after_one}
-use Rattle.mbe_rules.specs.Rule.{◌>>=◌, or_else, has_to_fit, if_fits, if_absent}
+use Rattle.mbe_grammar.specs.Tables.Terminals.{Step, or_absent, after_one}
+use Rattle.mbe_grammar.specs.Tables.Rule.{◌>>=◌, or_else, has_to_fit, if_fits, if_absent}
 use Rattle.mbe_grammar.specs.RuleLaws.{meaning_leaves}
-use Rattle.mbe_rules.specs.SingleTrees.{is_one_of, is_literal}
+use Rattle.mbe_grammar.specs.Tables.SingleTrees.{is_one_of, is_literal}
 use Rattle.mbe_grammar.specs.SampleGrammar.{Rules, Nonterminal, word, words, brace, any_group, expr_start, Operator, Operation, Expr, Prefix, Unary, Operand, KeywordBlock, JumpWord, JumpValue, Jump, PathExpr, Primary, Post, rule_of, takes}
 use Rattle.mbe_grammar.specs.Chains.{jump_to_value, plain_operand}
 use Rattle.mbe_grammar.specs.Lawful.{takes_some, takes_leaves}

@@ -12,12 +12,12 @@ use Rattle.mbe_tt.specs.declared.tt.Punct.{Punct}
 use Rattle.mbe_tt.specs.declared.tt.IdentIsRaw.{IdentIsRaw}
 use Rattle.mbe_tt.specs.declared.tt.IdentIsRaw.TheVariants.{No, Yes}
 use Rattle.mbe_tt.specs.declared.tt.DelimiterKind.{DelimiterKind}
-use Rattle.mbe_rules.specs.declared.step.Miss.TheVariants.{Absent, Fault}
+use Rattle.mbe_grammar.specs.declared.tables.step.Miss.TheVariants.{Absent, Fault}
 use Rattle.mbe_grammar.specs.Rule.{may_begin}
-use Rattle.mbe_rules.specs.Terminals.{Step, or_absent, after_one, after_operator}
-use Rattle.mbe_rules.specs.Rule.{◌>>=◌, or_else}
+use Rattle.mbe_grammar.specs.Tables.Terminals.{Step, or_absent, after_one, after_operator}
+use Rattle.mbe_grammar.specs.Tables.Rule.{◌>>=◌, or_else}
 use Rattle.mbe_grammar.specs.SingleTrees.{is_name}
-use Rattle.mbe_rules.specs.SingleTrees.{is_word, is_one_of, is_literal, is_punct, is_group}
+use Rattle.mbe_grammar.specs.Tables.SingleTrees.{is_word, is_one_of, is_literal, is_punct, is_group}
 
 -- the first tree passes the test
 abbrev pub Begins : (Tree → Bool) → Forest → Type 0

@@ -4,3 +4,7 @@ pub mod Parts
 pub mod PatternChains
 pub mod Rules
 pub mod TypeChains
+pub mod FlatTreeLemmas
+pub mod TakesLemmas
+pub mod WordLemmas
+pub mod ReadText

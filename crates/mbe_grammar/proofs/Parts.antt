@@ -1,11 +1,11 @@
 -- Each part of the program's grammar takes what its rule says.
 use Rattle.std.proofs.Common.{◌≡◌, ℕ, ◌<◌, ◌≤◌, true, Ok, Err, refl, arith}
 use Rattle.mbe_tt.specs.Trees.Tree.{Forest, flat_len}
-use Rattle.mbe_rules.specs.declared.step.Miss.TheVariants.{Absent, Fault}
+use Rattle.mbe_grammar.specs.declared.tables.step.Miss.TheVariants.{Absent, Fault}
 use Rattle.mbe_grammar.specs.declared.types.PathStyle.{PathStyle}
 use Rattle.mbe_grammar.specs.declared.types.PathStyle.TheVariants.{Plain, Expression}
 use Rattle.mbe_grammar.specs.Rule.{meaning, in_turn}
-use Rattle.mbe_rules.specs.Rule.{◌>>=◌}
+use Rattle.mbe_grammar.specs.Tables.Rule.{◌>>=◌}
 use Rattle.mbe_grammar.specs.SampleGrammar.{Nonterminal, Lifetime, Angle, Turbofish, Colons, Segment, NextSegment, Path, Indirection, Pointee, Ty, Block, Assignment, Meta, SignedLiteral, BindingMode, BoundPat, PathPat, Pat, Alternative, PatTop, Operator, Operation, Expr, Prefix, Unary, KeywordBlock, JumpWord, JumpValue, Jump, PathExpr, Primary, Operand, Field, Post, Annotation, Let, ItemStmt, Stmt, Item, Vis, rule_of, takes}
 use Rattle.mbe_grammar.specs.RuleLaws.{leaves_weaker, in_turn_leaves}
 use Rattle.mbe_grammar.specs.Lawful.{takes_some, solid_parts, takes_leaves}

@@ -3,11 +3,11 @@ use Rattle.std.proofs.Common.{◌≡◌, ℕ, ◌<◌, Bool, List, [], ◌∷◌
 use Rattle.std.specs.Prelude.{codes}
 use Rattle.mbe_tt.specs.Trees.Tree.{Forest, Tree, flat_len}
 use Rattle.mbe_tt.specs.declared.tt.DelimiterKind.TheVariants.{Parenthesis, Bracket}
-use Rattle.mbe_rules.specs.declared.step.Miss.TheVariants.{Absent, Fault}
+use Rattle.mbe_grammar.specs.declared.tables.step.Miss.TheVariants.{Absent, Fault}
 use Rattle.mbe_grammar.specs.Rule.{one, part, ◌or◌, meaning}
-use Rattle.mbe_rules.specs.Terminals.{Step, or_absent, after_one}
-use Rattle.mbe_rules.specs.Rule.{◌>>=◌, or_else}
-use Rattle.mbe_rules.specs.SingleTrees.{is_one_of, is_literal, is_punct, is_group}
+use Rattle.mbe_grammar.specs.Tables.Terminals.{Step, or_absent, after_one}
+use Rattle.mbe_grammar.specs.Tables.Rule.{◌>>=◌, or_else}
+use Rattle.mbe_grammar.specs.Tables.SingleTrees.{is_one_of, is_literal, is_punct, is_group}
 use Rattle.mbe_grammar.specs.SampleGrammar.{Rules, word, parenthesis_or_bracket, SignedLiteral, BindingMode, BoundPat, PathPat, Pat, rule_of, takes}
 use Rattle.mbe_grammar.specs.Chains.{direct_pattern}
 use Rattle.mbe_grammar.proofs.Rules.{never_faults}

@@ -2,10 +2,10 @@
 use Rattle.std.proofs.Common.{◌≡◌, ℕ, zero, suc, ◌+◌, ◌-◌, ◌*◌, ◌<◌, ◌≤◌, Bool, true, false, ◌&&◌, Option, Some, None, Ok, Err, refl, sym, ap, ◌∙◌, subst, arith, ltb-true, zero-add}
 use Rattle.std.specs.Prelude.{if◌then◌else◌, nat_lt}
 use Rattle.mbe_tt.specs.Trees.Tree.{Forest, flat_len}
-use Rattle.mbe_rules.specs.declared.step.Miss.TheVariants.{Absent, Fault}
+use Rattle.mbe_grammar.specs.declared.tables.step.Miss.TheVariants.{Absent, Fault}
 use Rattle.mbe_grammar.specs.Rule.{Rule, one, puncts_of, through, to_closing_angle, part, ◌then◌, ◌or◌, maybe, repeated, needed, ahead, not_ahead, in_turn, meaning, taken_within, taken}
-use Rattle.mbe_rules.specs.Terminals.{Step, or_absent}
-use Rattle.mbe_rules.specs.Rule.{◌>>=◌, or_else, has_to_fit, if_fits, if_absent, once_more, times}
+use Rattle.mbe_grammar.specs.Tables.Terminals.{Step, or_absent}
+use Rattle.mbe_grammar.specs.Tables.Rule.{◌>>=◌, or_else, has_to_fit, if_fits, if_absent, once_more, times}
 use Rattle.mbe_grammar.specs.RuleLaws.{count, Leaves, leaves_weaker, is_solid, Solid, meaning_leaves, within_leaves, taken_leaves}
 
 -- ---- parts that call one another

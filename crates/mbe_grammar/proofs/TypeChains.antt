@@ -2,16 +2,16 @@
 use Rattle.std.proofs.Common.{◌≡◌, ℕ, zero, suc, ◌<◌, Bool, true, false, List, [], ◌∷◌, None, Ok, Err, inl, inr, refl, sym, ap, ◌∙◌, arith, true≢false}
 use Rattle.std.specs.Prelude.{◌==◌, codes}
 use Rattle.mbe_tt.specs.Trees.Tree.{Forest, Tree, flat_len}
-use Rattle.mbe_rules.specs.declared.step.Miss.TheVariants.{Absent, Fault}
+use Rattle.mbe_grammar.specs.declared.tables.step.Miss.TheVariants.{Absent, Fault}
 use Rattle.mbe_grammar.specs.declared.types.PathStyle.{PathStyle}
 use Rattle.mbe_grammar.specs.declared.types.PathStyle.TheVariants.{Plain, Expression}
 use Rattle.mbe_tt.specs.declared.tt.DelimiterKind.{DelimiterKind}
 use Rattle.mbe_tt.specs.declared.tt.DelimiterKind.TheVariants.{Parenthesis, Bracket}
 use Rattle.mbe_grammar.specs.Rule.{one, part, ◌then◌, ◌or◌, maybe, repeated, needed, ahead, meaning, in_turn}
-use Rattle.mbe_rules.specs.Terminals.{Step, or_absent, after_one}
-use Rattle.mbe_rules.specs.Rule.{◌>>=◌, or_else}
+use Rattle.mbe_grammar.specs.Tables.Terminals.{Step, or_absent, after_one}
+use Rattle.mbe_grammar.specs.Tables.Rule.{◌>>=◌, or_else}
 use Rattle.mbe_grammar.specs.SingleTrees.{is_name}
-use Rattle.mbe_rules.specs.SingleTrees.{is_one_of, is_punct, is_group}
+use Rattle.mbe_grammar.specs.Tables.SingleTrees.{is_one_of, is_punct, is_group}
 use Rattle.mbe_grammar.specs.SampleGrammar.{Rules, word, words, puncts, reference_sign, pointer_sign, parenthesis_or_bracket, Nonterminal, Lifetime, Angle, Turbofish, Colons, Segment, NextSegment, Path, Indirection, Pointee, Ty, rule_of, takes}
 use Rattle.mbe_grammar.specs.Chains.{direct_type}
 use Rattle.mbe_grammar.proofs.Rules.{never_faults}

@@ -2,7 +2,7 @@
 use Rattle.std.specs.Prelude.{[], ◌∷◌}
 use Rattle.mbe_grammar.specs.declared.types.PathStyle.TheVariants.{Plain}
 use Rattle.mbe_grammar.specs.Rule.{one, part, ◌then◌, ◌or◌, repeated, ahead, not_ahead}
-use Rattle.mbe_rules.specs.SingleTrees.{is_literal}
+use Rattle.mbe_grammar.specs.Tables.SingleTrees.{is_literal}
 use Rattle.mbe_grammar.specs.SampleGrammar.{Rules, words, word, puncts, parenthesis_or_bracket, any_group, expr_start, Path, SignedLiteral, PathPat, KeywordBlock, JumpWord, PathExpr, Post}
 
 -- a type that no indirection begins

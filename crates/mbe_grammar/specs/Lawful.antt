@@ -5,9 +5,9 @@ use Rattle.mbe_tt.specs.Trees.Tree.{Forest, flat_len}
 use Rattle.mbe_tt.specs.Fragments.Grammar.{IsLawful}
 use Rattle.mbe_tt.specs.declared.grammar.PrefixEntryPoint.{PrefixEntryPoint}
 use Rattle.mbe_tt.specs.declared.grammar.PrefixEntryPoint.TheVariants as entries
-use Rattle.mbe_rules.specs.FlatTrees.{trees_of_flat}
-use Rattle.mbe_rules.specs.Lawful.{flat_len-trees_of_flat}
-use Rattle.mbe_rules.specs.Terminals.{Step}
+use Rattle.mbe_grammar.specs.Tables.FlatTrees.{trees_of_flat}
+use Rattle.mbe_grammar.specs.Tables.Lawful.{flat_len-trees_of_flat}
+use Rattle.mbe_grammar.specs.Tables.Terminals.{Step}
 use Rattle.mbe_grammar.specs.SampleGrammar.{Nonterminal, Segment, Vis, rule_of, part_of, takes, front_of, answer, sample}
 use Rattle.mbe_grammar.specs.declared.types.PathStyle.TheVariants.{Plain, Expression}
 use Rattle.mbe_grammar.specs.RuleLaws.{is_solid, Leaves, taken_leaves}

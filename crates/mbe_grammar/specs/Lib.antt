@@ -5,3 +5,6 @@ pub mod Rule
 pub mod RuleLaws
 pub mod SampleGrammar
 pub mod SingleTrees
+pub mod Tables
+pub mod Text
+pub mod Rust

@@ -2,11 +2,11 @@
 use Rattle.std.specs.Prelude.{ℕ, ◌<◌, ⊤, Result, Ok, Err}
 use Rattle.mbe_tt.specs.Trees.Tree.{flat_len}
 use Rattle.mbe_tt.specs.Views.View.{trees}
-use Rattle.mbe_rules.specs.declared.step.Miss.{Miss}
+use Rattle.mbe_grammar.specs.declared.tables.step.Miss.{Miss}
 use Rattle.mbe_grammar.specs.declared.expressions.Link.{Link}
 use Rattle.mbe_grammar.specs.declared.expressions.Link.TheVariants.{End, GoesOn}
-use Rattle.mbe_rules.specs.Terminals.{Step}
-use Rattle.mbe_rules.specs.Rule.{has_to_fit}
+use Rattle.mbe_grammar.specs.Tables.Terminals.{Step}
+use Rattle.mbe_grammar.specs.Tables.Rule.{has_to_fit}
 use Rattle.mbe_grammar.specs.SampleGrammar.{Expr, takes}
 
 -- the whole takes what its front does where it ends there, and else what the rest does, which has to fit

@@ -7,10 +7,10 @@ use Rattle.mbe_tt.specs.Trees.Tree.{Forest, none, leaf, group, Tree, Leaf_tree, 
 use Rattle.mbe_tt.specs.Trees.Leaf.{Leaf, punct, literal, ident}
 use Rattle.mbe_tt.specs.declared.tt.Spacing.{Spacing}
 use Rattle.mbe_tt.specs.declared.tt.Spacing.TheVariants.{Alone, Joint}
-use Rattle.mbe_rules.specs.Rule.{◌>>=◌, or_else, has_to_fit, if_fits, if_absent, times}
-use Rattle.mbe_rules.specs.SingleTrees.{is_char}
-use Rattle.mbe_rules.specs.Terminals.{Step, or_absent, after_one, after_operator}
-use Rattle.mbe_rules.specs.declared.step.Miss.TheVariants.{Fault}
+use Rattle.mbe_grammar.specs.Tables.Rule.{◌>>=◌, or_else, has_to_fit, if_fits, if_absent, times}
+use Rattle.mbe_grammar.specs.Tables.SingleTrees.{is_char}
+use Rattle.mbe_grammar.specs.Tables.Terminals.{Step, or_absent, after_one, after_operator}
+use Rattle.mbe_grammar.specs.declared.tables.step.Miss.TheVariants.{Fault}
 
 -- a rule of a grammar that has these parts
 pub data Rule (P : Type 0) : Type 0 where

@@ -9,11 +9,11 @@ use Rattle.mbe_tt.specs.Trees.Tree.{Forest, none, leaf, group, Tree, Leaf_tree, 
 use Rattle.mbe_tt.specs.Trees.Leaf.{Leaf, punct, literal, ident}
 use Rattle.mbe_tt.specs.Trees.Glue.{glue, chars_of, if_joint, joined}
 use Rattle.mbe_tt.specs.declared.tt.Punct.{Punct}
-use Rattle.mbe_rules.specs.declared.step.Miss.TheVariants.{Absent, Fault}
+use Rattle.mbe_grammar.specs.declared.tables.step.Miss.TheVariants.{Absent, Fault}
 use Rattle.mbe_grammar.specs.Rule.{Rule, one, puncts_of, through, to_closing_angle, part, ◌then◌, ◌or◌, maybe, repeated, needed, ahead, not_ahead, or_fault, in_turn, past_first, after_angle, begins_arrow, meaning, taken_within, taken}
-use Rattle.mbe_rules.specs.Terminals.{Step, or_absent, after_one, after_operator}
-use Rattle.mbe_rules.specs.Rule.{◌>>=◌, or_else, has_to_fit, if_fits, if_absent, once_more, times}
-use Rattle.mbe_rules.specs.SingleTrees.{is_char}
+use Rattle.mbe_grammar.specs.Tables.Terminals.{Step, or_absent, after_one, after_operator}
+use Rattle.mbe_grammar.specs.Tables.Rule.{◌>>=◌, or_else, has_to_fit, if_fits, if_absent, once_more, times}
+use Rattle.mbe_grammar.specs.Tables.SingleTrees.{is_char}
 
 -- ---- what is left
 

@@ -15,11 +15,11 @@ use Rattle.mbe_tt.specs.declared.grammar.PrefixEntryPoint.{PrefixEntryPoint}
 use Rattle.mbe_tt.specs.declared.grammar.PrefixEntryPoint.TheVariants as entries
 use Rattle.mbe_grammar.specs.declared.types.PathStyle.{PathStyle}
 use Rattle.mbe_grammar.specs.declared.types.PathStyle.TheVariants.{Plain, Expression}
-use Rattle.mbe_rules.specs.FlatTrees.{trees_of_flat}
+use Rattle.mbe_grammar.specs.Tables.FlatTrees.{trees_of_flat}
 use Rattle.mbe_grammar.specs.Rule.{Rule, one, puncts_of, through, to_closing_angle, part, ◌then◌, ◌or◌, maybe, repeated, needed, ahead, not_ahead, taken}
-use Rattle.mbe_rules.specs.Terminals.{Step}
+use Rattle.mbe_grammar.specs.Tables.Terminals.{Step}
 use Rattle.mbe_grammar.specs.SingleTrees.{is_name, is_no_punct, is_scope}
-use Rattle.mbe_rules.specs.SingleTrees.{is_one_of, is_identifier, is_literal, is_punct, is_group}
+use Rattle.mbe_grammar.specs.Tables.SingleTrees.{is_one_of, is_identifier, is_literal, is_punct, is_group}
 
 -- the parts of the grammar
 pub data Nonterminal : Type 0 where

@@ -3,8 +3,8 @@ use Rattle.std.specs.Prelude.{Bool, true, false, not, ◌&&◌, is_some, [], ◌
 use Rattle.mbe_tt.specs.Trees.Tree.{Tree, Leaf_tree, Group_tree, is_same_kind}
 use Rattle.mbe_tt.specs.Trees.Leaf.{literal, punct, ident, is_underscore}
 use Rattle.mbe_tt.specs.declared.tt.DelimiterKind.TheVariants.{Parenthesis}
-use Rattle.mbe_rules.specs.SingleTrees.{is_one_of}
-use Rattle.mbe_rules.specs.Terminals.{after_one}
+use Rattle.mbe_grammar.specs.Tables.SingleTrees.{is_one_of}
+use Rattle.mbe_grammar.specs.Tables.Terminals.{after_one}
 
 -- any identifier but `_`
 abbrev pub is_name : Tree → Bool

@@ -9,14 +9,14 @@ ghost use Rattle.mbe_tt.specs.Views.View.{trees};
 ghost use Rattle.mbe_grammar.specs.Rule.{in_turn, meaning};
 ghost use Rattle.mbe_grammar.specs.SampleGrammar.{takes, macro_argument, method, any_group, operators, mut_reference, expr_start, Operator, Operation, Expr, Prefix, KeywordBlock, JumpWord, PathExpr, Field, Post};
 ghost use Rattle.mbe_grammar.specs.Chains.{jump_to_value, plain_primary, plain_operand};
-ghost use Rattle.mbe_rules.specs.Steps.{seen};
+ghost use Rattle.mbe_grammar.specs.Tables.Steps.{seen};
 ghost use Rattle.mbe_grammar.specs.Links.{whole, GoesOnWithin};
 
 use crate::patterns::mut_reference;
 use crate::tokens::{name, no_punct, puncts};
 use crate::types::{PathStyle, lifetime, path, turbofish};
-use mbe_rules::step::{Miss, Step, ahead, maybe, not_ahead};
-use mbe_rules::terminals::{group, literal, sign, word};
+use crate::tables::step::{Miss, Step, ahead, maybe, not_ahead};
+use crate::tables::terminals::{group, literal, sign, word};
 use mbe_tt::tt::{DelimiterKind, Leaf, Punct, TokenTreesView, TtElement};
 use std::alloc::Allocator;
 

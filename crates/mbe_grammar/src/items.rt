@@ -4,17 +4,17 @@ ghost use Rattle.mbe_tt.specs.Views.Element.{element_tree};
 ghost use Rattle.mbe_tt.specs.Trees.Tree.{first};
 ghost use Rattle.mbe_tt.specs.Views.View.{trees};
 ghost use Rattle.mbe_grammar.specs.Rule.{or_fault, past_first, meaning};
-ghost use Rattle.mbe_rules.specs.Terminals.{or_absent, after_one};
+ghost use Rattle.mbe_grammar.specs.Tables.Terminals.{or_absent, after_one};
 ghost use Rattle.mbe_grammar.specs.SingleTrees.{is_scope};
 ghost use Rattle.mbe_grammar.specs.SampleGrammar.{takes, is_item_end, short_item, long_item, item_word, const_block, public, Block, Assignment, Meta, Annotation, Let, ItemStmt, Stmt, Item, Vis};
-ghost use Rattle.mbe_rules.specs.Steps.{seen};
+ghost use Rattle.mbe_grammar.specs.Tables.Steps.{seen};
 
 use crate::expressions::{VISIBLE, expr};
 use crate::patterns::pat_top;
 use crate::tokens::puncts;
 use crate::types::{PathStyle, path, ty};
-use mbe_rules::step::{Miss, Step, ahead, maybe, not_ahead};
-use mbe_rules::terminals::{group, word};
+use crate::tables::step::{Miss, Step, ahead, maybe, not_ahead};
+use crate::tables::terminals::{group, word};
 use mbe_tt::tt::{DelimiterKind, Leaf, TokenTreesView, TtElement};
 use std::alloc::Allocator;
 

@@ -5,14 +5,14 @@
 ghost use Rattle.std.specs.Prelude.{◌≡◌};
 ghost use Rattle.mbe_tt.specs.Views.View.{trees};
 ghost use Rattle.mbe_grammar.specs.SampleGrammar.{takes, part_of, answer};
-ghost use Rattle.mbe_rules.specs.Steps.{seen};
+ghost use Rattle.mbe_grammar.specs.Tables.Steps.{seen};
 
 // The step of the first part that is there.
 macro_rules! first_of {
     ($step:expr) => { $step };
     ($step:expr, $($more:expr),+) => {
         match $step {
-            Err(mbe_rules::step::Miss::Absent) => first_of!($($more),+),
+            Err(crate::tables::step::Miss::Absent) => first_of!($($more),+),
             taken => taken,
         }
     };
@@ -21,6 +21,9 @@ macro_rules! first_of {
 mod expressions;
 mod items;
 mod patterns;
+pub mod rust;
+pub mod tables;
+pub mod text;
 mod tokens;
 mod types;
 
@@ -28,8 +31,8 @@ use crate::expressions::expr;
 use crate::items::{block, item, meta, stmt, vis};
 use crate::patterns::{pat, pat_top};
 use crate::types::{PathStyle, path, ty};
-use mbe_rules::step::Step;
-use mbe_rules::terminals::is_text_of;
+use crate::tables::step::Step;
+use crate::tables::terminals::is_text_of;
 use mbe_tt::grammar::{FragmentGrammar, Front, PrefixEntryPoint};
 use mbe_tt::tt::TokenTreesView;
 use std::alloc::{AllocError, Allocator};

@@ -4,12 +4,12 @@ ghost use Rattle.mbe_tt.specs.Views.View.{trees};
 ghost use Rattle.mbe_grammar.specs.Rule.{in_turn, meaning};
 ghost use Rattle.mbe_grammar.specs.SampleGrammar.{takes, mut_reference, SignedLiteral, BindingMode, PathPat, Pat, Alternative, PatTop};
 ghost use Rattle.mbe_grammar.specs.Chains.{direct_pattern};
-ghost use Rattle.mbe_rules.specs.Steps.{seen};
+ghost use Rattle.mbe_grammar.specs.Tables.Steps.{seen};
 
 use crate::tokens::puncts;
 use crate::types::{PathStyle, path};
-use mbe_rules::step::{Miss, Step, either, maybe, needed};
-use mbe_rules::terminals::{group, literal, sign, word};
+use crate::tables::step::{Miss, Step, either, maybe, needed};
+use crate::tables::terminals::{group, literal, sign, word};
 use mbe_tt::tt::{DelimiterKind, TokenTreesView};
 use std::alloc::Allocator;
 

@@ -5,11 +5,11 @@ ghost use Rattle.mbe_tt.specs.Trees.Glue.{chars_of};
 ghost use Rattle.mbe_tt.specs.Trees.Tree.{flat_len};
 ghost use Rattle.mbe_tt.specs.Views.View.{trees};
 ghost use Rattle.mbe_grammar.specs.Rule.{or_fault, after_angle, may_begin};
-ghost use Rattle.mbe_rules.specs.Terminals.{or_absent, after_one, after_operator};
+ghost use Rattle.mbe_grammar.specs.Tables.Terminals.{or_absent, after_one, after_operator};
 ghost use Rattle.mbe_grammar.specs.SingleTrees.{is_name, is_no_punct};
-ghost use Rattle.mbe_rules.specs.Steps.{seen};
+ghost use Rattle.mbe_grammar.specs.Tables.Steps.{seen};
 
-use mbe_rules::step::{Miss, Step};
+use crate::tables::step::{Miss, Step};
 use mbe_tt::tt::{Leaf, Punct, Spacing, TokenTreesView, TtElement};
 use std::alloc::Allocator;
 

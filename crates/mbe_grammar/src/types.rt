@@ -4,11 +4,11 @@ ghost use Rattle.mbe_tt.specs.Views.View.{trees};
 ghost use Rattle.mbe_grammar.specs.Rule.{in_turn, meaning};
 ghost use Rattle.mbe_grammar.specs.SampleGrammar.{takes, reference_sign, pointer_sign, Lifetime, Angle, Turbofish, Colons, Segment, NextSegment, Path, Indirection, Ty};
 ghost use Rattle.mbe_grammar.specs.Chains.{direct_type};
-ghost use Rattle.mbe_rules.specs.Steps.{seen};
+ghost use Rattle.mbe_grammar.specs.Tables.Steps.{seen};
 
 use crate::tokens::{closing, name, puncts};
-use mbe_rules::step::{Miss, Step, ahead, maybe, needed};
-use mbe_rules::terminals::{group, identifier, sign, word};
+use crate::tables::step::{Miss, Step, ahead, maybe, needed};
+use crate::tables::terminals::{group, identifier, sign, word};
 use mbe_tt::tt::{DelimiterKind, TokenTreesView};
 use std::alloc::Allocator;
 

@@ -10,14 +10,14 @@ use Rattle.mbe_text.specs.declared.scanner.LexFault.{LexFault}
 use Rattle.mbe_text.specs.declared.lexer.LexError.{LexError}
 use Rattle.mbe_text.specs.declared.lexer.LexError.TheVariants as lex_errors
 use Rattle.mbe_text.specs.Division.{Lexes, trees_of}
-use Rattle.mbe_rules.specs.declared.node.Keyword.{Keyword}
-use Rattle.mbe_rules.specs.declared.node.Node.{Node}
-use Rattle.mbe_rules.specs.declared.table.RuleTable.{RuleTable}
-use Rattle.mbe_rules.specs.declared.table.Starts.{Starts}
-use Rattle.mbe_rules_text.specs.declared.fault.RuleFault.{RuleFault}
-use Rattle.mbe_rules_text.specs.declared.fault.RuleFault.TheVariants as rule_faults
-use Rattle.mbe_rules_text.specs.Text.{read_text}
-use Rattle.mbe_rules_text.specs.Views.{Faults, plain_keyword, plain_node, plain_reason}
+use Rattle.mbe_grammar.specs.declared.tables.node.Keyword.{Keyword}
+use Rattle.mbe_grammar.specs.declared.tables.node.Node.{Node}
+use Rattle.mbe_grammar.specs.declared.tables.table.RuleTable.{RuleTable}
+use Rattle.mbe_grammar.specs.declared.tables.table.Starts.{Starts}
+use Rattle.mbe_grammar.specs.declared.text.fault.RuleFault.{RuleFault}
+use Rattle.mbe_grammar.specs.declared.text.fault.RuleFault.TheVariants as rule_faults
+use Rattle.mbe_grammar.specs.Text.Text.{read_text}
+use Rattle.mbe_grammar.specs.Text.Views.{Faults, plain_keyword, plain_node, plain_reason}
 use Rattle.mbe_flat.specs.declared.reading.FlatError.{FlatError}
 use Rattle.mbe_flat.specs.declared.reading.FlatError.TheVariants as flat_errors
 use Rattle.mbe_replies.specs.declared.asked.GrammarKind.{GrammarKind}

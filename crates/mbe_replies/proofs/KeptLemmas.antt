@@ -1,8 +1,8 @@
 -- A macro that is kept, and its answers to calls.
 use Rattle.std.proofs.Common.{◌≡◌, inr, ℕ, List, Result, Ok, Err, None, ap, subst, sym, ◌∙◌, not-le_of_lt}
 use Rattle.std.specs.Prelude.{⊤}
-use Rattle.mbe_rules_text.specs.Text.{read_text}
-use Rattle.mbe_rules_text.specs.Views.{rules_seen}
+use Rattle.mbe_grammar.specs.Text.Text.{read_text}
+use Rattle.mbe_grammar.specs.Text.Views.{rules_seen}
 use Rattle.mbe_replies.specs.declared.answer.Part.{Part}
 use Rattle.mbe_replies.specs.declared.answer.Part.TheVariants as parts
 use Rattle.mbe_replies.specs.declared.answer.Status.TheVariants.{Number, OutOfMemory}

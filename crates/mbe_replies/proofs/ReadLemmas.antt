@@ -5,11 +5,11 @@ use Rattle.mbe_tt.specs.declared.span.Edition.{Edition}
 use Rattle.mbe_tt.specs.declared.span.Span.{Span}
 use Rattle.mbe_tt.specs.Trees.Top.{Top, top_group}
 use Rattle.mbe_tt.specs.Fragments.Grammar.{Grammar}
-use Rattle.mbe_rules.specs.declared.table.RuleTable.{RuleTable}
+use Rattle.mbe_grammar.specs.declared.tables.table.RuleTable.{RuleTable}
 use Rattle.mbe_grammar.specs.SampleGrammar.{sample}
-use Rattle.mbe_rules.specs.Lawful.{grammar_of}
-use Rattle.mbe_rules_text.specs.Words.{borrowed}
-use Rattle.mbe_rules_text.specs.declared.rules.Rules.{Rules}
+use Rattle.mbe_grammar.specs.Tables.Lawful.{grammar_of}
+use Rattle.mbe_grammar.specs.Text.Words.{borrowed}
+use Rattle.mbe_grammar.specs.declared.text.rules.Rules.{Rules}
 use Rattle.mbe_semantics.specs.Expansion.Error.{ExpandError}
 use Rattle.mbe.specs.MacroViews.{macro_of}
 use Rattle.mbe.specs.OneAnswer.{IsAnswer}

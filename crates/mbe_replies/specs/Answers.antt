@@ -4,11 +4,11 @@ use Rattle.std.specs.String.{string_bytes}
 use Rattle.mbe_tt.specs.declared.span.Span.{Span}
 use Rattle.mbe_text.specs.Tokens.{bytes_of}
 use Rattle.mbe_text.specs.declared.scanner.LexFault.{LexFault}
-use Rattle.mbe_rules_text.specs.declared.fault.Place.{Place}
-use Rattle.mbe_rules_text.specs.declared.fault.Reason.{Reason}
-use Rattle.mbe_rules_text.specs.declared.fault.RuleFault.{RuleFault}
-use Rattle.mbe_rules_text.specs.declared.fault.RuleFault.TheVariants as rule_faults
-use Rattle.mbe_rules_text.specs.Text.{read_text}
+use Rattle.mbe_grammar.specs.declared.text.fault.Place.{Place}
+use Rattle.mbe_grammar.specs.declared.text.fault.Reason.{Reason}
+use Rattle.mbe_grammar.specs.declared.text.fault.RuleFault.{RuleFault}
+use Rattle.mbe_grammar.specs.declared.text.fault.RuleFault.TheVariants as rule_faults
+use Rattle.mbe_grammar.specs.Text.Text.{read_text}
 use Rattle.mbe_semantics.specs.Syntax.Template.{Fault}
 use Rattle.mbe_semantics.specs.Expansion.Error.{text_of_fault}
 use Rattle.mbe_errors.specs.ErrorViews.{parse_error_of}

@@ -10,13 +10,13 @@ use Rattle.mbe_text.specs.declared.scanner.LexFault.{LexFault}
 use Rattle.mbe_text.specs.Division.{trees_of}
 use Rattle.mbe_text.specs.Printing.{tree_text}
 use Rattle.mbe_grammar.specs.SampleGrammar.{sample}
-use Rattle.mbe_rules.specs.declared.table.RuleTable.{RuleTable}
-use Rattle.mbe_rules.specs.Lawful.{grammar_of}
-use Rattle.mbe_rules_text.specs.Text.{Table, read_text}
-use Rattle.mbe_rules_text.specs.Views.{plain_keyword, plain_node}
-use Rattle.mbe_rust.specs.Closed.{are_there}
-use Rattle.mbe_rust.specs.Keywords.{rows, rust_keywords}
-use Rattle.mbe_rust.specs.Starts.{rust_starts}
+use Rattle.mbe_grammar.specs.declared.tables.table.RuleTable.{RuleTable}
+use Rattle.mbe_grammar.specs.Tables.Lawful.{grammar_of}
+use Rattle.mbe_grammar.specs.Text.Text.{Table, read_text}
+use Rattle.mbe_grammar.specs.Text.Views.{plain_keyword, plain_node}
+use Rattle.mbe_grammar.specs.Rust.Closed.{are_there}
+use Rattle.mbe_grammar.specs.Rust.Keywords.{rows, rust_keywords}
+use Rattle.mbe_grammar.specs.Rust.Starts.{rust_starts}
 use Rattle.mbe_text.specs.RustText.Writing.{text_of}
 use Rattle.mbe_semantics.specs.Syntax.Definition.{Rule}
 use Rattle.mbe_semantics.specs.Syntax.Template.{Fault}

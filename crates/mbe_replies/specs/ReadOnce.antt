@@ -3,8 +3,8 @@ use Rattle.std.specs.Prelude.{◌≡◌, ℕ, List, Option, None, Ok}
 use Rattle.mbe_tt.specs.declared.span.Span.{Span}
 use Rattle.mbe_tt.specs.Trees.Top.{Top, top_group}
 use Rattle.mbe_tt.specs.Fragments.Grammar.{Grammar}
-use Rattle.mbe_rules_text.specs.Text.{read_text}
-use Rattle.mbe_rules_text.specs.Views.{rules_seen}
+use Rattle.mbe_grammar.specs.Text.Text.{read_text}
+use Rattle.mbe_grammar.specs.Text.Views.{rules_seen}
 use Rattle.mbe_semantics.specs.Expansion.Error.{ExpandError}
 use Rattle.mbe_semantics.specs.Expansion.ReadAs.{IsReadAs}
 use Rattle.mbe.specs.MacroViews.{macro_of}

@@ -10,7 +10,7 @@ use mbe::{ExpandError, ParseError};
 use mbe_flat::reading::{FlatError, Wrong};
 use mbe_flat::token::FlatToken;
 use mbe_program::expanding::Unread;
-use mbe_rules_text::fault::RuleFault;
+use mbe_grammar::text::fault::RuleFault;
 use mbe_text::scanner::{LexFault, file_span};
 use mbe_tt::span::Span;
 use std::alloc::{AllocError, Allocator};

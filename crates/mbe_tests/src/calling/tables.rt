@@ -1,8 +1,8 @@
 // A grammar as a table.
 ghost use Rattle.std.specs.Prelude.{◌<◌, ◌^◌, length};
 
-use mbe_rules::node::{Keyword, Node, Terminal};
-use mbe_rules::table::{RuleTable, Starts};
+use mbe_grammar::tables::node::{Keyword, Node, Terminal};
+use mbe_grammar::tables::table::{RuleTable, Starts};
 use mbe_text::lexer::{LexError, lex};
 use mbe_tt::grammar::{FragmentGrammar, PrefixEntryPoint};
 use mbe_tt::span::Edition;

@@ -1,8 +1,8 @@
 // Tables that are read from texts, and where a text is no grammar.
 use crate::text::taking::takes;
-use mbe_rules::node::Node;
-use mbe_rules_text::fault::RuleFault;
-use mbe_rules_text::rules::Rules;
+use mbe_grammar::tables::node::Node;
+use mbe_grammar::text::fault::RuleFault;
+use mbe_grammar::text::rules::Rules;
 use mbe_tt::grammar::{FragmentGrammar, PrefixEntryPoint};
 use mbe_tt::span::Edition;
 use std::alloc::{AllocError, Global};

@@ -1,7 +1,7 @@
 // What the rules of a small table take of texts, and that no table and no text is too much.
 use crate::text::taking::takes;
-use mbe_rules::node::{Keyword, Node, Terminal};
-use mbe_rules::table::{RuleTable, Starts};
+use mbe_grammar::tables::node::{Keyword, Node, Terminal};
+use mbe_grammar::tables::table::{RuleTable, Starts};
 use mbe_tt::grammar::PrefixEntryPoint;
 use mbe_tt::span::Edition;
 use mbe_tt::tt::DelimiterKind;

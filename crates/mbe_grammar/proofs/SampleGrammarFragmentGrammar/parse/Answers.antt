@@ -1,7 +1,7 @@
 use Rattle.std.proofs.Common.{sym, ap, ◌∙◌}
 use Rattle.mbe_tt.specs.Views.View.{trees}
 use Rattle.mbe_grammar.specs.SampleGrammar.{answer}
-use Rattle.mbe_rules.proofs.FlatTreeLemmas.{trees_of_flat-flat}
+use Rattle.mbe_grammar.proofs.FlatTreeLemmas.{trees_of_flat-flat}
 use Rattle.mbe_grammar.proofs.SampleGrammarFragmentGrammar.parse.Goals as goal
 
 pub returns : goal.returns

@@ -1,7 +1,7 @@
 use Rattle.std.proofs.Common.{◌≡◌, Err}
 use Rattle.mbe_tt.specs.Trees.Tree.{flat_len}
 use Rattle.mbe_tt.specs.Views.View.{trees}
-use Rattle.mbe_rules.specs.Rule.{or_else}
+use Rattle.mbe_grammar.specs.Tables.Rule.{or_else}
 use Rattle.mbe_grammar.specs.SampleGrammar.{takes, Expr}
 use Rattle.mbe_grammar.proofs.expressions.expr.Given as goal
 

@@ -1,9 +1,9 @@
 use Rattle.std.proofs.Common.{◌≡◌}
 use Rattle.mbe_tt.specs.Trees.Tree.{flat_len}
 use Rattle.mbe_tt.specs.Views.View.{trees}
-use Rattle.mbe_rules.specs.Rule.{or_else}
+use Rattle.mbe_grammar.specs.Tables.Rule.{or_else}
 use Rattle.mbe_grammar.specs.SampleGrammar.{takes, Pat}
-use Rattle.mbe_rules.specs.Steps.{seen}
+use Rattle.mbe_grammar.specs.Tables.Steps.{seen}
 use Rattle.mbe_grammar.proofs.patterns.pat.Given as goal
 
 abbrev pub invariant-modes : goal.invariant-modes

@@ -1,7 +1,7 @@
 use Rattle.std.proofs.Common.{refl}
 use Rattle.std.proofs.lemmas.Result.{err_from_is_err_and}
 use Rattle.mbe_grammar.specs.SampleGrammar.{sample}
-use Rattle.mbe_rules.specs.Lawful.{grammar_of}
+use Rattle.mbe_grammar.specs.Tables.Lawful.{grammar_of}
 use Rattle.mbe_replies.specs.declared.answer.Answer as given
 use Rattle.mbe_replies.specs.declared.asked.GrammarKind.TheVariants as grammars
 use Rattle.mbe_replies.specs.Answers.{answer_of}

@@ -2,7 +2,7 @@ use Rattle.std.proofs.Common.{◌+◌, ◌∙◌, ap, sym, subst, map, length, [
 use Rattle.std.proofs.lemmas.List.{length-map, length_push, map-append}
 use Rattle.std.proofs.lemmas.Option.{none-some}
 use Rattle.mbe.specs.MacroViews.{macro_of}
-use Rattle.mbe_rules.specs.Lawful.{grammar_of}
+use Rattle.mbe_grammar.specs.Tables.Lawful.{grammar_of}
 use Rattle.mbe_expanding.specs.Explained.{FirstSay, no_rule, one_more, Says, rule_seen}
 use Rattle.mbe_expanding.specs.Taking.{Takes}
 use Rattle.mbe_expanding.specs.declared.explaining.RuleSaid.{RuleSaid}

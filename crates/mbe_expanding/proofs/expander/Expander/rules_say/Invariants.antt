@@ -1,6 +1,6 @@
 use Rattle.std.specs.Prelude.{◌≡◌, length, map}
 use Rattle.mbe.specs.MacroViews.{macro_of}
-use Rattle.mbe_rules.specs.Lawful.{grammar_of}
+use Rattle.mbe_grammar.specs.Tables.Lawful.{grammar_of}
 use Rattle.mbe_expanding.specs.Explained.{FirstSay, rule_seen}
 use Rattle.mbe_expanding.proofs.expander.Expander.rules_say.Given as goal
 

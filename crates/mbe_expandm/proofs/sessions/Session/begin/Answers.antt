@@ -1,6 +1,6 @@
 use Rattle.std.proofs.Common.{◌≡◌, ◌∙◌, [], ap, sym, arith, length, map}
 use Rattle.std.proofs.lemmas.Simd.{map-map}
-use Rattle.mbe_rules.specs.Lawful.{grammar_of}
+use Rattle.mbe_grammar.specs.Tables.Lawful.{grammar_of}
 use Rattle.mbe_expanding.specs.Shown.{setting_of, state_of}
 use Rattle.mbe_expandm.specs.ShownFiles.{source_of}
 use Rattle.mbe_expandm.specs.ShownOptions.{conditions_of, names_of}

@@ -1,0 +1,8 @@
+// Grammars of fragments that are read from texts: a text's rules as a table for the engine of `mbe_rules`.
+mod choice;
+pub mod fault;
+mod names;
+mod reader;
+pub mod rules;
+mod token;
+mod words;

@@ -1,3 +1,0 @@
-pub mod FlatTreeLemmas
-pub mod TakesLemmas
-pub mod WordLemmas
