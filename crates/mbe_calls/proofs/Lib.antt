@@ -1,3 +1,5 @@
 pub mod PartingLemmas
 pub mod PathLemmas
 pub mod SplicingLemmas
+pub mod Renaming
+pub mod Worded

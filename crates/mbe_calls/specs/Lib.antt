@@ -4,3 +4,5 @@ pub mod Parting
 pub mod Replacements
 pub mod Shown
 pub mod Splicing
+pub mod Hygiene
+pub mod Fragments

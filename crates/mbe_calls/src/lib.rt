@@ -2,5 +2,7 @@
 #![tactic(auto)]
 
 pub mod calls;
+pub mod fragments;
+pub mod hygiene;
 pub mod parting;
 pub mod splicing;

@@ -9,7 +9,7 @@ use Rattle.mbe_semantics.specs.Expansion.Error.{ExpandError}
 use Rattle.mbe_semantics.specs.declared.macro_call_style.MacroCallStyle.TheVariants.{FnLike}
 use Rattle.mbe_calls.specs.Fronts.{Call}
 use Rattle.mbe_calls.specs.Parting.{parted}
-use Rattle.mbe_renaming.specs.Contexts.{marked, numbered}
+use Rattle.mbe_calls.specs.Hygiene.Contexts.{marked, numbered}
 use Rattle.mbe_expanding.specs.Scopes.{Scope, rules_found, contexts_found}
 
 -- what stays the same on the way: the grammar of fragments, the edition that definitions are read in, and how deep

@@ -14,10 +14,10 @@ use Rattle.mbe_text.specs.RustText.Writing.{text_of}
 use Rattle.mbe_expanding.specs.Becoming.{Becomes, StandsFor, after_group}
 use Rattle.mbe_expanding.specs.Calls.{Setting, State, Stays, IsReplaced, after_step}
 use Rattle.mbe_expanding.specs.Fitting.{IsLeft}
-use Rattle.mbe_renaming.specs.Contexts.{told_apart}
+use Rattle.mbe_calls.specs.Hygiene.Contexts.{told_apart}
 use Rattle.mbe_expanding.specs.Scopes.{Scope, Definition as AMacro, by_name, placed, with_shown, with_left}
-use Rattle.mbe_wording.specs.declared.wording.Builtins.{Builtins}
-use Rattle.mbe_wording.specs.Wording.{worded}
+use Rattle.mbe_calls.specs.declared.fragments.wording.Builtins.{Builtins}
+use Rattle.mbe_calls.specs.Fragments.Wording.{worded}
 
 -- ---- definitions of the file, which were read before
 

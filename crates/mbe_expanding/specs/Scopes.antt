@@ -9,8 +9,8 @@ use Rattle.mbe_tt.specs.declared.span.SyntaxContext.{SyntaxContext}
 use Rattle.mbe_semantics.specs.Expansion.Macro.{Macro}
 use Rattle.mbe_semantics.specs.Expansion.ReadAs.{IsReadAs, IsReadAsMacro}
 use Rattle.mbe_calls.specs.Fronts.{Call, Form, Rules, Body, Arguments, Defined}
-use Rattle.mbe_renaming.specs.Contexts.{contexts_in}
-use Rattle.mbe_wording.specs.Typing.{typed, typed_rules}
+use Rattle.mbe_calls.specs.Hygiene.Contexts.{contexts_in}
+use Rattle.mbe_calls.specs.Fragments.Typing.{typed, typed_rules}
 use Rattle.mbe_expanding.specs.declared.scope.Reach.{Reach}
 use Rattle.mbe_expanding.specs.declared.scope.Reach.TheVariants.{Text, Files, Paths, Crates}
 

@@ -28,7 +28,7 @@ use crate::settings::Settings;
 use mbe::{DeclarativeMacro, ExpandError, MacroCallStyle, ValueResult};
 use mbe_calls::calls::{Call, Defined};
 use mbe_calls::parting::parted_buffer;
-use mbe_renaming::contexts::{marked, numbered};
+use mbe_calls::hygiene::contexts::{marked, numbered};
 use mbe_grammar::tables::table::RuleTable;
 use mbe_text::writing::Writer;
 use mbe_tt::span::Span;

@@ -8,7 +8,7 @@ ghost use Rattle.mbe_calls.specs.Beside.{is_standard};
 ghost use Rattle.mbe_calls.specs.Replacements.{part_of};
 ghost use Rattle.mbe_calls.specs.Shown.{call_shown, defined_shown};
 ghost use Rattle.mbe_text.specs.RustText.Writing as writing;
-ghost use Rattle.mbe_wording.specs.Wording as wording;
+ghost use Rattle.mbe_calls.specs.Fragments.Wording as wording;
 ghost use Rattle.mbe_expanding.specs.Replacing as spec;
 ghost use Rattle.mbe_expanding.specs.Replacing.{Adds, IsExpanded, IsOfCall, IsPartOf, last_span};
 ghost use Rattle.mbe_expanding.specs.Replacing.{NoneCalled, PartsOfArgument, PartsOfCall};
@@ -21,13 +21,13 @@ use crate::fits::{Before, begins_in, left_by, left_by_call};
 use crate::notes::Level;
 use mbe_calls::calls::{Call, Defined, Front, attribute_at, front_of, is_standard};
 use mbe_calls::splicing::{Replacement, splice};
-use mbe_renaming::contexts::told_apart;
-use mbe_renaming::renaming::Doubt;
+use mbe_calls::hygiene::contexts::told_apart;
+use mbe_calls::hygiene::renaming::Doubt;
 use mbe_tt::span::Span;
 use mbe_tt::tt::{Delimiter, Leaf, TokenTreesView, TopSubtree, TopSubtreeBuilder, TtElement};
-use mbe_wording::names::names_builtin;
-use mbe_wording::places::{Place, place_of};
-use mbe_wording::wording::{Builtins, worded};
+use mbe_calls::fragments::names::names_builtin;
+use mbe_calls::fragments::places::{Place, place_of};
+use mbe_calls::fragments::wording::{Builtins, worded};
 use std::alloc::{AllocError, Allocator};
 
 impl<A: Allocator + Copy> Expander<'_, A> {

@@ -2,7 +2,7 @@
 // caller's text, 1 and 2 are two steps, and 3 is one whose macro step 1 wrote. What is expected is what rustc's hygiene says that the
 // names mean.
 use crate::text::texts::{is_written, rust};
-use mbe_renaming::renaming::{Nestings, Renamed, rename};
+use mbe_calls::hygiene::renaming::{Nestings, Renamed, rename};
 use mbe_tt::span::{Span, SyntaxContext};
 use mbe_tt::symbol::Symbol;
 use mbe_tt::tt::{Ident, Leaf, Literal, TopSubtree, TopSubtreeBuilder, TtElement};
