@@ -6,3 +6,8 @@ pub mod Settings
 pub mod Shown
 pub mod Tables
 pub mod Targets
+pub mod Files
+pub mod Crates
+pub mod Extents
+pub mod Stripping
+pub mod Exporting

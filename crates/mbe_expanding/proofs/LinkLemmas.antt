@@ -1,7 +1,7 @@
 -- What crates have of others, one export after another.
 use Rattle.std.proofs.Common.{◌≡◌, ◌<◌, ◌+◌, ◌-◌, ℕ, suc, Bool, true, false, List, [], ◌∷◌, ◌++◌, length, map, take, get_or, refl, ap, sym, ◌∙◌, arith}
 use Rattle.std.proofs.lemmas.List.{map-append, take_more}
-use Rattle.mbe_exporting.specs.Exports.{Export}
+use Rattle.mbe_cfg.specs.Exporting.Exports.{Export}
 use Rattle.mbe_expanding.specs.Linking.{all_exported, exported, linked, with_all, with_first, with_number}
 use Rattle.mbe_expanding.specs.Scopes.{Scope}
 

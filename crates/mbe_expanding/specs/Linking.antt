@@ -1,7 +1,7 @@
 -- What crates have of others by their exports, once the definitions of all are read.
 use Rattle.std.specs.Prelude.{ℕ, zero, suc, Bool, true, false, if◌then◌else◌, is_some, length, List, [], ◌∷◌, ◌++◌, Option, Some, None, option_map}
 use Rattle.std.specs.Str.{bytes_eq}
-use Rattle.mbe_exporting.specs.Exports.{Export, What, All, One}
+use Rattle.mbe_cfg.specs.Exporting.Exports.{Export, What, All, One}
 use Rattle.mbe_expanding.specs.Scopes.{Scope, Definition, Crate, definition_at, is_from, last_found, with_crate}
 use Rattle.mbe_expanding.specs.declared.scope.Reach.TheVariants.{Crates}
 

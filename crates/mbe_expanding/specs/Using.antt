@@ -3,7 +3,7 @@ use Rattle.std.specs.Prelude.{ℕ, Bool, false, not, ◌&&◌, ◌||◌, codes, 
 use Rattle.std.specs.Str.{bytes_eq}
 use Rattle.mbe_tt.specs.Trees.Leaf.{Leaf, literal, punct, ident, is_text}
 use Rattle.mbe_tt.specs.Trees.Tree.{Forest, none, leaf, group}
-use Rattle.mbe_exporting.specs.Exports.{begins_path}
+use Rattle.mbe_cfg.specs.Exporting.Exports.{begins_path}
 
 -- a leaf that is the name, and not the first one of a longer path
 abbrev pub is_name_leaf : List ℕ → Leaf → Forest → Bool

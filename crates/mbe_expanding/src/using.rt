@@ -3,7 +3,7 @@ ghost use Rattle.std.specs.Prelude.{◌≡◌};
 ghost use Rattle.mbe_tt.specs.Views.View.{trees};
 ghost use Rattle.mbe_expanding.specs.Using as spec;
 
-use mbe_exporting::uses::begins_path;
+use mbe_cfg::exports::uses::begins_path;
 use mbe_tt::tt::{Leaf, TokenTreesView, TtElement};
 use std::alloc::Allocator;
 

@@ -8,14 +8,14 @@ use Rattle.std.proofs.lemmas.List.Elements.{filter-append}
 use Rattle.mbe_calls.specs.Splicing.{Part}
 use Rattle.mbe_tt.specs.Trees.Top.{Top}
 use Rattle.mbe_expanding.specs.Calls.{Setting, State}
-use Rattle.mbe_exporting.specs.Exports.{Export, exports_of}
+use Rattle.mbe_cfg.specs.Exporting.Exports.{Export, exports_of}
 use Rattle.mbe_expanding.specs.Linking.{linked}
 use Rattle.mbe_expanding.specs.Replacing.{Adds, IsOfCall, NoneCalled, PartsOfFile}
 use Rattle.mbe_expanding.specs.Defining.{Defines, DefinesOutside}
 use Rattle.mbe_expanding.specs.Scopes.{Definition, Scope}
 use Rattle.mbe_tt.specs.declared.span.Edition.{Edition}
-use Rattle.mbe_following.specs.Following.{crate_tree}
-use Rattle.mbe_modules.specs.Places.{in_file}
+use Rattle.mbe_cfg.specs.Crates.Following.{crate_tree}
+use Rattle.mbe_cfg.specs.Files.Places.{in_file}
 use Rattle.mbe_expandm.specs.declared.places.Position.{Position}
 use Rattle.mbe_expandm.specs.Crates.{crate_at, crate_of, file_of, is_followed}
 use Rattle.mbe_expandm.specs.Expansions as spec

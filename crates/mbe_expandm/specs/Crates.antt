@@ -3,9 +3,9 @@ use Rattle.std.specs.Prelude.{ℕ, Bool, not, ◌&&◌, if◌then◌else◌, cod
 use Rattle.std.specs.List.{slice_get}
 use Rattle.std.specs.Str.{bytes_eq}
 use Rattle.mbe_tt.specs.Trees.Top.{Top}
-use Rattle.mbe_following.specs.Following.{crate_tree}
-use Rattle.mbe_following.specs.Taking.{File}
-use Rattle.mbe_modules.specs.Places.{in_file}
+use Rattle.mbe_cfg.specs.Crates.Following.{crate_tree}
+use Rattle.mbe_cfg.specs.Crates.Taking.{File}
+use Rattle.mbe_cfg.specs.Files.Places.{in_file}
 use Rattle.mbe_expandm.specs.Sources.{Source}
 
 -- as a file that a module may be in

@@ -10,7 +10,7 @@ use Rattle.mbe_expanding.specs.Defining.{Defines, DefinesOutside}
 use Rattle.mbe_expanding.specs.Linking.{linked}
 use Rattle.mbe_expanding.specs.Replacing.{IsOfCall, PartsOfFile}
 use Rattle.mbe_expanding.specs.Scopes.{Scope}
-use Rattle.mbe_exporting.specs.Exports.{Export, exports_of}
+use Rattle.mbe_cfg.specs.Exporting.Exports.{Export, exports_of}
 use Rattle.mbe_expandm.specs.declared.places.Position.{Position}
 use Rattle.mbe_expandm.specs.Crates.{crate_at, crate_of}
 use Rattle.mbe_expandm.specs.Naming.{named_tree}

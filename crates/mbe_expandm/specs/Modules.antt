@@ -1,8 +1,8 @@
 -- The modules of a text whose content is in other files.
 use Rattle.std.specs.Prelude.{◌≡◌, ℕ, List, [], Option, Some, None}
 use Rattle.mbe_tt.specs.Trees.Top.{Top}
-use Rattle.mbe_following.specs.Following.{Unfound, unfound_in}
-use Rattle.mbe_modules.specs.Places.{Place}
+use Rattle.mbe_cfg.specs.Crates.Following.{Unfound, unfound_in}
+use Rattle.mbe_cfg.specs.Files.Places.{Place}
 use Rattle.mbe_expandm.specs.declared.reading.Reading.{Reading}
 use Rattle.mbe_expandm.specs.Sources.{IsTreeOf}
 

@@ -5,7 +5,7 @@ use Rattle.mbe_tt.specs.Trees.Top.{Top}
 use Rattle.mbe_text.specs.Division.{trees_of}
 use Rattle.mbe_text.specs.declared.dialect.Dialect.TheVariants.{Rust}
 use Rattle.mbe_grammar.specs.Tables.Lawful.{grammar_of}
-use Rattle.mbe_stripping.specs.Stripping.{tree_without}
+use Rattle.mbe_cfg.specs.Stripping.{tree_without}
 use Rattle.mbe_expandm.specs.declared.reading.Reading.{Reading}
 use Rattle.mbe_expandm.specs.Returns.{plain}
 

@@ -10,7 +10,7 @@ use crate::saying::{Form, add_lints, add_reports, error_text, form_of};
 use crate::sessions::{DONE, Named, Session, WRONG, print, write};
 use crate::targets::relative;
 use mbe_expanding::notes::Note;
-use mbe_modules::paths::folder_of;
+use mbe_cfg::files::paths::folder_of;
 use std::alloc::{AllocError, Global};
 use std::io::{self, Read};
 use std::rt::{Env, Files};

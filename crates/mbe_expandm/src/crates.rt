@@ -4,7 +4,7 @@ ghost use Rattle.std.specs.Prelude.{map, suc, true};
 ghost use Rattle.std.specs.List.{All};
 ghost use Rattle.mbe_calls.specs.Replacements.{part_of};
 ghost use Rattle.mbe_expanding.specs.Defining.{Defines, DefinesOutside};
-ghost use Rattle.mbe_exporting.specs.Shown.{export_of};
+ghost use Rattle.mbe_cfg.specs.Exporting.Shown.{export_of};
 ghost use Rattle.mbe_expanding.specs.Replacing.{Adds, IsOfCall, NoneCalled, PartsOfFile};
 ghost use Rattle.mbe_expanding.specs.Shown.{setting_of, state_of};
 ghost use Rattle.mbe_expandm.specs.Crates.{crate_at, crate_of, file_of, is_followed};
@@ -13,9 +13,9 @@ ghost use Rattle.mbe_expandm.specs.Expansions.{DefinesOther, DefinesOthers, Know
 ghost use Rattle.mbe_expandm.specs.Expansions.{exports_at, exports_from};
 ghost use Rattle.mbe_expandm.specs.Naming.{named_tree};
 ghost use Rattle.mbe_expandm.specs.ShownFiles.{source_of};
-ghost use Rattle.mbe_following.specs.Following.{crate_tree};
-ghost use Rattle.mbe_following.specs.Shown.{file_shown};
-ghost use Rattle.mbe_modules.specs.Places as places;
+ghost use Rattle.mbe_cfg.specs.Crates.Following.{crate_tree};
+ghost use Rattle.mbe_cfg.specs.Crates.Shown.{file_shown};
+ghost use Rattle.mbe_cfg.specs.Files.Places as places;
 
 use crate::arguments::Extern;
 use crate::files::SourceFile;
@@ -25,11 +25,11 @@ use mbe_calls::splicing::Replacement;
 use mbe_expanding::expander::{Expander, LEVELS};
 use mbe_expanding::notes::Note;
 use mbe_expanding::scope::buffer_of;
-use mbe_exporting::export::Export;
-use mbe_exporting::exporting::add_exports;
-use mbe_following::following::follow;
-use mbe_following::taking::File;
-use mbe_modules::places::Place;
+use mbe_cfg::exports::export::Export;
+use mbe_cfg::exports::exporting::add_exports;
+use mbe_cfg::crates::following::follow;
+use mbe_cfg::crates::taking::File;
+use mbe_cfg::files::places::Place;
 use mbe_tt::tt::TopSubtree;
 use std::alloc::{AllocError, Global};
 

@@ -5,7 +5,7 @@ ghost use Rattle.mbe_expandm.specs.Returns.{plain, returns};
 ghost use Rattle.mbe_expandm.specs.Shown.{returns_of};
 ghost use Rattle.mbe_expandm.specs.Sources.{IsNoRust, IsTreeOf};
 ghost use Rattle.mbe_grammar.specs.Tables.Lawful.{grammar_of};
-ghost use Rattle.mbe_stripping.specs.Stripping.{tree_without};
+ghost use Rattle.mbe_cfg.specs.Stripping.{tree_without};
 ghost use Rattle.mbe_text.specs.Division.{trees_of};
 ghost use Rattle.mbe_text.specs.declared.dialect.Dialect.TheVariants.{Rust};
 
@@ -13,7 +13,7 @@ use crate::lines::Lines;
 use crate::reading::Reading;
 use mbe_cfg::fault::Fault;
 use mbe_expanding::notes::{Level, Note};
-use mbe_stripping::stripping::strip;
+use mbe_cfg::stripping::strip;
 use mbe_text::dialect::Dialect;
 use mbe_text::lexer::{LexError, lex_as_in};
 use mbe_text::scanner::file_span;

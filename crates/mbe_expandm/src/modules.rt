@@ -2,15 +2,15 @@
 ghost use Rattle.std.specs.Prelude.{IfOk, map};
 ghost use Rattle.mbe_expandm.specs.Modules.{AreModules};
 ghost use Rattle.mbe_expandm.specs.Returns.{plain};
-ghost use Rattle.mbe_following.specs.Shown.{unfound_shown};
-ghost use Rattle.mbe_modules.specs.Shown.{place_shown};
+ghost use Rattle.mbe_cfg.specs.Crates.Shown.{unfound_shown};
+ghost use Rattle.mbe_cfg.specs.Files.Shown.{place_shown};
 
 use crate::files::source_file;
 use crate::reading::Reading;
 use mbe_expanding::notes::{Level, Note};
-use mbe_following::following::{Unfound, follow};
-use mbe_following::taking::Wrong;
-use mbe_modules::places::{Candidates, Place};
+use mbe_cfg::crates::following::{Unfound, follow};
+use mbe_cfg::crates::taking::Wrong;
+use mbe_cfg::files::places::{Candidates, Place};
 use mbe_text::symbols::SymbolTable;
 use std::alloc::{AllocError, Global};
 

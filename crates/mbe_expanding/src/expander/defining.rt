@@ -7,7 +7,7 @@ ghost use Rattle.mbe_expanding.specs.Defining.{Defines, DefinesOutside, DefinesT
 ghost use Rattle.mbe_expanding.specs.Defining.{after_definition, after_group, after_tree};
 ghost use Rattle.mbe_expanding.specs.Defining.{is_offered, marked, reach_of, unmarked};
 ghost use Rattle.mbe_expanding.specs.Defining.{with_attribute};
-ghost use Rattle.mbe_exporting.specs.Shown.{export_of};
+ghost use Rattle.mbe_cfg.specs.Exporting.Shown.{export_of};
 ghost use Rattle.mbe_expanding.specs.Explained.{note_seen};
 ghost use Rattle.mbe_expanding.specs.Faults.{all_noted};
 ghost use Rattle.mbe_expanding.specs.Linking.{linked};
@@ -17,7 +17,7 @@ use crate::expander::{Expander, LEVELS};
 use crate::scope::Reach;
 use crate::using::is_used_in;
 use mbe_calls::calls::{Defined, Front, attribute_at, front_of};
-use mbe_exporting::export::Export;
+use mbe_cfg::exports::export::Export;
 use mbe_tt::tt::{DelimiterKind, TokenTreesView, TtElement};
 use std::alloc::{AllocError, Allocator};
 

@@ -1,13 +1,13 @@
 // What crates have of others by their exports.
 ghost use Rattle.std.specs.Prelude.{◌≡◌, IfOk, OnOk, map, option_map};
 ghost use Rattle.std.specs.String.{string_bytes};
-ghost use Rattle.mbe_exporting.specs.Shown.{export_of, what_of};
+ghost use Rattle.mbe_cfg.specs.Exporting.Shown.{export_of, what_of};
 ghost use Rattle.mbe_expanding.specs.Linking as spec;
 ghost use Rattle.mbe_expanding.specs.Scopes.{definition_at};
 ghost use Rattle.mbe_expanding.specs.Shown.{definition_of, scope_of};
 
 use crate::scope::{Among, Definition, Outside, Reach, Scope};
-use mbe_exporting::export::{Export, What};
+use mbe_cfg::exports::export::{Export, What};
 use std::alloc::{AllocError, Allocator};
 
 impl<A: Allocator + Copy> Definition<A> {

@@ -1,8 +1,8 @@
 // Crates of a few files: what the trees of their root become.
 use crate::text::texts::{rust, written};
-use mbe_following::following::{Unfound, follow};
-use mbe_following::taking::{File, Wrong};
-use mbe_modules::places::Place;
+use mbe_cfg::crates::following::{Unfound, follow};
+use mbe_cfg::crates::taking::{File, Wrong};
+use mbe_cfg::files::places::Place;
 use mbe_tt::tt::TopSubtree;
 use std::alloc::{AllocError, Global};
 use test_rows::{Fields, Rows, rows};

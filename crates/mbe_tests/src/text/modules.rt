@@ -1,7 +1,7 @@
 // Which files hold a module. `tools/module-files.py` asks rustc of the same rows.
-use mbe_modules::choice::{Choice, chosen};
-use mbe_modules::paths::join;
-use mbe_modules::places::{Candidates, Place};
+use mbe_cfg::files::choice::{Choice, chosen};
+use mbe_cfg::files::paths::join;
+use mbe_cfg::files::places::{Candidates, Place};
 use std::alloc::{AllocError, Global};
 use test_rows::{Fields, Rows, rows};
 

@@ -2,7 +2,7 @@ use Rattle.std.proofs.Common.{ap, map}
 use Rattle.mbe_expanding.specs.Calls.{Setting}
 use Rattle.mbe_expanding.specs.Shown.{setting_of, state_of}
 use Rattle.mbe_expandm.specs.ShownFiles.{source_of}
-use Rattle.mbe_exporting.specs.Shown.{export_of}
+use Rattle.mbe_cfg.specs.Exporting.Shown.{export_of}
 use Rattle.mbe_expandm.proofs.CrateLemmas.{first_from, first_other, none_from, none_other}
 use Rattle.mbe_expandm.proofs.crates.+define_others.Goals as goal
 

@@ -1,9 +1,9 @@
 use Rattle.std.proofs.Common.{◌≡◌, ◌∙◌, ap, sym, map, List}
 use Rattle.std.proofs.lemmas.Simd.{map-map}
-use Rattle.mbe_following.specs.Following as following
-use Rattle.mbe_following.specs.Shown.{file_shown}
-use Rattle.mbe_following.specs.Taking.{File}
-use Rattle.mbe_modules.specs.Shown.{place_shown}
+use Rattle.mbe_cfg.specs.Crates.Following as following
+use Rattle.mbe_cfg.specs.Crates.Shown.{file_shown}
+use Rattle.mbe_cfg.specs.Crates.Taking.{File}
+use Rattle.mbe_cfg.specs.Files.Shown.{place_shown}
 use Rattle.mbe_expandm.specs.Crates.{file_of}
 use Rattle.mbe_expandm.specs.ShownFiles.{source_of}
 use Rattle.mbe_expandm.proofs.crates.crate_tree.Goals as goal

@@ -1,7 +1,7 @@
 use Rattle.std.proofs.Common.{◌∙◌, ◌++◌, ap, map, sym}
 use Rattle.mbe_expanding.specs.Shown.{setting_of, state_of}
-use Rattle.mbe_exporting.specs.Exports.{exports_of}
-use Rattle.mbe_exporting.specs.Shown.{export_of}
+use Rattle.mbe_cfg.specs.Exporting.Exports.{exports_of}
+use Rattle.mbe_cfg.specs.Exporting.Shown.{export_of}
 use Rattle.mbe_expandm.proofs.CrateLemmas.{no_others, none_exported, some_exported, some_others}
 use Rattle.mbe_expandm.proofs.crates.define_other.Goals as goal
 

@@ -1,4 +1,4 @@
-use Rattle.mbe_following.specs.Shown.{file_shown}
+use Rattle.mbe_cfg.specs.Crates.Shown.{file_shown}
 use Rattle.mbe_expandm.specs.Crates.{file_of}
 use Rattle.mbe_expandm.specs.ShownFiles.{source_of}
 use Rattle.mbe_expandm.proofs.SessionLemmas.{one_more_text}

@@ -1,5 +1,5 @@
 use Rattle.std.proofs.Common.{◌≡◌, map, take}
-use Rattle.mbe_following.specs.Shown.{file_shown}
+use Rattle.mbe_cfg.specs.Crates.Shown.{file_shown}
 use Rattle.mbe_expandm.specs.Crates.{file_of}
 use Rattle.mbe_expandm.specs.ShownFiles.{source_of}
 use Rattle.mbe_expandm.proofs.crates.files_of.Given as goal

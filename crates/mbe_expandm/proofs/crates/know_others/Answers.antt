@@ -1,6 +1,6 @@
 use Rattle.std.proofs.Common.{◌∙◌, ◌++◌, ap, length, map, sym}
 use Rattle.std.proofs.lemmas.List.{length-map}
-use Rattle.mbe_exporting.specs.Shown.{export_of}
+use Rattle.mbe_cfg.specs.Exporting.Shown.{export_of}
 use Rattle.mbe_expanding.specs.Shown.{setting_of, state_of}
 use Rattle.mbe_expandm.specs.Expansions.{exports_from}
 use Rattle.mbe_expandm.specs.ShownFiles.{source_of}

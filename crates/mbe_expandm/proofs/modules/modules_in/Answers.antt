@@ -1,7 +1,7 @@
 use Rattle.std.proofs.Common.{◌∙◌, ◌++◌, [], ap, map, sym}
-use Rattle.mbe_following.specs.Following.{unfound_in}
-use Rattle.mbe_following.specs.Shown.{unfound_shown}
-use Rattle.mbe_modules.specs.Shown.{place_shown}
+use Rattle.mbe_cfg.specs.Crates.Following.{unfound_in}
+use Rattle.mbe_cfg.specs.Crates.Shown.{unfound_shown}
+use Rattle.mbe_cfg.specs.Files.Shown.{place_shown}
 use Rattle.mbe_expandm.specs.Modules.{modules_of}
 use Rattle.mbe_expandm.proofs.CrateLemmas.{none_is}
 use Rattle.mbe_expandm.proofs.modules.modules_in.Goals as goal

@@ -1,5 +1,5 @@
 use Rattle.std.proofs.Common.{◌≡◌, map}
-use Rattle.mbe_exporting.specs.Shown.{export_of}
+use Rattle.mbe_cfg.specs.Exporting.Shown.{export_of}
 use Rattle.mbe_expanding.specs.Linking.{linked}
 use Rattle.mbe_expanding.specs.Shown.{scope_of}
 use Rattle.mbe_expanding.proofs.scope.Scope.link.Given as goal

@@ -1,5 +1,5 @@
 use Rattle.std.proofs.Common.{◌≡◌, map, take}
-use Rattle.mbe_exporting.specs.Shown.{export_of}
+use Rattle.mbe_cfg.specs.Exporting.Shown.{export_of}
 use Rattle.mbe_expanding.specs.Linking.{all_exported}
 use Rattle.mbe_expanding.specs.Shown.{scope_of}
 use Rattle.mbe_expanding.proofs.scope.Scope.link_exports.Given as goal

@@ -1,0 +1,75 @@
+-- The last number that passes a test, looked for from above.
+use Rattle.std.proofs.Common.{◌≡◌, ℕ, suc, ◌-◌, ◌<◌, Bool, true, false, List, Option, Some, None, refl, ap, sym, ◌∙◌, arith}
+use Rattle.std.specs.Prelude.{if◌then◌else◌, option_and_then}
+use Rattle.std.specs.List.{slice_get}
+use Rattle.std.specs.Option.{option_or}
+use Rattle.mbe_cfg.specs.Fronts.{after_next_comma}
+use Rattle.mbe_tt.specs.Trees.Tree.{Forest}
+use Rattle.mbe_cfg.specs.Crates.Fronts.{path_given, path_added}
+use Rattle.mbe_cfg.specs.Crates.Taking.{last_below}
+
+pub one_more : (n : ℕ) → 0 < n → n ≡ suc (n - 1)
+one_more n h = omega (arith, h)
+
+below_suc : (p : ℕ → Bool) (n : ℕ) → last_below p (suc n) ≡ (if p n then Some n else last_below p n)
+unfolding last_below
+below_suc p n = refl
+
+below_by : (p : ℕ → Bool) (n : ℕ) → 0 < n → last_below p n ≡ (if p (n - 1) then Some (n - 1) else last_below p (n - 1))
+below_by p n h = ap (last_below p) (one_more n h) ∙ below_suc p (n - 1)
+
+-- one that fails
+pub below_on : (p : ℕ → Bool) (n : ℕ) (whole : Option ℕ) → 0 < n → last_below p n ≡ whole → p (n - 1) ≡ false
+    → last_below p (n - 1) ≡ whole
+below_on p n whole h w f = sym (below_by p n h ∙ ap (λ b. if b then Some (n - 1) else last_below p (n - 1)) f) ∙ w
+
+-- one that passes
+pub below_here : (p : ℕ → Bool) (n : ℕ) (whole : Option ℕ) → 0 < n → last_below p n ≡ whole → p (n - 1) ≡ true
+    → Some (n - 1) ≡ whole
+below_here p n whole h w t = sym (below_by p n h ∙ ap (λ b. if b then Some (n - 1) else last_below p (n - 1)) t) ∙ w
+
+-- none is left
+pub below_none : (p : ℕ → Bool) (n : ℕ) (whole : Option ℕ) → n ≡ 0 → last_below p n ≡ whole → None ≡ whole
+unfolding last_below
+below_none p n whole e w = sym (ap (last_below p) e) ∙ w
+
+-- what the last one means
+pub near_here : (visible : List ℕ) (found : Option ℕ) (n : ℕ) (last : Option ℕ) → found ≡ slice_get visible n
+    → Some n ≡ last
+    → found ≡ option_and_then (slice_get visible) last
+near_here visible found n last e h = e ∙ ap (option_and_then (slice_get visible)) h
+
+pub near_none : (visible : List ℕ) (last : Option ℕ) → None ≡ last → None ≡ option_and_then (slice_get visible) last
+near_none visible last h = ap (option_and_then (slice_get visible)) h
+
+-- ---- what a `cfg_attr` adds
+
+added_suc : (n : ℕ) (f : Forest)
+    → path_added (suc n) f ≡ option_or (path_given (after_next_comma f)) (path_added n (after_next_comma f))
+unfolding path_added
+added_suc n f = refl
+
+added_by : (n : ℕ) (f : Forest) → 0 < n
+    → path_added n f ≡ option_or (path_given (after_next_comma f)) (path_added (n - 1) (after_next_comma f))
+added_by n f h = ap (λ m. path_added m f) (one_more n h) ∙ added_suc (n - 1) f
+
+-- one that is no path
+pub added_on : (n : ℕ) (f after : Forest) (whole : Option (List ℕ)) → 0 < n → path_added n f ≡ whole
+    → after ≡ after_next_comma f → None ≡ path_given after
+    → path_added (n - 1) after ≡ whole
+added_on n f after whole h w a e =
+    sym (added_by n f h ∙ ap (λ x. option_or (path_given x) (path_added (n - 1) x)) (sym a)
+    ∙ ap (λ p. option_or p (path_added (n - 1) after)) (sym e)) ∙ w
+
+-- one that is
+pub added_here : (n : ℕ) (f after : Forest) (path : List ℕ) (whole : Option (List ℕ)) → 0 < n → path_added n f ≡ whole
+    → after ≡ after_next_comma f → Some path ≡ path_given after
+    → Some path ≡ whole
+added_here n f after path whole h w a e =
+    sym (added_by n f h ∙ ap (λ x. option_or (path_given x) (path_added (n - 1) x)) (sym a)
+    ∙ ap (λ p. option_or p (path_added (n - 1) after)) (sym e)) ∙ w
+
+-- none is left
+pub added_none : (n : ℕ) (f : Forest) (whole : Option (List ℕ)) → n ≡ 0 → path_added n f ≡ whole → None ≡ whole
+unfolding path_added
+added_none n f whole e w = sym (ap (λ m. path_added m f) e) ∙ w

@@ -1,6 +1,0 @@
-// What a crate exports of other crates, by the `pub use`s of its root.
-#![tactic(auto)]
-
-pub mod export;
-pub mod exporting;
-pub mod uses;

@@ -1,2 +1,0 @@
-mod BelowLemmas
-mod FollowLemmas

@@ -1,6 +1,0 @@
-// The trees of a crate: `mod name;` with the trees of the file that holds the module.
-#![tactic(auto)]
-
-pub mod following;
-pub mod fronts;
-pub mod taking;

@@ -1,6 +1,0 @@
-// Which file `mod x;` names.
-#![tactic(auto)]
-
-pub mod choice;
-pub mod paths;
-pub mod places;
