@@ -1,6 +1,9 @@
 // What can be said of a macro definition alone, without a call: what is wrong with a rule or of no use in it.
 #![tactic(auto)]
 
+mod alike;
 pub mod findings;
 pub mod following;
+pub mod reaching;
 pub mod variables;
+mod writing;

@@ -11,7 +11,7 @@ use Rattle.mbe_semantics.specs.Expansion.Macro.{Macro}
 use Rattle.mbe_semantics.specs.Expansion.ReadAs.{IsReadAs, IsReadAsMacro}
 use Rattle.mbe_calls.specs.Fronts.{Form, Rules, Body, Arguments, Defined}
 use Rattle.mbe_linting.specs.Findings.{findings}
-use Rattle.mbe_reaching.specs.Reaching.{unreached}
+use Rattle.mbe_linting.specs.Reaching.{unreached}
 use Rattle.mbe_lints.specs.Lint.{Lint, error_at}
 use Rattle.mbe_lints.specs.Reaching.{unreached_lints, number_of}
 use Rattle.mbe_lints.specs.Refused.{RefusedAt}

@@ -23,7 +23,7 @@ use mbe_calls::calls::Defined;
 use mbe_diagnostics::diagnostic::Level;
 use mbe_linting::findings::{Finding, findings};
 use mbe_parser::rules::Rule;
-use mbe_reaching::reaching::unreached;
+use mbe_linting::reaching::unreached;
 use mbe_tt::span::{Edition, SyntaxContext};
 use mbe_tt::tt::{Ident, TokenTreesView};
 use std::alloc::{AllocError, Allocator};
@@ -137,7 +137,7 @@ fn push_definitions<A: Allocator + Copy, E: Copy + Fn(SyntaxContext) -> Edition>
 /// Adds what is said of the definitions among these trees, in the order of the text: of each that it is refused and why, at the token
 /// that can't be read or the opening of the repetition that can read nothing,
 /// then what is found of each of its rules up to the first fault, in the order of `mbe_linting::findings`, and then which of these
-/// rules no call reaches, by `mbe_reaching::reaching`. `ctx_edition` returns the edition of a context; it decides what `pat` and
+/// rules no call reaches, by `mbe_linting::reaching`. `ctx_edition` returns the edition of a context; it decides what `pat` and
 /// `expr` mean. `AllocError` if out of memory, or if groups and repetitions of a rule are too deep in one another.
 pub fn push_lints<A: Allocator + Copy, E: Copy + Fn(SyntaxContext) -> Edition>(
     alloc: A,
