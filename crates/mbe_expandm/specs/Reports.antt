@@ -2,11 +2,11 @@
 use Rattle.std.specs.Prelude.{◌≡◌, ◌++◌, ℕ, Bool, true, false, codes, List, [], ◌∷◌, length, min, slice_get, Option, Some, None}
 use Rattle.std.specs.String.{string_bytes}
 use Rattle.mbe_tt.specs.declared.span.Span.{Span}
-use Rattle.mbe_diagnostics.specs.declared.diagnostic.Level.{Level}
-use Rattle.mbe_diagnostics.specs.declared.diagnostic.Level.TheVariants as level
-use Rattle.mbe_diagnostics.specs.declared.diagnostic.Diagnostic.{Diagnostic}
-use Rattle.mbe_diagnostics.specs.Diagnostics.{text}
-use Rattle.mbe_diagnostics.specs.Json.{json_line, plain_line}
+use Rattle.mbe_explaining.specs.declared.diagnostic.Level.{Level}
+use Rattle.mbe_explaining.specs.declared.diagnostic.Level.TheVariants as level
+use Rattle.mbe_explaining.specs.declared.diagnostic.Diagnostic.{Diagnostic}
+use Rattle.mbe_explaining.specs.Diagnostics.{text}
+use Rattle.mbe_explaining.specs.Json.{json_line, plain_line}
 use Rattle.mbe_expanding.specs.declared.notes.Level as notes
 use Rattle.mbe_expanding.specs.Explained.{Note}
 use Rattle.mbe_lints.specs.Lint.{Lint}

@@ -1,3 +1,5 @@
 pub mod Excerpt
 pub mod Saying
 pub mod SpanAt
+pub mod Diagnostics
+pub mod Json

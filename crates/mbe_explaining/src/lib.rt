@@ -1,7 +1,10 @@
 // Why a rule doesn't fit a call: where a position of an argument is, and what a pattern wants there, as text.
 #![tactic(auto)]
 
+pub mod diagnostic;
 pub mod excerpt;
+pub mod json;
 pub mod places;
 pub mod saying;
+pub mod text;
 pub mod texts;

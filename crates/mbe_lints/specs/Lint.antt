@@ -2,8 +2,8 @@
 use Rattle.std.specs.Prelude.{ℕ, List, [], ◌∷◌}
 use Rattle.std.specs.String.{string_bytes}
 use Rattle.mbe_tt.specs.declared.span.Span.{Span}
-use Rattle.mbe_diagnostics.specs.declared.diagnostic.Level.{Level}
-use Rattle.mbe_diagnostics.specs.declared.diagnostic.Level.TheVariants as levels
+use Rattle.mbe_explaining.specs.declared.diagnostic.Level.{Level}
+use Rattle.mbe_explaining.specs.declared.diagnostic.Level.TheVariants as levels
 use Rattle.mbe_lints.specs.declared.lint.Lint as code
 
 pub record Lint : Type 0 where

@@ -3,7 +3,7 @@ ghost use Rattle.std.specs.Prelude.{◌≡◌, ◌++◌, map, OnOk};
 ghost use Rattle.std.specs.String.{string_bytes};
 ghost use Rattle.mbe_lints.specs.Lint.{lint_seen, said};
 
-use mbe_diagnostics::diagnostic::Level;
+use mbe_explaining::diagnostic::Level;
 use mbe_tt::span::Span;
 use std::alloc::{AllocError, Allocator, Global};
 

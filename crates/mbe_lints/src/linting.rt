@@ -20,7 +20,7 @@ use crate::reaching::{number_of, push_all_unreached};
 use crate::reading::{ReadMacro, read};
 use crate::wording::push_finding;
 use mbe_calls::calls::Defined;
-use mbe_diagnostics::diagnostic::Level;
+use mbe_explaining::diagnostic::Level;
 use mbe_linting::findings::{Finding, findings};
 use mbe_parser::rules::Rule;
 use mbe_linting::reaching::unreached;

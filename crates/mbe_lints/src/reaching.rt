@@ -11,7 +11,7 @@ ghost use Rattle.mbe_lints.specs.Reaching as spec;
 use crate::lint::{Lint, push};
 use crate::written::up_to;
 use mbe_calls::calls::Defined;
-use mbe_diagnostics::diagnostic::Level;
+use mbe_explaining::diagnostic::Level;
 use mbe_tt::span::Span;
 use mbe_tt::tt::{Leaf, TokenTreesView, TtElement};
 use std::alloc::{AllocError, Allocator};

@@ -15,7 +15,7 @@ use crate::lint::{Lint, push, push_text};
 use crate::nearest::nearest;
 use crate::shown::{Shown, show};
 use mbe_calls::calls::Defined;
-use mbe_diagnostics::diagnostic::Level;
+use mbe_explaining::diagnostic::Level;
 use mbe_explaining::texts::{Part, described};
 use mbe_linting::findings::Finding;
 use mbe_linting::following::{Followed, Next};

@@ -1,6 +1,6 @@
 // Where the carets are. The columns are those of a terminal: two for a wide character, none for a mark, four for a tab, as rustc prints it.
-use mbe_diagnostics::diagnostic::{Diagnostic, Level, Point};
-use mbe_diagnostics::text::rendered;
+use mbe_explaining::diagnostic::{Diagnostic, Level, Point};
+use mbe_explaining::text::rendered;
 use std::alloc::{AllocError, Global};
 use test_rows::{Fields, Rows, rows};
 

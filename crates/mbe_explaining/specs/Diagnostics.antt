@@ -4,9 +4,9 @@ use Rattle.std.specs.List.{repeat}
 use Rattle.std.specs.Char.{encode_utf8}
 use Rattle.std.specs.Fmt.{decimal}
 use Rattle.unicode_width.specs.Width.{str_width}
-use Rattle.mbe_diagnostics.specs.declared.diagnostic.Level.{Level}
-use Rattle.mbe_diagnostics.specs.declared.diagnostic.Level.TheVariants.{Error, Warning, Note, Help}
-use Rattle.mbe_diagnostics.specs.declared.diagnostic.Diagnostic.{Diagnostic}
+use Rattle.mbe_explaining.specs.declared.diagnostic.Level.{Level}
+use Rattle.mbe_explaining.specs.declared.diagnostic.Level.TheVariants.{Error, Warning, Note, Help}
+use Rattle.mbe_explaining.specs.declared.diagnostic.Diagnostic.{Diagnostic}
 
 abbrev pub word : Level → List ℕ
 word Error = codes "error"

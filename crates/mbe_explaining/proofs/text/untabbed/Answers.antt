@@ -3,8 +3,8 @@ use Rattle.std.specs.String.{string_bytes}
 use Rattle.std.proofs.lemmas.Iterator.{YieldsList-from_chars}
 use Rattle.std.proofs.lemmas.Iterator.Consumers.{YieldsList-turn, YieldsList-end}
 use Rattle.std.proofs.lemmas.List.{append-nil, append_assoc, at_drop_more, at_drop_all, length_push}
-use Rattle.mbe_diagnostics.specs.Diagnostics as spec
-use Rattle.mbe_diagnostics.proofs.text.untabbed.Goals as goal
+use Rattle.mbe_explaining.specs.Diagnostics as spec
+use Rattle.mbe_explaining.proofs.text.untabbed.Goals as goal
 
 untabbed-drop : (cs : List ℕ) (n c : ℕ)
     → (n < length cs) × (c ≡ get_or cs n c)

@@ -1,6 +1,6 @@
 // What is said of a part of a file.
 ghost use Rattle.std.specs.Prelude.{◌≡◌};
-ghost use Rattle.mbe_diagnostics.specs.Diagnostics as spec;
+ghost use Rattle.mbe_explaining.specs.Diagnostics as spec;
 
 /// How much it means.
 #[derive(Clone, Copy, Drop)]

@@ -3,10 +3,10 @@ use Rattle.std.specs.Prelude.{ℕ, List, [], ◌++◌, codes, false}
 use Rattle.std.specs.Fmt.{decimal}
 use Rattle.serde_json.specs.Data.{string}
 use Rattle.serde_json.specs.Written.{compact_text}
-use Rattle.mbe_diagnostics.specs.declared.diagnostic.Level.{Level}
-use Rattle.mbe_diagnostics.specs.declared.diagnostic.Point.{Point}
-use Rattle.mbe_diagnostics.specs.declared.diagnostic.Diagnostic.{Diagnostic}
-use Rattle.mbe_diagnostics.specs.Diagnostics.{word, text}
+use Rattle.mbe_explaining.specs.declared.diagnostic.Level.{Level}
+use Rattle.mbe_explaining.specs.declared.diagnostic.Point.{Point}
+use Rattle.mbe_explaining.specs.declared.diagnostic.Diagnostic.{Diagnostic}
+use Rattle.mbe_explaining.specs.Diagnostics.{word, text}
 
 -- a text in quotes, with escapes
 abbrev pub text_json : List ℕ → List ℕ

@@ -1,7 +1,7 @@
 use Rattle.std.proofs.Common.{◌≡◌, ◌++◌, chars, drop, length}
 use Rattle.std.specs.String.{string_bytes}
-use Rattle.mbe_diagnostics.specs.Diagnostics as spec
-use Rattle.mbe_diagnostics.proofs.text.untabbed.Given as goal
+use Rattle.mbe_explaining.specs.Diagnostics as spec
+use Rattle.mbe_explaining.proofs.text.untabbed.Given as goal
 
 abbrev pub invariant-loop-char : goal.invariant-loop-char
 invariant-loop-char g l =

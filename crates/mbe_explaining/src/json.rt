@@ -3,8 +3,8 @@ ghost use Rattle.std.specs.Prelude.{◌≡◌, ◌++◌, [], IfOk, false};
 ghost use Rattle.std.specs.String.{string_bytes};
 ghost use Rattle.serde_json.specs.Data.{string};
 ghost use Rattle.serde_json.specs.Written.{compact_text};
-ghost use Rattle.mbe_diagnostics.specs.Diagnostics.{text, word};
-ghost use Rattle.mbe_diagnostics.specs.Json as spec;
+ghost use Rattle.mbe_explaining.specs.Diagnostics.{text, word};
+ghost use Rattle.mbe_explaining.specs.Json as spec;
 
 use crate::diagnostic::{Diagnostic, Level, Point};
 use crate::text::rendered;

@@ -3,7 +3,7 @@
 ghost use Rattle.std.specs.Prelude.{◌≡◌, ◌++◌, IfOk, OnOk, chars, codes, false};
 ghost use Rattle.std.specs.String.{string_bytes};
 ghost use Rattle.unicode_width.specs.Width.{str_width};
-ghost use Rattle.mbe_diagnostics.specs.Diagnostics as spec;
+ghost use Rattle.mbe_explaining.specs.Diagnostics as spec;
 
 use crate::diagnostic::{Diagnostic, Level};
 use std::alloc::{AllocError, Allocator};
