@@ -1,7 +1,7 @@
 // Runs in which a request for memory is refused, or a call of the writer fails, each in turn.
 use mbe_program::program::run;
 use mbe_tt::span::Edition;
-use refusing::Refusing;
+use test_rows::refusing::Refusing;
 use std::alloc::Global;
 use std::io;
 use std::io::Write;

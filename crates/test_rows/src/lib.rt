@@ -1,7 +1,9 @@
 // Tables of tests, each as one text, and one loop for all of them.
 #![tactic(auto)]
 
-use refusing::Refusing;
+pub mod refusing;
+
+use crate::refusing::Refusing;
 use std::alloc::{AllocError, Allocator, Global};
 
 /// Rows as one text: of a `static` table a proof sees each text by itself, and costs much more. A field ends in 1, a row in 2.

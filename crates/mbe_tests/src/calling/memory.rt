@@ -3,7 +3,7 @@ use crate::calling::expansions::expand_call;
 use mbe::DeclarativeMacro;
 use mbe_text::lexer::{LexError, lex};
 use mbe_tt::span::Edition;
-use refusing::Refusing;
+use test_rows::refusing::Refusing;
 use std::alloc::{AllocError, Allocator, Global};
 
 /// Reads a definition and expands a call, all in memory of this allocator.

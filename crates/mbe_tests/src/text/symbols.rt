@@ -4,7 +4,7 @@ use crate::text::taking::trees;
 use mbe_text::lexer::{LexError, lex_in};
 use mbe_text::symbols::SymbolTable;
 use mbe_tt::tt::TopSubtree;
-use refusing::Refusing;
+use test_rows::refusing::Refusing;
 use std::alloc::{AllocError, Allocator, Global};
 
 // So many texts that the slots are made anew several times.
