@@ -1,7 +1,7 @@
 -- Answers to many arguments, one after another.
 use Rattle.std.proofs.Common.{◌≡◌, ◌∙◌, ◌+◌, ◌<◌, inl, inr, ℕ, zero, suc, List, [], ◌∷◌, ◌++◌, take, length, slice_index_or, Option, Some, None, add-one, arith, refl, subst, sym}
 use Rattle.std.proofs.lemmas.List.{flat_map_more, map-append}
-use Rattle.mbe_flat.specs.declared.token.FlatSpan.{FlatSpan}
+use Rattle.mbe_replies.specs.declared.flat.token.FlatSpan.{FlatSpan}
 use Rattle.mbe_replies.specs.declared.calls.Request.{Request}
 use Rattle.mbe_replies.specs.declared.read_macro.ReadMacro.{ReadMacro}
 use Rattle.mbe_replies.specs.Answers.{Answer}

@@ -1,6 +1,6 @@
 -- What is given of an answer that shows no tokens and no text: its message.
 use Rattle.std.proofs.Common.{◌≡◌, ◌∙◌, ℕ, Bool, true, List, [], ap, refl}
-use Rattle.mbe_flat.specs.declared.token.FlatToken.{FlatToken}
+use Rattle.mbe_replies.specs.declared.flat.token.FlatToken.{FlatToken}
 use Rattle.mbe_replies.specs.Answers.{Answer}
 use Rattle.mbe_replies.proofs.BareLemmas.{IsBare}
 use Rattle.mbe_c.specs.declared.Reply.{Reply}

@@ -1,7 +1,7 @@
 -- What a call leaves in memory of its caller: an answer in numbers, and what there is room for.
 use Rattle.std.specs.Prelude.{◌≡◌, ◌⊎◌, ◌-◌, ◌^◌, ℕ, Bool, ◌&&◌, if◌then◌else◌, min, nat_le, List, [], ◌++◌, length, drop, Option, Some, None, unwrap_or}
-use Rattle.mbe_flat.specs.declared.token.FlatToken.{FlatToken}
-use Rattle.mbe_flat.specs.Numbers.{flat_span}
+use Rattle.mbe_replies.specs.declared.flat.token.FlatToken.{FlatToken}
+use Rattle.mbe_replies.specs.Flat.Numbers.{flat_span}
 use Rattle.mbe_replies.specs.declared.answer.Part.TheVariants as parts
 use Rattle.mbe_replies.specs.declared.answer.Status.{Status}
 use Rattle.mbe_replies.specs.declared.answer.Status.TheVariants.{Done}

@@ -2,8 +2,8 @@
 -- its caller.
 use Rattle.std.specs.Prelude.{◌≡◌, ◌⊎◌, ◌+◌, ⊤, ℕ, Bool, ◌&&◌, if◌then◌else◌, nat_le, List, [], ◌∷◌, ◌++◌, map, length, take, drop, Option, Some, None}
 use Rattle.std.specs.List.{flat_map}
-use Rattle.mbe_flat.specs.declared.token.FlatSpan.{FlatSpan}
-use Rattle.mbe_flat.specs.declared.token.FlatToken.{FlatToken}
+use Rattle.mbe_replies.specs.declared.flat.token.FlatSpan.{FlatSpan}
+use Rattle.mbe_replies.specs.declared.flat.token.FlatToken.{FlatToken}
 use Rattle.mbe_replies.specs.declared.answer.Part.TheVariants as parts
 use Rattle.mbe_replies.specs.declared.answer.Status.TheVariants.{Done, Number}
 use Rattle.mbe_replies.specs.declared.calls.Request.{Request}

@@ -1,6 +1,6 @@
 -- What calls with a handle answer, and leave in it.
 use Rattle.std.specs.Prelude.{◌≡◌, ℕ, List, Option, Some, None}
-use Rattle.mbe_flat.specs.declared.token.FlatToken.{FlatToken}
+use Rattle.mbe_replies.specs.declared.flat.token.FlatToken.{FlatToken}
 use Rattle.mbe_replies.specs.declared.answer.Part.TheVariants as parts
 use Rattle.mbe_replies.specs.declared.answer.Status.TheVariants.{Done, HasMacro, NoMacro}
 use Rattle.mbe_replies.specs.declared.calls.Request.{Request}

@@ -18,8 +18,8 @@ use Rattle.mbe_grammar.specs.declared.text.fault.RuleFault.{RuleFault}
 use Rattle.mbe_grammar.specs.declared.text.fault.RuleFault.TheVariants as rule_faults
 use Rattle.mbe_grammar.specs.Text.Text.{read_text}
 use Rattle.mbe_grammar.specs.Text.Views.{Faults, plain_keyword, plain_node, plain_reason}
-use Rattle.mbe_flat.specs.declared.reading.FlatError.{FlatError}
-use Rattle.mbe_flat.specs.declared.reading.FlatError.TheVariants as flat_errors
+use Rattle.mbe_replies.specs.declared.flat.reading.FlatError.{FlatError}
+use Rattle.mbe_replies.specs.declared.flat.reading.FlatError.TheVariants as flat_errors
 use Rattle.mbe_replies.specs.declared.asked.GrammarKind.{GrammarKind}
 use Rattle.mbe_program.specs.declared.expanding.Unread.{Unread}
 use Rattle.mbe_program.specs.declared.expanding.Unread.TheVariants as unread

@@ -2,3 +2,4 @@ pub mod BareLemmas
 mod CallLemmas
 mod KeptLemmas
 mod ReadLemmas
+pub mod FlatTokens

@@ -13,8 +13,8 @@ use Rattle.mbe_grammar.specs.declared.text.rules.Rules.{Rules}
 use Rattle.mbe_semantics.specs.Expansion.Error.{ExpandError}
 use Rattle.mbe.specs.MacroViews.{macro_of}
 use Rattle.mbe.specs.OneAnswer.{IsAnswer}
-use Rattle.mbe_flat.specs.declared.token.FlatSpan.{FlatSpan}
-use Rattle.mbe_flat.specs.Numbers.{span_of}
+use Rattle.mbe_replies.specs.declared.flat.token.FlatSpan.{FlatSpan}
+use Rattle.mbe_replies.specs.Flat.Numbers.{span_of}
 use Rattle.mbe_replies.specs.declared.asked.GrammarKind.{GrammarKind}
 use Rattle.mbe_replies.specs.declared.asked.GrammarKind.TheVariants as grammars
 use Rattle.mbe_replies.specs.declared.calls.Request.{Request}

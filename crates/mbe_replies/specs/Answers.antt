@@ -12,11 +12,11 @@ use Rattle.mbe_grammar.specs.Text.Text.{read_text}
 use Rattle.mbe_semantics.specs.Syntax.Template.{Fault}
 use Rattle.mbe_semantics.specs.Expansion.Error.{text_of_fault}
 use Rattle.mbe_errors.specs.ErrorViews.{parse_error_of}
-use Rattle.mbe_flat.specs.declared.token.FlatToken.{FlatToken}
-use Rattle.mbe_flat.specs.declared.reading.FlatError.{FlatError}
-use Rattle.mbe_flat.specs.declared.reading.FlatError.TheVariants as flat_errors
-use Rattle.mbe_flat.specs.declared.reading.Wrong.{Wrong}
-use Rattle.mbe_flat.specs.declared.reading.Wrong.TheVariants as wrong
+use Rattle.mbe_replies.specs.declared.flat.token.FlatToken.{FlatToken}
+use Rattle.mbe_replies.specs.declared.flat.reading.FlatError.{FlatError}
+use Rattle.mbe_replies.specs.declared.flat.reading.FlatError.TheVariants as flat_errors
+use Rattle.mbe_replies.specs.declared.flat.reading.Wrong.{Wrong}
+use Rattle.mbe_replies.specs.declared.flat.reading.Wrong.TheVariants as wrong
 use Rattle.mbe_replies.specs.declared.answer.Answer as given
 use Rattle.mbe_replies.specs.declared.answer.Status.{Status}
 use Rattle.mbe_replies.specs.declared.answer.Status.TheVariants.{Done, Faulted, Refused, Number, Utf8, TooLong, NoTokens, NoTrees, NoGrammar, OutOfMemory, NoRoom, NoMacro, HasMacro}

@@ -23,11 +23,11 @@ use Rattle.mbe_semantics.specs.Syntax.Template.{Fault}
 use Rattle.mbe_semantics.specs.Expansion.Error.{ExpandError, text_of_kind}
 use Rattle.mbe_semantics.specs.Expansion.ReadAs.{IsReadAs}
 use Rattle.mbe_semantics.specs.Readings.Verdict.{Verdict, one_reading, many_readings, ambiguous, stuck}
-use Rattle.mbe_flat.specs.declared.reading.Wrong.{Wrong}
-use Rattle.mbe_flat.specs.declared.token.FlatToken.{FlatToken}
-use Rattle.mbe_flat.specs.Numbers.{span_of}
-use Rattle.mbe_flat.specs.Reading.{AreTrees}
-use Rattle.mbe_flat.specs.Writing.{flat_form}
+use Rattle.mbe_replies.specs.declared.flat.reading.Wrong.{Wrong}
+use Rattle.mbe_replies.specs.declared.flat.token.FlatToken.{FlatToken}
+use Rattle.mbe_replies.specs.Flat.Numbers.{span_of}
+use Rattle.mbe_replies.specs.Flat.Reading.{AreTrees}
+use Rattle.mbe_replies.specs.Flat.Writing.{flat_form}
 use Rattle.mbe_replies.specs.declared.answer.Part.{Part}
 use Rattle.mbe_replies.specs.declared.answer.Part.TheVariants as parts
 use Rattle.mbe_replies.specs.declared.answer.Status.TheVariants.{Done, Faulted, Number}

@@ -4,7 +4,7 @@ use Rattle.mbe_tt.specs.Trees.Top.{Top}
 use Rattle.mbe_semantics.specs.declared.macro_call_style.MacroCallStyle.{MacroCallStyle}
 use Rattle.mbe_semantics.specs.Expansion.ReadAs.{IsReadAs}
 use Rattle.mbe.specs.MacroViews.{macro_of}
-use Rattle.mbe_flat.specs.Numbers.{span_of}
+use Rattle.mbe_replies.specs.Flat.Numbers.{span_of}
 use Rattle.mbe_replies.specs.declared.asked.Form.{Form}
 use Rattle.mbe_replies.specs.declared.asked.GrammarKind.TheVariants as grammars
 use Rattle.mbe_replies.specs.declared.calls.Request.{Request}

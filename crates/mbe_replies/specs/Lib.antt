@@ -3,3 +3,4 @@ pub mod Answers
 pub mod Calls
 pub mod ReadOnce
 pub mod Kept
+pub mod Flat

@@ -9,7 +9,7 @@ use Rattle.mbe_semantics.specs.Expansion.Error.{ExpandError}
 use Rattle.mbe_semantics.specs.Expansion.ReadAs.{IsReadAs}
 use Rattle.mbe.specs.MacroViews.{macro_of}
 use Rattle.mbe.specs.OneAnswer.{IsAnswer}
-use Rattle.mbe_flat.specs.declared.token.FlatSpan.{FlatSpan}
+use Rattle.mbe_replies.specs.declared.flat.token.FlatSpan.{FlatSpan}
 use Rattle.mbe_replies.specs.declared.answer.Part.TheVariants as parts
 use Rattle.mbe_replies.specs.declared.answer.Status.TheVariants.{Number}
 use Rattle.mbe_replies.specs.declared.asked.GrammarKind.TheVariants as grammars

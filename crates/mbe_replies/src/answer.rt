@@ -7,8 +7,8 @@ ghost use Rattle.mbe_replies.specs.Answers.{answer_of};
 ghost use Rattle.mbe_replies.specs.Answers as spec;
 
 use mbe::{ExpandError, ParseError};
-use mbe_flat::reading::{FlatError, Wrong};
-use mbe_flat::token::FlatToken;
+use crate::flat::reading::{FlatError, Wrong};
+use crate::flat::token::FlatToken;
 use mbe_program::expanding::Unread;
 use mbe_grammar::text::fault::RuleFault;
 use mbe_text::scanner::{LexFault, file_span};

@@ -10,7 +10,7 @@ use crate::answer::{Answer, Part, Status};
 use crate::asked::{GrammarKind, form_of, style_of};
 use crate::calls::{Input, Request, Settings};
 use crate::read_macro::{Faultless, Fragments, InUse, ReadMacro};
-use mbe_flat::token::{FlatSpan, span_of};
+use crate::flat::token::{FlatSpan, span_of};
 use std::alloc::{AllocError, Allocator};
 
 /// What a call asks of a macro that is kept, in numbers that `asked` explains.

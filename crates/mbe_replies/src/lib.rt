@@ -4,5 +4,6 @@
 pub mod answer;
 pub mod asked;
 pub mod calls;
+pub mod flat;
 pub mod kept;
 pub mod read_macro;

@@ -9,7 +9,7 @@ use crate::answer::{Answer, Part, Status};
 use crate::asked::GrammarKind;
 use crate::calls::{Input, Request, Settings, expansion_shown, read_rules, settings_of, trees};
 use mbe::DeclarativeMacro;
-use mbe_flat::token::{FlatSpan, span_of};
+use crate::flat::token::{FlatSpan, span_of};
 use mbe_grammar::SampleGrammar;
 use mbe_program::expanding::{defined, expansion_by};
 use mbe_grammar::tables::table::RuleTable;

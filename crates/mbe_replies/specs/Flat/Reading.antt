@@ -6,8 +6,8 @@ use Rattle.mbe_tt.specs.Trees.Top.{Top}
 use Rattle.mbe_tt.specs.Buffers.Building.{Levels, put, closed, kind_inside}
 use Rattle.mbe_tt.specs.declared.tt.Delimiter.{Delimiter}
 use Rattle.mbe_tt.specs.declared.tt.DelimiterKind.{DelimiterKind}
-use Rattle.mbe_flat.specs.declared.token.FlatToken.{FlatToken}
-use Rattle.mbe_flat.specs.Numbers.{span_of, literal_of, delimiter_of, spacing_of, raw_of}
+use Rattle.mbe_replies.specs.declared.flat.token.FlatToken.{FlatToken}
+use Rattle.mbe_replies.specs.Flat.Numbers.{span_of, literal_of, delimiter_of, spacing_of, raw_of}
 
 -- a token's text is within the text, and is this
 abbrev pub HasText : List ℕ → FlatToken → List ℕ → Type 0

@@ -4,10 +4,10 @@ ghost use Rattle.mbe_tt.specs.Views.Shown.{leaf_of, ident_of, literal_of};
 ghost use Rattle.mbe_tt.specs.Trees.Leaf as leaves;
 ghost use Rattle.mbe_tt.specs.Views.View.{trees};
 ghost use Rattle.mbe_tt.specs.Trees.Top.{top_group};
-ghost use Rattle.mbe_flat.specs.Writing as spec;
-ghost use Rattle.mbe_flat.specs.Shown.{state_of};
+ghost use Rattle.mbe_replies.specs.Flat.Writing as spec;
+ghost use Rattle.mbe_replies.specs.Flat.Shown.{state_of};
 
-use crate::token::{
+use crate::flat::token::{
     CLOSING, FlatToken, IDENT, LITERAL, OPENING, PUNCT, delimiter_sort, flat_span, hashes_of,
     literal_sort, raw_sort, spacing_sort,
 };

@@ -5,8 +5,8 @@ use Rattle.mbe_tt.specs.declared.span.Span.{Span}
 use Rattle.mbe_tt.specs.declared.tt.DelimiterKind.{DelimiterKind}
 use Rattle.mbe_tt.specs.Trees.Leaf.{Leaf, literal, punct, ident}
 use Rattle.mbe_tt.specs.Trees.Tree.{Forest, none, leaf, group, flat_len}
-use Rattle.mbe_flat.specs.declared.token.FlatToken.{FlatToken}
-use Rattle.mbe_flat.specs.Numbers.{flat_span, literal_sort, hashes, delimiter_sort, spacing_sort, raw_sort}
+use Rattle.mbe_replies.specs.declared.flat.token.FlatToken.{FlatToken}
+use Rattle.mbe_replies.specs.Flat.Numbers.{flat_span, literal_sort, hashes, delimiter_sort, spacing_sort, raw_sort}
 
 -- the text of a leaf; a punct has none, since it is a number
 abbrev pub leaf_text : Leaf → List ℕ

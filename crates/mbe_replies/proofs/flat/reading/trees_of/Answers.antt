@@ -1,5 +1,5 @@
 use Rattle.std.proofs.Common.{rules}
-use Rattle.mbe_flat.proofs.reading.trees_of.Goals as goal
+use Rattle.mbe_replies.proofs.flat.reading.trees_of.Goals as goal
 
 pub returns : goal.returns
 returns g c = record {

@@ -2,8 +2,8 @@
 use Rattle.std.proofs.Common.{◌<◌, ◌≤◌, ◌+◌, ℕ, zero, suc, List, [], ◌∷◌, take, length, slice_index_or, refl, subst, arith, add-one}
 use Rattle.std.proofs.lemmas.List.{take_all}
 use Rattle.mbe_tt.specs.Buffers.Building.{Levels}
-use Rattle.mbe_flat.specs.declared.token.FlatToken.{FlatToken}
-use Rattle.mbe_flat.specs.Reading.{Adds, AddAll}
+use Rattle.mbe_replies.specs.declared.flat.token.FlatToken.{FlatToken}
+use Rattle.mbe_replies.specs.Flat.Reading.{Adds, AddAll}
 
 -- a token after the others
 added_at : (text : List ℕ) (ts : List FlatToken) (n : ℕ) (other : FlatToken) (old middle new : Levels) → n < length ts

@@ -9,7 +9,7 @@ use Rattle.mbe_tt.specs.declared.tt.IdentIsRaw.{IdentIsRaw}
 use Rattle.mbe_tt.specs.declared.tt.IdentIsRaw.TheVariants.{No, Yes}
 use Rattle.mbe_tt.specs.declared.tt.Spacing.{Spacing}
 use Rattle.mbe_tt.specs.declared.tt.Spacing.TheVariants.{Alone, Joint}
-use Rattle.mbe_flat.specs.declared.token.FlatSpan.{FlatSpan}
+use Rattle.mbe_replies.specs.declared.flat.token.FlatSpan.{FlatSpan}
 use Rattle.mbe_tt.specs.Trees.Literals as literals
 
 -- a span's numbers

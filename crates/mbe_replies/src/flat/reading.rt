@@ -3,11 +3,11 @@ ghost use Rattle.std.specs.Prelude.{◌≡◌, ◌<◌, Some, IfOk, IfSome, OnOk
 ghost use Rattle.mbe_tt.specs.Buffers.Building.{Levels};
 ghost use Rattle.mbe_tt.specs.Trees.Leaf as leaves;
 ghost use Rattle.mbe_tt.specs.Views.Shown as shown;
-ghost use Rattle.mbe_flat.specs.Numbers.{delimiter_of};
-ghost use Rattle.mbe_flat.specs.Numbers as numbers;
-ghost use Rattle.mbe_flat.specs.Reading as spec;
+ghost use Rattle.mbe_replies.specs.Flat.Numbers.{delimiter_of};
+ghost use Rattle.mbe_replies.specs.Flat.Numbers as numbers;
+ghost use Rattle.mbe_replies.specs.Flat.Reading as spec;
 
-use crate::token::{
+use crate::flat::token::{
     CLOSING, FlatToken, IDENT, LITERAL, OPENING, PUNCT, delimiter_of, literal_of, raw_of,
     spacing_of, span_of,
 };
@@ -50,7 +50,7 @@ pub enum FlatError {
 }
 
 impl From<AllocError> for FlatError {
-    ghost use Rattle.mbe_flat.specs.declared.reading.FlatError.TheVariants as errors;
+    ghost use Rattle.mbe_replies.specs.declared.flat.reading.FlatError.TheVariants as errors;
 
     ghost from_gives = { λ _ error. error ≡ errors.OutOfMemory };
 
@@ -67,7 +67,7 @@ enum Refusal {
 }
 
 impl From<AllocError> for Refusal {
-    ghost use Rattle.mbe_flat.specs.declared.reading.Refusal.TheVariants as refusals;
+    ghost use Rattle.mbe_replies.specs.declared.flat.reading.Refusal.TheVariants as refusals;
 
     ghost from_gives = { λ _ refusal. refusal ≡ refusals.OutOfMemory };
 
@@ -77,7 +77,7 @@ impl From<AllocError> for Refusal {
 }
 
 impl From<Wrong> for Refusal {
-    ghost use Rattle.mbe_flat.specs.declared.reading.Refusal.TheVariants as refusals;
+    ghost use Rattle.mbe_replies.specs.declared.flat.reading.Refusal.TheVariants as refusals;
 
     ghost from_gives = { λ wrong refusal. refusal ≡ refusals.Wrong wrong };
 
@@ -256,7 +256,7 @@ fn error_at(index: usize, refusal: Refusal) -> FlatError {
 }
 
 // Adds the tokens between the first and the last.
-#[tactic(auto, using(crate::proofs::ReadLemmas::one_more, crate::proofs::ReadLemmas::all_added))]
+#[tactic(auto, using(crate::flat::proofs::ReadLemmas::one_more, crate::flat::proofs::ReadLemmas::all_added))]
 fn add_all<A: Allocator + Copy>(
     alloc: A,
     builder: &mut TopSubtreeBuilder<A>,

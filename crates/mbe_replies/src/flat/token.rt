@@ -4,7 +4,7 @@ ghost use Rattle.mbe_tt.specs.declared.tt.LitKind.{LitKind};
 ghost use Rattle.mbe_tt.specs.declared.tt.DelimiterKind.{DelimiterKind};
 ghost use Rattle.mbe_tt.specs.declared.tt.Spacing.{Spacing};
 ghost use Rattle.mbe_tt.specs.declared.tt.IdentIsRaw.{IdentIsRaw};
-ghost use Rattle.mbe_flat.specs.Numbers as spec;
+ghost use Rattle.mbe_replies.specs.Flat.Numbers as spec;
 
 use mbe_tt::span::{Span, SyntaxContext};
 use mbe_tt::tt::{DelimiterKind, IdentIsRaw, LitKind, Spacing};

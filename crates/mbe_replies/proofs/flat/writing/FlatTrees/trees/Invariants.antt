@@ -1,10 +1,10 @@
 use Rattle.std.proofs.Common.{◌≡◌, ◌+◌, reverse}
 use Rattle.mbe_tt.specs.Trees.Tree.{flat_len}
 use Rattle.mbe_tt.specs.Views.View.{trees}
-use Rattle.mbe_flat.specs.Shown.{state_of}
-use Rattle.mbe_flat.specs.Writing.{written, written_around}
-use Rattle.mbe_flat.proofs.WalkLemmas.{tokens_around}
-use Rattle.mbe_flat.proofs.writing.FlatTrees.trees.Given as goal
+use Rattle.mbe_replies.specs.Flat.Shown.{state_of}
+use Rattle.mbe_replies.specs.Flat.Writing.{written, written_around}
+use Rattle.mbe_replies.proofs.FlatTokens.WalkLemmas.{tokens_around}
+use Rattle.mbe_replies.proofs.flat.writing.FlatTrees.trees.Given as goal
 
 abbrev pub invariant-tokens : goal.invariant-tokens
 invariant-tokens g l =

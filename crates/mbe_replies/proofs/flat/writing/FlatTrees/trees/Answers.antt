@@ -1,9 +1,9 @@
 use Rattle.std.proofs.Common.{rules}
 use Rattle.mbe_tt.specs.Views.Shown.{leaf_of}
-use Rattle.mbe_flat.specs.Shown.{state_of}
+use Rattle.mbe_replies.specs.Flat.Shown.{state_of}
 use Rattle.mbe_tt.proofs.Trees.Walks.{begins, group_on, pop_on, all_done}
-use Rattle.mbe_flat.proofs.WalkLemmas.{leaf_on, walk}
-use Rattle.mbe_flat.proofs.writing.FlatTrees.trees.Goals as goal
+use Rattle.mbe_replies.proofs.FlatTokens.WalkLemmas.{leaf_on, walk}
+use Rattle.mbe_replies.proofs.flat.writing.FlatTrees.trees.Goals as goal
 
 pub tokens-init : goal.tokens-init
 tokens-init g c = begins walk _ _ _ _ c.new-around.ensures.items c.iter-iter.ensures
