@@ -5,9 +5,9 @@ use Rattle.mbe_tt.specs.declared.span.Edition.{Edition}
 use Rattle.mbe_tt.specs.declared.span.SyntaxContext.{SyntaxContext}
 use Rattle.mbe_tt.specs.Trees.Tree.{Forest}
 use Rattle.mbe_semantics.specs.Syntax.Template.{Mode, Fault}
-use Rattle.mbe_faults.specs.Empty.{EmptyAt, here, in_group, in_repetition, after_token, after_variable, following_group}
-use Rattle.mbe_faults.specs.Empty.{after_repetition, RulesEmptyAt, in_rule, separated, RefusedAt, by_fault, by_empty}
-use Rattle.mbe_faults.specs.Empty.{OneRefusedAt, by_fault_of, by_empty_of}
+use Rattle.mbe_parser.specs.Faults.Empty.{EmptyAt, here, in_group, in_repetition, after_token, after_variable, following_group}
+use Rattle.mbe_parser.specs.Faults.Empty.{after_repetition, RulesEmptyAt, in_rule, separated, RefusedAt, by_fault, by_empty}
+use Rattle.mbe_parser.specs.Faults.Empty.{OneRefusedAt, by_fault_of, by_empty_of}
 use Rattle.mbe_expandm.proofs.PlaceEditions.{ops_read, parts_read, rules_place, one_rule_place}
 
 module _ {A B : SyntaxContext → Edition → Type 0} (more : (c : SyntaxContext) (e : Edition) → A c e → B c e) where

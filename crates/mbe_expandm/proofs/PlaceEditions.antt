@@ -9,7 +9,7 @@ use Rattle.mbe_semantics.specs.Syntax.Op.{Ops}
 use Rattle.mbe_semantics.specs.Syntax.Template as ops
 use Rattle.mbe_semantics.specs.Syntax.Template.{Mode, pattern, template, Fault, Specifies, dated_pat, dated_expr, undated, Template}
 use Rattle.mbe_semantics.specs.Syntax.Definition.{Rule, RuleTrees, AreParts}
-use Rattle.mbe_faults.specs.Places.{TemplateFaultAt, here, in_group, in_repetition, after_token, after_variable, following_group, after_repetition, RuleFaultAt, in_trees, in_pattern, in_template, RulesFaultAt, in_rule, unseparated, separated, OneRuleFaultAt}
+use Rattle.mbe_parser.specs.Faults.Places.{TemplateFaultAt, here, in_group, in_repetition, after_token, after_variable, following_group, after_repetition, RuleFaultAt, in_trees, in_pattern, in_template, RulesFaultAt, in_rule, unseparated, separated, OneRuleFaultAt}
 
 module _ {A B : SyntaxContext → Edition → Type 0} (more : (c : SyntaxContext) (e : Edition) → A c e → B c e) where
   specifies : {i : Ident} {kind : Option MetaVarKind} → Specifies A i kind → Specifies B i kind

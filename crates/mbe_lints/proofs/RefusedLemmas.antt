@@ -15,7 +15,7 @@ use Rattle.mbe_semantics.specs.Syntax.Definition.{Rule}
 use Rattle.mbe_semantics.specs.Expansion.Macro.{Macro}
 use Rattle.mbe_parser.proofs.RuleReading.{macro_with}
 use Rattle.mbe_calls.specs.Fronts.{Form, Rules, Body, Arguments}
-use Rattle.mbe_faults.specs.Empty as refused
+use Rattle.mbe_parser.specs.Faults.Empty as refused
 use Rattle.mbe_lints.specs.declared.spot.Spot.{Spot}
 use Rattle.mbe_lints.specs.Refused.{RefusedAt, not_refused, in_rules, in_body, in_part, rules_spot, part_spot}
 

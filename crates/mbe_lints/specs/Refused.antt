@@ -9,7 +9,7 @@ use Rattle.mbe_semantics.specs.Syntax.Template.{Mode, pattern, template, Fault, 
 use Rattle.mbe_semantics.specs.Expansion.Macro.{Macro}
 use Rattle.mbe_calls.specs.Fronts.{Form, Rules, Body, Arguments}
 use Rattle.mbe_explaining.specs.SpanAt.{span_at}
-use Rattle.mbe_faults.specs.Empty as refused
+use Rattle.mbe_parser.specs.Faults.Empty as refused
 use Rattle.mbe_lints.specs.declared.spot.Spot.{Spot}
 
 -- the token at a place among rules, whose group closes there

@@ -5,3 +5,9 @@ pub mod StopLemmas
 pub mod RuleReading
 pub mod ExpressionLemmas
 pub mod RefusalLemmas
+pub mod FrontLemmas
+pub mod PlaceLemmas
+pub mod PlaceLaws
+pub mod RuleLemmas
+pub mod EmptyLemmas
+pub mod EmptyRules

@@ -2,3 +2,4 @@ pub mod Reader
 pub mod Refusal
 pub mod RuleViews
 pub mod Stops
+pub mod Faults

@@ -2,6 +2,7 @@
 #![tactic(auto)]
 
 pub mod equality;
+pub mod faults;
 pub mod parser;
 pub mod rules;
 pub mod validate;

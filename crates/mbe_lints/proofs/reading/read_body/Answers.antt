@@ -2,7 +2,7 @@ use Rattle.std.proofs.Common.{Some, None, ap, sym, subst, ◌∙◌}
 use Rattle.std.proofs.lemmas.Result.{IfOk-weaker}
 use Rattle.mbe_tt.specs.Views.View.{trees}
 use Rattle.mbe_semantics.specs.Expansion.ReadAs.{IsReadAsMacro}
-use Rattle.mbe_faults.specs.Refusals.{refusal_of}
+use Rattle.mbe_parser.specs.Faults.Refusals.{refusal_of}
 use Rattle.mbe_calls.specs.Fronts.{Body}
 use Rattle.mbe_lints.specs.Read.{macro_read}
 use Rattle.mbe_lints.proofs.RefusedLemmas.{told, not_refused_at, fault_in_body}

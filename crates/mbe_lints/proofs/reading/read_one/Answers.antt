@@ -3,7 +3,7 @@ use Rattle.std.proofs.lemmas.Result.{IfOk-weaker}
 use Rattle.mbe_tt.specs.Views.View.{trees}
 use Rattle.mbe_parser.specs.Reader.{mode_of}
 use Rattle.mbe_semantics.specs.Expansion.ReadAs.{IsReadAsMacro}
-use Rattle.mbe_faults.specs.Refusals.{refusal_of}
+use Rattle.mbe_parser.specs.Faults.Refusals.{refusal_of}
 use Rattle.mbe_calls.specs.Fronts.{Arguments}
 use Rattle.mbe_lints.specs.Read.{macro_read}
 use Rattle.mbe_lints.proofs.RefusedLemmas.{told, not_refused_at, fault_in_part}

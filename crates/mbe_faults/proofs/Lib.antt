@@ -1,6 +1,0 @@
-pub mod FrontLemmas
-pub mod PlaceLemmas
-pub mod PlaceLaws
-pub mod RuleLemmas
-pub mod EmptyLemmas
-pub mod EmptyRules

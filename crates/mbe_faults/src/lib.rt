@@ -1,8 +1,0 @@
-// Where a definition is refused.
-#![tactic(auto)]
-
-pub mod empty;
-pub mod front;
-mod inner;
-pub mod rules;
-pub mod templates;
