@@ -511,7 +511,7 @@ fn concerns(local: Word<'_>, word: Word<'_>) -> bool
     local.span.ctx.0 == word.span.ctx.0 || is_edge(word.role)
 }
 
-#[tactic(auto, using(crate::hygiene::proofs::BesideLemmas::no_doubt))]
+#[tactic(auto, using(crate::proofs::Renaming::BesideLemmas::no_doubt))]
 fn is_doubt(local: Word<'_>, progress: Progress, word: Word<'_>) -> bool
     ensures { result ≡ spec.is_doubt (word_of local.entry) progress (word_of word.entry) }
 {
@@ -521,7 +521,7 @@ fn is_doubt(local: Word<'_>, progress: Progress, word: Word<'_>) -> bool
             || may_be(local, word))
 }
 
-#[tactic(auto, using(crate::hygiene::proofs::BesideLemmas::as_before))]
+#[tactic(auto, using(crate::proofs::Renaming::BesideLemmas::as_before))]
 fn after_word(local: Word<'_>, progress: Progress, word: Word<'_>) -> Progress
     ensures { result ≡ spec.after_word (word_of local.entry) progress (word_of word.entry) }
 {

@@ -16,7 +16,7 @@ use std::alloc::Allocator;
 
 /// The trees after what the rule at that position takes, where rules name one another so deep.
 #[cycle(take)]
-#[tactic(auto, using(crate::tables::proofs::TakesLemmas::takes_none))]
+#[tactic(auto, using(crate::proofs::TakesLemmas::takes_none))]
 pub fn take<'t, A: Allocator>(
     table: &RuleTable<'_>,
     depth: u32,

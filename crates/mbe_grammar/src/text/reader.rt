@@ -54,7 +54,7 @@ fn terminal_of<'t>(name: &str) -> Option<Terminal<'t>>
 
 impl<'t, A: Allocator + Copy> Reader<'t, A> {
     /// Before the first word: the first positions are those of the rules.
-    #[tactic(auto, using(crate::text::proofs::ReadingLemmas::map_replicate))]
+    #[tactic(auto, using(crate::proofs::ReadText::ReadingLemmas::map_replicate))]
     pub fn new(alloc: A, names: Names<'t, A>) -> Result<Reader<'t, A>, AllocError>
         ensures { IfOk result (λ r. reading_seen r ≡ spec.first_reading (names_seen names.entry)) }
     {
@@ -95,7 +95,7 @@ impl<'t, A: Allocator + Copy> Reader<'t, A> {
     }
 
     // The last item, if there is one, is done. `place` is that of what comes after it.
-    #[tactic(auto, unfolding(crate::text::specs::Text::end_item))]
+    #[tactic(auto, unfolding(crate::specs::Text::Text::end_item))]
     fn end_item(&mut self, place: Place) -> Result<(), RuleFault<'t>>
         ensures { IsRead (λ _. reading_seen self.new) result
             (spec.end_item place (reading_seen self.old)) }
@@ -116,7 +116,7 @@ impl<'t, A: Allocator + Copy> Reader<'t, A> {
     }
 
     // The present alternative is done. The choice up to it is returned.
-    #[tactic(auto, using(crate::text::proofs::StepLemmas::steps), unfolding(crate::text::specs::Text::end_sequence))]
+    #[tactic(auto, using(crate::proofs::ReadText::StepLemmas::steps), unfolding(crate::specs::Text::Text::end_sequence))]
     fn end_sequence(&mut self, place: Place) -> Result<usize, RuleFault<'t>>
         ensures { IsRead (λ x. (x, reading_seen self.new)) result
             (spec.end_sequence place (reading_seen self.old)) }
@@ -130,7 +130,7 @@ impl<'t, A: Allocator + Copy> Reader<'t, A> {
     }
 
     // The next item of the present alternative.
-    #[tactic(auto, using(crate::text::proofs::StepLemmas::steps), unfolding(crate::text::specs::Text::item))]
+    #[tactic(auto, using(crate::proofs::ReadText::StepLemmas::steps), unfolding(crate::specs::Text::Text::item))]
     fn item(&mut self, place: Place, node: Node<'t>) -> Result<(), RuleFault<'t>>
         ensures { IsRead (λ _. reading_seen self.new) result
             (spec.item place (plain_node node.entry) (reading_seen self.old)) }
@@ -143,7 +143,7 @@ impl<'t, A: Allocator + Copy> Reader<'t, A> {
     }
 
     // The item of a name.
-    #[tactic(auto, unfolding(crate::text::specs::Text::name))]
+    #[tactic(auto, unfolding(crate::specs::Text::Text::name))]
     fn name(&mut self, place: Place, name: &'t str) -> Result<(), RuleFault<'t>>
         ensures { IsRead (λ _. reading_seen self.new) result
             (spec.name place name.now (reading_seen self.old)) }
@@ -156,7 +156,7 @@ impl<'t, A: Allocator + Copy> Reader<'t, A> {
     }
 
     // `?`, `*`, `+` and `!`.
-    #[tactic(auto, unfolding(crate::text::specs::Text::postfix))]
+    #[tactic(auto, unfolding(crate::specs::Text::Text::postfix))]
     fn postfix(&mut self, place: Place, mark: char) -> Result<(), RuleFault<'t>>
         ensures { IsRead (λ _. reading_seen self.new) result
             (spec.postfix place mark (reading_seen self.old)) }
@@ -178,7 +178,7 @@ impl<'t, A: Allocator + Copy> Reader<'t, A> {
     }
 
     // `&` and `~`.
-    #[tactic(auto, using(crate::text::proofs::StepLemmas::steps), unfolding(crate::text::specs::Text::look_ahead))]
+    #[tactic(auto, using(crate::proofs::ReadText::StepLemmas::steps), unfolding(crate::specs::Text::Text::look_ahead))]
     fn test(&mut self, place: Place, test: Test) -> Result<(), RuleFault<'t>>
         ensures { IsRead (λ _. reading_seen self.new) result
             (spec.look_ahead place test (reading_seen self.old)) }
@@ -189,7 +189,7 @@ impl<'t, A: Allocator + Copy> Reader<'t, A> {
     }
 
     // `|`.
-    #[tactic(auto, using(crate::text::proofs::StepLemmas::steps), unfolding(crate::text::specs::Text::alternative))]
+    #[tactic(auto, using(crate::proofs::ReadText::StepLemmas::steps), unfolding(crate::specs::Text::Text::alternative))]
     fn alternative(&mut self, place: Place) -> Result<(), RuleFault<'t>>
         ensures { IsRead (λ _. reading_seen self.new) result
             (spec.alternative place (reading_seen self.old)) }
@@ -211,7 +211,7 @@ impl<'t, A: Allocator + Copy> Reader<'t, A> {
     }
 
     // `)` and `]`.
-    #[tactic(auto, using(crate::text::proofs::StepLemmas::steps), unfolding(crate::text::specs::Text::close))]
+    #[tactic(auto, using(crate::proofs::ReadText::StepLemmas::steps), unfolding(crate::specs::Text::Text::close))]
     fn close(&mut self, place: Place, mark: char) -> Result<(), RuleFault<'t>>
         ensures { IsRead (λ _. reading_seen self.new) result
             (spec.close place mark (reading_seen self.old)) }
@@ -230,7 +230,7 @@ impl<'t, A: Allocator + Copy> Reader<'t, A> {
     }
 
     // A position is a rule from now on.
-    #[tactic(auto, using(crate::text::proofs::ReadingLemmas::nodes_set, std::proofs::lemmas::List::set_past))]
+    #[tactic(auto, using(crate::proofs::ReadText::ReadingLemmas::nodes_set, std::proofs::lemmas::List::set_past))]
     fn set_rule(&mut self, position: usize, rule: usize)
         ensures { reading_seen self.new ≡ spec.with_rule position rule (reading_seen self.old) }
     {
@@ -240,7 +240,7 @@ impl<'t, A: Allocator + Copy> Reader<'t, A> {
     }
 
     /// The end of what is read at present, which is no group. `place` is that of what comes after it.
-    #[tactic(auto, using(crate::text::proofs::StepLemmas::steps), unfolding(crate::text::specs::Text::end_rule))]
+    #[tactic(auto, using(crate::proofs::ReadText::StepLemmas::steps), unfolding(crate::specs::Text::Text::end_rule))]
     pub fn end_rule(&mut self, place: Place) -> Result<(), RuleFault<'t>>
         ensures { IsRead (λ _. reading_seen self.new) result
             (spec.end_rule place (reading_seen self.old)) }
@@ -259,7 +259,7 @@ impl<'t, A: Allocator + Copy> Reader<'t, A> {
     }
 
     // A name and `=`.
-    #[tactic(auto, using(crate::text::proofs::StepLemmas::steps), unfolding(crate::text::specs::Text::define))]
+    #[tactic(auto, using(crate::proofs::ReadText::StepLemmas::steps), unfolding(crate::specs::Text::Text::define))]
     fn define(&mut self, place: Place, name: &'t str) -> Result<(), RuleFault<'t>>
         ensures { IsRead (λ _. reading_seen self.new) result
             (spec.define place name.now (reading_seen self.old)) }
@@ -291,7 +291,7 @@ impl<'t, A: Allocator + Copy> Reader<'t, A> {
     }
 
     // A word in a rule.
-    #[tactic(auto, unfolding(crate::text::specs::Text::part))]
+    #[tactic(auto, unfolding(crate::specs::Text::Text::part))]
     fn part(&mut self, place: Place, token: Token<'t>) -> Result<(), RuleFault<'t>>
         ensures { IsRead (λ _. reading_seen self.new) result
             (spec.part place (plain_token token.entry) (reading_seen self.old)) }
@@ -308,7 +308,7 @@ impl<'t, A: Allocator + Copy> Reader<'t, A> {
     }
 
     // A word of a list of keywords.
-    #[tactic(auto, unfolding(crate::text::specs::Text::keyword))]
+    #[tactic(auto, unfolding(crate::specs::Text::Text::keyword))]
     fn keyword(
         &mut self,
         place: Place,
@@ -330,7 +330,7 @@ impl<'t, A: Allocator + Copy> Reader<'t, A> {
     }
 
     /// The next word.
-    #[tactic(auto, unfolding(crate::text::specs::Text::word, crate::text::specs::Text::before_rules))]
+    #[tactic(auto, unfolding(crate::specs::Text::Text::word, crate::specs::Text::Text::before_rules))]
     pub fn word(&mut self, place: Place, token: Token<'t>) -> Result<(), RuleFault<'t>>
         ensures { IsRead (λ _. reading_seen self.new) result
             (spec.word place (plain_token token.entry) (reading_seen self.old)) }

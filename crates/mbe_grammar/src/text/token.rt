@@ -66,7 +66,7 @@ fn first_char(text: &str) -> Option<(char, &str)>
 }
 
 // What is up to the next quote, and what is left after that. `after` is what is left after the first one.
-#[tactic(auto, unfolding(crate::text::specs::Words::quoted))]
+#[tactic(auto, unfolding(crate::specs::Text::Words::quoted))]
 fn quoted<'t>(after: &'t str, quote: char) -> Result<(&'t str, &'t str), Reason<'t>>
     requires { quote < 128 }
     ensures { parts_seen result ≡ spec.quoted quote after.now }
@@ -79,7 +79,7 @@ fn quoted<'t>(after: &'t str, quote: char) -> Result<(&'t str, &'t str), Reason<
 }
 
 // A character and the "`" after it.
-#[tactic(auto, unfolding(crate::text::specs::Words::sign_at))]
+#[tactic(auto, unfolding(crate::specs::Text::Words::sign_at))]
 fn sign(after: &str) -> Start<'_>
     ensures { start_seen result ≡ spec.sign_at after.now }
 {
@@ -93,7 +93,7 @@ fn sign(after: &str) -> Start<'_>
 }
 
 // How long the name is that a text begins with.
-#[tactic(auto, using(crate::text::proofs::CharLemmas::name_end))]
+#[tactic(auto, using(crate::proofs::ReadText::CharLemmas::name_end))]
 fn name_len(text: &str) -> usize
     ensures { result ≡ spec.name_len text.now }
 {
@@ -123,7 +123,7 @@ fn inside_or_name<'t>(name: &'t str, rest: &'t str) -> (Token<'t>, &'t str)
 }
 
 // A name, with the `=` or the `[` that belongs to it.
-#[tactic(auto, unfolding(crate::text::specs::Words::name_at))]
+#[tactic(auto, unfolding(crate::specs::Text::Words::name_at))]
 fn name(text: &str) -> (Token<'_>, &str)
     ensures { start_of_name result ≡ spec.name_at text.now }
 {
@@ -135,7 +135,7 @@ fn name(text: &str) -> (Token<'_>, &str)
 }
 
 /// What a text begins with, which has no white space at its front.
-#[tactic(auto, unfolding(crate::text::specs::Words::token_at))]
+#[tactic(auto, unfolding(crate::specs::Text::Words::token_at))]
 pub fn token_at(text: &str) -> Start<'_>
     ensures { start_seen result ≡ spec.token_at text.now }
 {

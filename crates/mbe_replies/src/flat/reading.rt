@@ -256,7 +256,7 @@ fn error_at(index: usize, refusal: Refusal) -> FlatError {
 }
 
 // Adds the tokens between the first and the last.
-#[tactic(auto, using(crate::flat::proofs::ReadLemmas::one_more, crate::flat::proofs::ReadLemmas::all_added))]
+#[tactic(auto, using(crate::proofs::FlatTokens::ReadLemmas::one_more, crate::proofs::FlatTokens::ReadLemmas::all_added))]
 fn add_all<A: Allocator + Copy>(
     alloc: A,
     builder: &mut TopSubtreeBuilder<A>,
