@@ -7,9 +7,9 @@ ghost use Rattle.mbe_c.specs.Each.{answers_seen};
 ghost use Rattle.mbe_c.specs.Each as spec;
 
 use crate::{Reply, reply_of};
-use mbe_replies::flat::token::{FlatSpan, FlatToken};
 use mbe_replies::answer::{Answer, Part, Status};
 use mbe_replies::calls::{Input, Request};
+use mbe_replies::flat::token::{FlatSpan, FlatToken};
 use mbe_replies::read_macro::ReadMacro;
 use std::alloc::{AllocError, Allocator};
 

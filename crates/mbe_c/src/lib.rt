@@ -18,11 +18,11 @@ mod macros;
 use crate::each::{Answers, Piece, expand_each};
 use crate::handle::Macro;
 use crate::macros::read_macro;
-use mbe_replies::flat::token::{FlatSpan, FlatToken, flat_span};
 use mbe_replies::answer::{Answer, Part, Status};
 use mbe_replies::calls::{
     FlatVerdict, Input, Request, check_grammar, convert, define, expand, explain,
 };
+use mbe_replies::flat::token::{FlatSpan, FlatToken, flat_span};
 use mbe_replies::kept::Call;
 use std::alloc::{Allocator, Global};
 

@@ -1,4 +1,5 @@
-// `#[cfg(..)]` and `#[cfg_attr(..)]` on token trees: whether what they are on is compiled, under the options of a run.
+// What of a crate is compiled: `#[cfg(..)]` and `#[cfg_attr(..)]` under the options of a run, and trees without what they leave out; the
+// files and the trees of its modules; and what its root exports of other crates.
 #![tactic(auto)]
 
 pub mod attributes;

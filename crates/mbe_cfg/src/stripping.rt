@@ -9,13 +9,13 @@ ghost use Rattle.mbe_tt.specs.Views.View.{trees};
 ghost use Rattle.mbe_cfg.specs.Shown.{group_shown};
 ghost use Rattle.mbe_cfg.specs.Stripping as spec;
 
-use crate::extent::after_subject;
-use mbe_calls::calls::{Front, front_of};
 use crate::attributes::{attribute, attributes};
+use crate::extent::after_subject;
 use crate::fault::Fault;
 use crate::fronts::{Group, after_char, bracketed, group_at};
 use crate::predicate::{DEPTH, predicate};
 use crate::settings::Settings;
+use mbe_calls::calls::{Front, front_of};
 use mbe_tt::grammar::FragmentGrammar;
 use mbe_tt::tt::{
     Delimiter, DelimiterKind, TokenTreesView, TopSubtree, TopSubtreeBuilder, TtElement,

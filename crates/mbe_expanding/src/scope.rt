@@ -18,10 +18,10 @@ mod linking;
 
 use mbe::{DeclarativeMacro, ParseError};
 use mbe_calls::calls::{Call, Defined, Form};
+use mbe_calls::fragments::typing::{typed_rules, typed_template};
 use mbe_calls::hygiene::contexts::contexts_in;
 use mbe_tt::span::{Edition, Span};
 use mbe_tt::tt::{Delimiter, TokenTreesView, TopSubtree, TopSubtreeBuilder};
-use mbe_calls::fragments::typing::{typed_rules, typed_template};
 use std::alloc::{AllocError, Allocator, Global};
 
 /// What finds a definition.

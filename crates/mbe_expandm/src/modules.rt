@@ -7,10 +7,10 @@ ghost use Rattle.mbe_cfg.specs.Files.Shown.{place_shown};
 
 use crate::files::source_file;
 use crate::reading::Reading;
-use mbe_expanding::notes::{Level, Note};
 use mbe_cfg::crates::following::{Unfound, follow};
 use mbe_cfg::crates::taking::Wrong;
 use mbe_cfg::files::places::{Candidates, Place};
+use mbe_expanding::notes::{Level, Note};
 use mbe_text::symbols::SymbolTable;
 use std::alloc::{AllocError, Global};
 

@@ -9,11 +9,11 @@ ghost use Rattle.mbe_expandm.specs.Reports.{error_written, form_for, level_shown
 
 use crate::files::SourceFile;
 use crate::places::{NOWHERE, Place, Position};
+use mbe_expanding::notes::{self, Note};
+use mbe_expanding::settings::Explain;
 use mbe_explaining::diagnostic::{Diagnostic, Level, Point};
 use mbe_explaining::json::{json_line, plain_line};
 use mbe_explaining::text::rendered;
-use mbe_expanding::notes::{self, Note};
-use mbe_expanding::settings::Explain;
 use mbe_lints::lint::Lint;
 use mbe_tt::span::Span;
 use std::alloc::{AllocError, Global};

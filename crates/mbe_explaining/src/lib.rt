@@ -1,4 +1,5 @@
-// Why a rule doesn't fit a call: where a position of an argument is, and what a pattern wants there, as text.
+// Why a rule doesn't fit a call: where a position of an argument is, and what a pattern wants there, as text; and messages about a part of
+// a file, as rustc writes them and as JSON.
 #![tactic(auto)]
 
 pub mod diagnostic;

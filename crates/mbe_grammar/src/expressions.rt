@@ -13,10 +13,10 @@ ghost use Rattle.mbe_grammar.specs.Tables.Steps.{seen};
 ghost use Rattle.mbe_grammar.specs.Links.{whole, GoesOnWithin};
 
 use crate::patterns::mut_reference;
-use crate::tokens::{name, no_punct, puncts};
-use crate::types::{PathStyle, lifetime, path, turbofish};
 use crate::tables::step::{Miss, Step, ahead, maybe, not_ahead};
 use crate::tables::terminals::{group, literal, sign, word};
+use crate::tokens::{name, no_punct, puncts};
+use crate::types::{PathStyle, lifetime, path, turbofish};
 use mbe_tt::tt::{DelimiterKind, Leaf, Punct, TokenTreesView, TtElement};
 use std::alloc::Allocator;
 

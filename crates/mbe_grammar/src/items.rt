@@ -11,10 +11,10 @@ ghost use Rattle.mbe_grammar.specs.Tables.Steps.{seen};
 
 use crate::expressions::{VISIBLE, expr};
 use crate::patterns::pat_top;
-use crate::tokens::puncts;
-use crate::types::{PathStyle, path, ty};
 use crate::tables::step::{Miss, Step, ahead, maybe, not_ahead};
 use crate::tables::terminals::{group, word};
+use crate::tokens::puncts;
+use crate::types::{PathStyle, path, ty};
 use mbe_tt::tt::{DelimiterKind, Leaf, TokenTreesView, TtElement};
 use std::alloc::Allocator;
 

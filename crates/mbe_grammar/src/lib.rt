@@ -1,5 +1,6 @@
-// A sample grammar of fragments: paths, types, patterns, expressions, statements, items and visibilities, near to Rust's. It is
-// what the program `mbex` hands in, and a model for a caller's own.
+// Grammars of fragments. Here is a sample: paths, types, patterns, expressions, statements, items and visibilities, near to Rust's. It is
+// what the program `mbex` hands in, and a model for a caller's own. Beside it are grammars as tables, tables that are read from texts,
+// and Rust's whole grammar as a table.
 #![tactic(auto)]
 
 ghost use Rattle.std.specs.Prelude.{◌≡◌};
@@ -30,9 +31,9 @@ mod types;
 use crate::expressions::expr;
 use crate::items::{block, item, meta, stmt, vis};
 use crate::patterns::{pat, pat_top};
-use crate::types::{PathStyle, path, ty};
 use crate::tables::step::Step;
 use crate::tables::terminals::is_text_of;
+use crate::types::{PathStyle, path, ty};
 use mbe_tt::grammar::{FragmentGrammar, Front, PrefixEntryPoint};
 use mbe_tt::tt::TokenTreesView;
 use std::alloc::{AllocError, Allocator};

@@ -6,10 +6,10 @@ ghost use Rattle.mbe_grammar.specs.SampleGrammar.{takes, mut_reference, SignedLi
 ghost use Rattle.mbe_grammar.specs.Chains.{direct_pattern};
 ghost use Rattle.mbe_grammar.specs.Tables.Steps.{seen};
 
-use crate::tokens::puncts;
-use crate::types::{PathStyle, path};
 use crate::tables::step::{Miss, Step, either, maybe, needed};
 use crate::tables::terminals::{group, literal, sign, word};
+use crate::tokens::puncts;
+use crate::types::{PathStyle, path};
 use mbe_tt::tt::{DelimiterKind, TokenTreesView};
 use std::alloc::Allocator;
 

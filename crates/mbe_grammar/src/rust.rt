@@ -1,4 +1,4 @@
-// Rust's grammar of fragments, as a table for the engine of `mbe_rules`. Its source is `rust.peg`, beside this folder.
+// Rust's grammar of fragments, as a table (`tables`). Its source is `rust.peg`, beside the folder of this crate's code.
 pub mod fragments;
 pub mod keywords;
 pub mod nodes;

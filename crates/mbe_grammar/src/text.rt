@@ -1,4 +1,4 @@
-// Grammars of fragments that are read from texts: a text's rules as a table for the engine of `mbe_rules`.
+// Grammars of fragments that are read from texts: a text's rules as a table (`tables`).
 mod choice;
 pub mod fault;
 mod names;

@@ -6,9 +6,9 @@ ghost use Rattle.mbe_grammar.specs.SampleGrammar.{takes, reference_sign, pointer
 ghost use Rattle.mbe_grammar.specs.Chains.{direct_type};
 ghost use Rattle.mbe_grammar.specs.Tables.Steps.{seen};
 
-use crate::tokens::{closing, name, puncts};
 use crate::tables::step::{Miss, Step, ahead, maybe, needed};
 use crate::tables::terminals::{group, identifier, sign, word};
+use crate::tokens::{closing, name, puncts};
 use mbe_tt::tt::{DelimiterKind, TokenTreesView};
 use std::alloc::Allocator;
 

@@ -1,4 +1,5 @@
-// What can be said of a macro definition alone, without a call: what is wrong with a rule or of no use in it.
+// What can be said of a macro definition alone, without a call: what is wrong with a rule or of no use in it, and which rules no call
+// reaches.
 #![tactic(auto)]
 
 mod alike;

@@ -329,7 +329,14 @@ pub fn push_finding<A: Allocator + Copy>(
         }
         Finding::StillRepeats(bound, used) => {
             let at = show(defined, used.place.unwrap_or(bound.place), None);
-            push_repeating(alloc, lints, *bound, *used, shown_bound(defined, *bound), at)
+            push_repeating(
+                alloc,
+                lints,
+                *bound,
+                *used,
+                shown_bound(defined, *bound),
+                at,
+            )
         }
         Finding::Forbidden(followed) => {
             let next = next_part(alloc, defined, followed.next)?;

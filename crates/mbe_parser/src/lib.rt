@@ -1,4 +1,4 @@
-// Reads definitions. A layer of `mbe`: use that crate.
+// Reads definitions, and says where one is refused. A layer of `mbe`: use that crate.
 #![tactic(auto)]
 
 pub mod equality;

@@ -119,8 +119,8 @@ abbrev pub IsUntreedBy : Part → FlatError → Answer → Type 0
 IsUntreedBy part (flat_errors.Fault index wrong) a = IsOr (IsUntreed part index wrong) a
 IsUntreedBy part flat_errors.OutOfMemory a = IsOutOfMemory a
 
--- The text of a grammar isn't one: that is wrong in it, there. The message is the words of `mbe_rules_text` for the
--- reason.
+-- The text of a grammar isn't one: that is wrong in it, there. The message is the words of `mbe_grammar::text` for
+-- the reason.
 abbrev pub IsUngrammatical : Place → Answer → Type 0
 IsUngrammatical place a = a ≡ record (empty NoGrammar parts.Grammar) {
   place = place.line;

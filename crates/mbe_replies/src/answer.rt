@@ -6,11 +6,11 @@ ghost use Rattle.mbe_errors.specs.ErrorViews.{error_of, parse_error_of};
 ghost use Rattle.mbe_replies.specs.Answers.{answer_of};
 ghost use Rattle.mbe_replies.specs.Answers as spec;
 
-use mbe::{ExpandError, ParseError};
 use crate::flat::reading::{FlatError, Wrong};
 use crate::flat::token::FlatToken;
-use mbe_program::expanding::Unread;
+use mbe::{ExpandError, ParseError};
 use mbe_grammar::text::fault::RuleFault;
+use mbe_program::expanding::Unread;
 use mbe_text::scanner::{LexFault, file_span};
 use mbe_tt::span::Span;
 use std::alloc::{AllocError, Allocator};

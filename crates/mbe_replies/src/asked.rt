@@ -47,9 +47,9 @@ pub fn style_of(number: u32) -> Option<MacroCallStyle>
 pub enum GrammarKind {
     /// `mbe_grammar`'s.
     Sample,
-    /// `mbe_rust`'s.
+    /// Rust's whole (`mbe_grammar::rust`).
     Rust,
-    /// The text of one (`mbe_rules_text`) is given.
+    /// The text of one (`mbe_grammar::text`) is given.
     Text,
 }
 
@@ -72,7 +72,7 @@ pub enum Form {
     Tokens,
     /// As lines, one for each group and leaf (`mbe_text::printing`).
     Lines,
-    /// As Rust text (`mbe_rust_text`), without the group around them.
+    /// As Rust text (`mbe_text::writing`), without the group around them.
     Rust,
 }
 

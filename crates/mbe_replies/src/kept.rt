@@ -9,8 +9,8 @@ ghost use Rattle.mbe_replies.specs.Kept as spec;
 use crate::answer::{Answer, Part, Status};
 use crate::asked::{GrammarKind, form_of, style_of};
 use crate::calls::{Input, Request, Settings};
-use crate::read_macro::{Faultless, Fragments, InUse, ReadMacro};
 use crate::flat::token::{FlatSpan, span_of};
+use crate::read_macro::{Faultless, Fragments, InUse, ReadMacro};
 use std::alloc::{AllocError, Allocator};
 
 /// What a call asks of a macro that is kept, in numbers that `asked` explains.

@@ -1,7 +1,6 @@
-// Tests of `mbe_text` and of grammars: of `mbe_grammar`, which is written by hand, and of tables (`mbe_rules`, `mbe_rules_text`, `mbe_rust`), all
-// through their public calls, where no program shows it; of deep trees; and of what is around an expansion: calls and definitions at the front
-// of trees, texts with parts replaced, trees as Rust text, what is left out by a `cfg`, the files of modules, new names for locals, and messages
-// on parts of files.
+// Tests of `mbe_text` and of the grammars of `mbe_grammar`, by hand and as tables, all through their public calls, where no program shows
+// it; of deep trees; and of what is around an expansion: calls and definitions at the front of trees, texts with parts replaced, trees as
+// Rust text, what is left out by a `cfg`, the files of modules, new names for locals, and messages on parts of files.
 mod around;
 mod carets;
 mod deep;

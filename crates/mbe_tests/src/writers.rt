@@ -1,10 +1,10 @@
 // Runs in which a request for memory is refused, or a call of the writer fails, each in turn.
 use mbe_program::program::run;
 use mbe_tt::span::Edition;
-use test_rows::refusing::Refusing;
 use std::alloc::Global;
 use std::io;
 use std::io::Write;
+use test_rows::refusing::Refusing;
 use test_rows::{Fields, number};
 
 /// A writer that fails at one of its calls, counted from 1, or from one of its writes on takes nothing. Each write takes three bytes at

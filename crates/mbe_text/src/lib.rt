@@ -1,4 +1,4 @@
-// Text and token trees: the trees of a text, and the printed form of trees.
+// Text and token trees: the trees of a text, the printed form of trees, trees as Rust text, and that such a text comes back with its trees.
 #![tactic(auto)]
 
 mod characters;

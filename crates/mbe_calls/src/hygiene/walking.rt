@@ -8,7 +8,9 @@ ghost use Rattle.mbe_calls.specs.Hygiene.Steps as spec;
 
 use crate::hygiene::kinds::sign_of;
 use crate::hygiene::roles::{group_role, punct_role, role_of};
-use crate::hygiene::sites::{Before, Part, Region, Role, Site, after_group, after_leaf, inside_group};
+use crate::hygiene::sites::{
+    Before, Part, Region, Role, Site, after_group, after_leaf, inside_group,
+};
 use mbe_tt::span::Span;
 use mbe_tt::tt::{DelimiterKind, Leaf, LitKind, TokenTreesView, TtElement};
 use std::alloc::{AllocError, Allocator};

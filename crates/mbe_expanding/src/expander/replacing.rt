@@ -20,14 +20,14 @@ use crate::expander::{Expander, LEVELS, text_of};
 use crate::fits::{Before, begins_in, left_by, left_by_call};
 use crate::notes::Level;
 use mbe_calls::calls::{Call, Defined, Front, attribute_at, front_of, is_standard};
-use mbe_calls::splicing::{Replacement, splice};
-use mbe_calls::hygiene::contexts::told_apart;
-use mbe_calls::hygiene::renaming::Doubt;
-use mbe_tt::span::Span;
-use mbe_tt::tt::{Delimiter, Leaf, TokenTreesView, TopSubtree, TopSubtreeBuilder, TtElement};
 use mbe_calls::fragments::names::names_builtin;
 use mbe_calls::fragments::places::{Place, place_of};
 use mbe_calls::fragments::wording::{Builtins, worded};
+use mbe_calls::hygiene::contexts::told_apart;
+use mbe_calls::hygiene::renaming::Doubt;
+use mbe_calls::splicing::{Replacement, splice};
+use mbe_tt::span::Span;
+use mbe_tt::tt::{Delimiter, Leaf, TokenTreesView, TopSubtree, TopSubtreeBuilder, TtElement};
 use std::alloc::{AllocError, Allocator};
 
 impl<A: Allocator + Copy> Expander<'_, A> {

@@ -4,12 +4,12 @@ ghost use Rattle.mbe_grammar.specs.Text.Text as spec;
 ghost use Rattle.mbe_grammar.specs.Text.Views.{IsRead, reading_seen, names_seen};
 ghost use Rattle.mbe_grammar.specs.Text.Views.{plain_node, plain_terminal, plain_token};
 
+use crate::tables::node::{Keyword, Node, Terminal};
+use crate::tables::table::Starts;
 use crate::text::choice::{Choice, Opening, Test};
 use crate::text::fault::{Place, Reason, RuleFault};
 use crate::text::names::{Names, edition_of};
 use crate::text::token::Token;
-use crate::tables::node::{Keyword, Node, Terminal};
-use crate::tables::table::Starts;
 use mbe_tt::span::Edition;
 use mbe_tt::tt::DelimiterKind;
 use std::alloc::{AllocError, Allocator};

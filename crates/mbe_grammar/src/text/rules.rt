@@ -4,13 +4,13 @@ ghost use Rattle.mbe_grammar.specs.Text.Text.{read_text};
 ghost use Rattle.mbe_grammar.specs.Text.Text as spec;
 ghost use Rattle.mbe_grammar.specs.Text.Views.{IsRead, plain_word, reading_seen, rules_seen};
 
+use crate::tables::node::{Keyword, Node};
+use crate::tables::table::{RuleTable, Starts};
 use crate::text::fault::{Place, RuleFault};
 use crate::text::names::names_in;
 use crate::text::reader::Reader;
 use crate::text::token::Token;
 use crate::text::words::words_of;
-use crate::tables::node::{Keyword, Node};
-use crate::tables::table::{RuleTable, Starts};
 use mbe_tt::span::Edition;
 use std::alloc::{Allocator, Global};
 

@@ -10,8 +10,8 @@ ghost use Rattle.mbe_parser.specs.Faults.Empty.{EmptyAt, PassesOp};
 
 use crate::faults::front::eat_front;
 use crate::faults::inner::inner_of;
-use mbe_ops::ops::Op;
 use crate::parser::Mode;
+use mbe_ops::ops::Op;
 use mbe_semantics::kinds::{MetaVarKind, RepeatKind};
 use mbe_tt::span::{Edition, SyntaxContext};
 use mbe_tt::tt::TtIter;

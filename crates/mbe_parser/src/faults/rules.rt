@@ -17,10 +17,10 @@ ghost use Rattle.mbe_parser.specs.declared.faults.rules.Refusal.TheVariants as r
 
 use crate::faults::empty::{first_empty, further};
 use crate::faults::templates::{Found, read_part};
-use mbe_errors::error::SyntaxFault;
-use mbe_ops::ops::MetaTemplate;
 use crate::parser::Mode;
 use crate::rules::{Rule, parse_rule_style, rule_groups};
+use mbe_errors::error::SyntaxFault;
+use mbe_ops::ops::MetaTemplate;
 use mbe_semantics::macro_call_style::MacroCallStyle;
 use mbe_tt::span::{Edition, SyntaxContext};
 use mbe_tt::tt::TtIter;

@@ -9,9 +9,9 @@ ghost use Rattle.mbe_parser.specs.Reader.{mode_of};
 ghost use Rattle.mbe_parser.specs.Faults.Places.{TemplateFaultAt};
 
 use crate::faults::front::{Front, eat_front};
+use crate::parser::{Mode, parse_template};
 use mbe_errors::error::SyntaxFault;
 use mbe_ops::ops::MetaTemplate;
-use crate::parser::{Mode, parse_template};
 use mbe_tt::span::{Edition, SyntaxContext};
 use mbe_tt::tt::TtIter;
 use std::alloc::{AllocError, Allocator};

@@ -3,8 +3,8 @@ use crate::calling::expansions::expand_call;
 use mbe::DeclarativeMacro;
 use mbe_text::lexer::{LexError, lex};
 use mbe_tt::span::Edition;
-use test_rows::refusing::Refusing;
 use std::alloc::{AllocError, Allocator, Global};
+use test_rows::refusing::Refusing;
 
 /// Reads a definition and expands a call, all in memory of this allocator.
 pub fn whole_run<A: Allocator + Copy>(alloc: A) -> Result<(), LexError> {

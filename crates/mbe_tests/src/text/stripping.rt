@@ -2,9 +2,9 @@
 use crate::text::texts::{is_written, rust};
 use mbe_cfg::fault::{Fault, Wrong};
 use mbe_cfg::settings::{Cfg, Settings};
+use mbe_cfg::stripping::strip;
 use mbe_cfg::targets::Target;
 use mbe_grammar::rust::fragments::rust_rules;
-use mbe_cfg::stripping::strip;
 use mbe_tt::span::Edition;
 use mbe_tt::tt::TopSubtree;
 use std::alloc::{AllocError, Global};

@@ -4,8 +4,8 @@ use crate::text::taking::trees;
 use mbe_text::lexer::{LexError, lex_in};
 use mbe_text::symbols::SymbolTable;
 use mbe_tt::tt::TopSubtree;
-use test_rows::refusing::Refusing;
 use std::alloc::{AllocError, Allocator, Global};
+use test_rows::refusing::Refusing;
 
 // So many texts that the slots are made anew several times.
 const COUNT: usize = 300;

@@ -1,6 +1,6 @@
 // What a table takes at the front of a text.
-use mbe_grammar::tables::table::RuleTable;
 use mbe_grammar::rust::fragments::rust_rules;
+use mbe_grammar::tables::table::RuleTable;
 use mbe_text::lexer::lex;
 use mbe_tt::grammar::{FragmentGrammar, Front, PrefixEntryPoint};
 use mbe_tt::span::Edition;

@@ -1,7 +1,7 @@
 // Trees of texts, and texts of trees.
-use mbe_text::writing::Writer;
 use mbe_text::dialect::Dialect;
 use mbe_text::lexer::lex_as;
+use mbe_text::writing::Writer;
 use mbe_tt::span::Edition;
 use mbe_tt::tt::TopSubtree;
 use std::alloc::{AllocError, Global};

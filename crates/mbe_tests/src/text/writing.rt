@@ -1,8 +1,8 @@
 // Trees as Rust text.
 use crate::text::texts::{RUST, read, written};
-use mbe_text::writing::Writer;
 use mbe_text::dialect::Dialect;
 use mbe_text::scanner::file_span;
+use mbe_text::writing::Writer;
 use mbe_tt::symbol::Symbol;
 use mbe_tt::tt::{
     Delimiter, DelimiterKind, Ident, IdentIsRaw, Leaf, LitKind, Literal, Punct, Spacing,
