@@ -94,7 +94,7 @@ impl<A: Allocator> Moves<A> {
 }
 
 // A part that is of use.
-#[derive(Drop)]
+#[derive(Clone, Copy, Drop)]
 pub(crate) enum Used {
     Commands(Part),
     Rounds(Part),
