@@ -5,7 +5,7 @@ the repository:
     python3 tools/rust-files.py [--program FILE] [--random SEED COUNT] PATH..
 
 A PATH is a file or a folder of Rust files, as /usr/src/rustc-1.63.0 of Debian's package rust-src. Each file is lexed by `lex_as` of
-`mbe_text` in its edition, and written by `Writer` of `mbe_rust_text`; what is written is lexed again (tools/rust-files/mbe_rust_files,
+`mbe_text` in its edition, and written by `Writer` of `mbe_text::writing`; what is written is lexed again (tools/rust-files/mbe_rust_files,
 proved and built by `rt run`; --program names one that is built). The judge is rustc's own lexer: a proc macro (tools/rust-files/judge.rs)
 parses each file to a token stream and prints it. Compared are the words, the puncts and whether they are joint, the literals and the groups.
 With --random that many texts of random bytes and of pieces of tokens are asked about too.
@@ -26,7 +26,7 @@ import unicodedata
 
 TOP = os.path.dirname(os.path.dirname(os.path.abspath(__file__)))
 HERE = f"{TOP}/tools/rust-files"
-LIBRARIES = ["mbe_tt", "mbe_text", "mbe_rust_text"]
+LIBRARIES = ["mbe_tt", "mbe_text"]
 # A fault that rustc's lexer leaves to the parser to report, which a proc macro's call doesn't reach.
 LATER = "fault\nlifetimes cannot start with a number"
 ESCAPES = {"n": "\n", "r": "\r", "t": "\t", "0": "\0", "\\": "\\", "'": "'", '"': '"'}

@@ -5,7 +5,7 @@
 
 A PATH is a file or a folder of Rust files, as /usr/src/rustc-1.63.0 of Debian's package rust-src. Each file is to be items to its end;
 each block statements, each parameter list parameters, and so on: tools/rust-src/inside.peg says what the groups hold, where
-crates/mbe_rust/rust.peg has a group only. The contents of macro calls and definitions aren't looked at. A line is printed for each file
+crates/mbe_grammar/rust.peg has a group only. The contents of macro calls and definitions aren't looked at. A line is printed for each file
 that isn't read whole, and then the numbers. With --judge rustc is asked about these files, and those that it refuses are only
 counted; the status is 1 if a file is left that rustc parses (`rustc -Zparse-crate-root-only`) and that isn't in `KNOWN`.
 
@@ -90,9 +90,9 @@ def build(folder):
     crates = f"{folder}/crates"
     script = f"""set -eu
 mkdir -p {crates}
-grep -E '^(mbe_tt|mbe_text|mbe_rules|mbe_rust):' {TOP}/crates.txt >{folder}/crates.txt
-echo 'mbe_rust_src: mbe_tt mbe_text mbe_rules mbe_rust' >>{folder}/crates.txt
-for crate in mbe_tt mbe_text mbe_rules mbe_rust; do
+grep -E '^(mbe_tt|mbe_text|mbe_grammar):' {TOP}/crates.txt >{folder}/crates.txt
+echo 'mbe_rust_src: mbe_tt mbe_text mbe_grammar' >>{folder}/crates.txt
+for crate in mbe_tt mbe_text mbe_grammar; do
     mkdir -p {crates}/$crate
     rm -rf {crates}/$crate/src {crates}/$crate/specs {crates}/$crate/proofs
     for part in src specs proofs out; do
@@ -104,7 +104,7 @@ mkdir -p {crates}/mbe_rust_src
 rm -rf {crates}/mbe_rust_src/src
 cp -a {TOP}/tools/rust-src/mbe_rust_src/src {crates}/mbe_rust_src/
 mv {crates}/mbe_rust_src/src/main.rt.in {crates}/mbe_rust_src/src/main.rt
-python3 {TOP}/tools/rust-rules {TOP}/crates/mbe_rust/rust.peg {TOP}/tools/rust-src/inside.peg {crates}/mbe_rust_src/src
+python3 {TOP}/tools/rust-rules {TOP}/crates/mbe_grammar/rust.peg {TOP}/tools/rust-src/inside.peg {crates}/mbe_rust_src/src
 cd {crates}/mbe_rust_src && rt run </dev/null >/dev/null
 """
     run = subprocess.run(["sh", "-c", script], capture_output=True, text=True)

@@ -9,7 +9,7 @@ set -eu
 top=$(cd "$(dirname "$0")/../.." && pwd)
 folder=$1
 mkdir -p "$folder/crates"
-libraries='mbe_tt mbe_text mbe_rules mbe_rust'
+libraries='mbe_tt mbe_text mbe_grammar'
 : >"$folder/crates.txt"
 for crate in $libraries; do
     grep "^$crate:" "$top/crates.txt" >>"$folder/crates.txt"
@@ -21,7 +21,7 @@ for crate in $libraries; do
         fi
     done
 done
-echo 'mbe_rust_forms: mbe_tt mbe_text mbe_rules mbe_rust' >>"$folder/crates.txt"
+echo 'mbe_rust_forms: mbe_tt mbe_text mbe_grammar' >>"$folder/crates.txt"
 rm -rf "$folder/crates/mbe_rust_forms"
 cp -a "$top/tools/rust-forms/mbe_rust_forms" "$folder/crates/"
 # Its sources end in `.in`, since the gate asks that a crate reads each Rattle file.
