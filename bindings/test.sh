@@ -68,8 +68,10 @@ else
 fi
 if python3 --version >/dev/null 2>&1 && [ -f "$MBE_LIB_DIR/libmbe_c.so" ]; then
     echo "Python"
-    (cd "$here/python" && MBE_LIB="$MBE_LIB_DIR/libmbe_c.so" PYTHONDONTWRITEBYTECODE=1 python3 test_mbe.py) >"$work/log" 2>&1
-    add
+    for test in test_mbe.py test_texts.py; do
+        (cd "$here/python" && MBE_LIB="$MBE_LIB_DIR/libmbe_c.so" PYTHONDONTWRITEBYTECODE=1 python3 "$test") >"$work/log" 2>&1
+        add
+    done
 else
     echo "skipped: Python, since python3 or libmbe_c.so isn't there"
 fi

@@ -1,7 +1,7 @@
 #!/usr/bin/env python3
-"""Prints the rows of crates/mbe_tests/src/text/rust_rows.rt: random texts, and what rustc makes of them. From any folder:
+"""Prints bindings/python/tests/random_tokens.py: random texts, and what rustc makes of them. From any folder:
 
-    python3 tools/rust-tokens.py SEED COUNT > crates/mbe_tests/src/text/rust_rows.rt
+    python3 tools/rust-tokens.py SEED COUNT > bindings/python/tests/random_tokens.py
 
 There is a table for each edition, of texts, each followed by its tokens without white space, or by the first fault and its byte: rustc's
 message in the words of `Wrong`. Texts that rustc reads otherwise before it looks for tokens, since they begin with `#!` or have a carriage return before
@@ -100,12 +100,6 @@ def judged(row):
         return "ok " + re.sub(r"\s", "", out)
 
 
-def quoted(text):
-    for char, escape in (("\\", "\\\\"), ('"', '\\"'), ("\n", "\\n"), ("\r", "\\r"), ("\t", "\\t")):
-        text = text.replace(char, escape)
-    return f'"{text}"'
-
-
 def main():
     random.seed(int(sys.argv[1]))
     texts = []
@@ -115,15 +109,14 @@ def main():
             texts.append((text, random.choice(EDITIONS)))
     with ThreadPoolExecutor(3) as pool:
         wants = list(pool.map(judged, texts))
-    print("// Random texts of an edition, each with what rustc makes of it, from `tools/rust-tokens.py`.")
-    print("use test_rows::rows;")
+    print('"""Random texts of an edition, each with what rustc makes of it, from `tools/rust-tokens.py`."""\n\nROWS = {')
     for edition in EDITIONS:
-        rows = [(text, want) for (text, of), want in zip(texts, wants) if of == edition and want]
-        print(f"\npub(crate) const COUNT_{edition}: usize = {len(rows)};")
-        print(f"\npub(crate) const RANDOM_{edition}: &str = rows![")
-        for text, want in rows:
-            print(f"    ({quoted(text)}, {quoted(want)}),")
-        print("];")
+        print(f"    {edition}: [")
+        for (text, of), want in zip(texts, wants):
+            if of == edition and want:
+                print(f"        {(text, want)!r},")
+        print("    ],")
+    print("}")
 
 
 if __name__ == "__main__":

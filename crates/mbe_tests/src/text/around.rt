@@ -1,24 +1,13 @@
 // The tables of what is around an expansion, and what is tested once. The rows are beside what they are about.
 use crate::text::carets::Carets;
 use crate::text::following::Crates;
-use crate::text::texts::RUST;
-use crate::text::writing::Written;
-use crate::text::{
-    carets, following, fronts, including, modules, renaming, splicing, stripping, writing,
-};
-use mbe_text::dialect::Dialect;
+use crate::text::{carets, following, fronts, including, modules, renaming, splicing, stripping};
 use std::alloc::{AllocError, Global};
 use test_rows::{Fields, Rows, Wrong, all, rows};
 
-// What is tested of trees and of the texts that are written of them.
+// What is tested of trees and of texts.
 #[derive(Clone, Copy)]
 enum Tree {
-    Written,
-    RustWritten,
-    Same,
-    Docs,
-    NumberAndDot,
-    Indented,
     Front,
     Beside,
     Standard,
@@ -33,12 +22,6 @@ impl Rows for Tree {
     fn is_so(&self, alloc: Global, fields: Fields) -> Result<bool, AllocError> {
         let [one, two, ..] = fields;
         match self {
-            Tree::Written => Written(Dialect::Sample).is_so(alloc, fields),
-            Tree::RustWritten => Written(RUST).is_so(alloc, fields),
-            Tree::Same => writing::Same.is_so(alloc, fields),
-            Tree::Docs => writing::Docs.is_so(alloc, fields),
-            Tree::NumberAndDot => writing::is_number_and_dot(alloc),
-            Tree::Indented => writing::are_indented(alloc),
             Tree::Front => fronts::Fronts.is_so(alloc, fields),
             Tree::Beside => fronts::Beside.is_so(alloc, fields),
             Tree::Standard => Ok(fronts::are_standard()),
@@ -51,14 +34,7 @@ impl Rows for Tree {
     }
 }
 
-static TREES: [(Tree, &str, usize); 15] = [
-    (Tree::Written, writing::ROWS, 32),
-    (Tree::RustWritten, writing::COMMENTS, 32),
-    (Tree::RustWritten, writing::DOTS, 20),
-    (Tree::Same, writing::HASHES, 5),
-    (Tree::Docs, writing::TEXTS, 10),
-    (Tree::NumberAndDot, rows![("a number before a dot")], 1),
-    (Tree::Indented, rows![("lines are indented")], 1),
+static TREES: [(Tree, &str, usize); 8] = [
     (Tree::Front, fronts::ROWS, 24),
     (Tree::Beside, fronts::BESIDE, 10),
     (Tree::Standard, rows![("standard macros")], 1),
@@ -70,7 +46,7 @@ static TREES: [(Tree, &str, usize); 15] = [
 ];
 
 #[test]
-fn trees_are_written_and_found(rt: HostRuntime) -> Result<(), Wrong> {
+fn trees_and_texts_are_as_their_rows_say(rt: HostRuntime) -> Result<(), Wrong> {
     all(rt.alloc(), &TREES)
 }
 

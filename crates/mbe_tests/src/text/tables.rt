@@ -1,15 +1,9 @@
 // The tables of texts and grammars. The rows are beside what they are about.
-use crate::text::rust::{ROWS_2018, ROWS_2021, ROWS_2024};
-use crate::text::rust_rows::{
-    COUNT_2018, COUNT_2021, COUNT_2024, RANDOM_2018, RANDOM_2021, RANDOM_2024,
-};
-use crate::text::{
-    deep, glue, lexing, literals, printing, reading, rules, rust, sample, symbols, taking,
-};
+use crate::text::{deep, glue, literals, printing, reading, rules, sample, symbols, taking};
 use mbe_grammar::SampleGrammar;
 use mbe_tt::grammar::FragmentGrammar;
 use mbe_tt::span::Edition;
-use mbe_tt::span::Edition::{Edition2018, Edition2021, Edition2024};
+use mbe_tt::span::Edition::{Edition2021, Edition2024};
 use std::alloc::{AllocError, Global};
 use test_rows::{Fields, Rows, Wrong, all, rows};
 
@@ -20,9 +14,6 @@ enum Kind {
     Fault,
     Sum,
     Keyword(bool),
-    Suffixes,
-    Tokens(Edition),
-    Random(Edition),
     Printed,
     Context,
     SumKeywords,
@@ -49,9 +40,6 @@ impl Rows for Kind {
             Kind::Fault => reading::is_at_fault(alloc, text, want),
             Kind::Sum => reading::is_sum(alloc, text, want),
             Kind::Keyword(is_one) => Ok(SampleGrammar.is_keyword(text) == *is_one),
-            Kind::Suffixes => lexing::has_suffixes(alloc, text, want),
-            Kind::Tokens(edition) => rust::is_shown(alloc, *edition, text, want),
-            Kind::Random(edition) => rust::is_as_rustc(alloc, *edition, text, want),
             Kind::Printed => printing::is_printed(alloc, text, want),
             Kind::Context => taking::is_by_context(alloc),
             Kind::SumKeywords => reading::has_keywords(alloc),
@@ -68,7 +56,7 @@ impl Rows for Kind {
     }
 }
 
-static TABLES: [(Kind, &str, usize); 37] = [
+static TABLES: [(Kind, &str, usize); 30] = [
     (Kind::Taken(rules::SUM, Edition2021), rules::SUMS, 9),
     (
         Kind::Taken(rules::GEN, Edition2021),
@@ -115,13 +103,6 @@ static TABLES: [(Kind, &str, usize); 37] = [
     (Kind::Sum, reading::TAKEN, 8),
     (Kind::Keyword(true), sample::KEYWORDS, 52),
     (Kind::Keyword(false), sample::OTHER_WORDS, 17),
-    (Kind::Suffixes, lexing::SUFFIXES, 65),
-    (Kind::Tokens(Edition2018), ROWS_2018, 2),
-    (Kind::Tokens(Edition2021), ROWS_2021, 56),
-    (Kind::Tokens(Edition2024), ROWS_2024, 3),
-    (Kind::Random(Edition2018), RANDOM_2018, COUNT_2018),
-    (Kind::Random(Edition2021), RANDOM_2021, COUNT_2021),
-    (Kind::Random(Edition2024), RANDOM_2024, COUNT_2024),
     (Kind::Printed, printing::PRINTED, 6),
     (
         Kind::Context,

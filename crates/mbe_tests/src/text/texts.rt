@@ -6,7 +6,7 @@ use mbe_tt::span::Edition;
 use mbe_tt::tt::TopSubtree;
 use std::alloc::{AllocError, Global};
 
-pub const RUST: Dialect = Dialect::Rust(Edition::Edition2021);
+const RUST: Dialect = Dialect::Rust(Edition::Edition2021);
 
 /// The trees of a text, if it is in the dialect.
 pub fn read(
