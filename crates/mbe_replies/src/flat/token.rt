@@ -43,7 +43,7 @@ pub struct FlatSpan {
 /// an identifier or a literal is the `len` bytes from `offset` on, of a text that is kept beside the tokens. Of an opening `len` is the
 /// number of flat tokens inside. What isn't named is 0 where it is written, and isn't read; nor is `len` of an opening.
 #[repr(C)]
-#[derive(Default, Drop)]
+#[derive(Clone, Copy, Default, Drop)]
 pub struct FlatToken {
     pub kind: u32,
     pub sort: u32,
