@@ -1,4 +1,3 @@
-// Users of the binding log, who see its contracts alone, one that has many lists, and equality and printed texts of what is bound.
+// Users of the binding log, who see its contracts alone, and one that has many lists.
 pub mod many;
 mod uses;
-pub mod values;
