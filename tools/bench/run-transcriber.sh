@@ -9,12 +9,12 @@ set -eu
 top=$(cd "$(dirname "$0")/../.." && pwd)
 folder=${1:-$(mktemp -d)}
 mkdir -p "$folder/crates"
-libraries='mbe_tt mbe_semantics mbe_ops mbe_errors mbe_parser mbe_log mbe_variables mbe_transcriber mbe_text'
+libraries='mbe_tt mbe_semantics mbe_ops mbe_parser mbe_log mbe_variables mbe_transcriber mbe_text'
 : >"$folder/crates.txt"
 for crate in $libraries; do
     grep "^$crate:" "$top/crates.txt" >>"$folder/crates.txt"
 done
-echo 'mbe_transcriber_bench: mbe_tt mbe_ops mbe_errors mbe_parser mbe_log mbe_transcriber mbe_text' \
+echo 'mbe_transcriber_bench: mbe_tt mbe_ops mbe_parser mbe_log mbe_transcriber mbe_text' \
     >>"$folder/crates.txt"
 for crate in $(for name in $libraries; do echo "crates/$name"; done) tools/bench/mbe_transcriber_bench; do
     to=$folder/crates/$(basename "$crate")
