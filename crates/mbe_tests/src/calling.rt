@@ -1,5 +1,4 @@
-// The examples of docs/CALLING.md, word for word, and tests that run those of which the calls' contracts don't say what comes; users of the
-// binding log, who see its contracts alone.
+// The examples of docs/CALLING.md, word for word, and tests that run them; users of the binding log, who see its contracts alone.
 mod bindings;
 mod definitions;
 mod expansions;

@@ -1,8 +1,8 @@
 // All tables, and what is tested once. The rows of the tables are beside what they are about.
 use crate::expanding::{Doing, FORMS};
 use crate::{
-    calls, copies, definitions, errors, example, fronts, marking, places, runs, styles, verdicts,
-    worked, writers,
+    calls, copies, definitions, errors, example, fronts, marking, places, runs, shown, styles,
+    verdicts, worked, writers,
 };
 use std::alloc::{AllocError, Global};
 use test_rows::{Fields, Rows, Wrong, all, each_refused, rows};
@@ -45,7 +45,7 @@ impl Rows for Kind {
 
 // What is tested once.
 fn are_so(alloc: Global) -> Result<bool, AllocError> {
-    Ok(errors::are_errors(alloc)? && styles::has_no_rule(alloc)?)
+    Ok(shown::are_shown(alloc)? && errors::are_errors(alloc)? && styles::has_no_rule(alloc)?)
 }
 
 static TABLES: [(Kind, &str, usize); 12] = [
@@ -58,7 +58,7 @@ static TABLES: [(Kind, &str, usize); 12] = [
     (Kind::Marking, marking::ROWS, 8),
     (Kind::Verdict, verdicts::ROWS, 5),
     (Kind::Copies, copies::ROWS, 23),
-    (Kind::Once, rows![("errors, and a refusal")], 1),
+    (Kind::Once, rows![("errors, texts, and a refusal")], 1),
     (Kind::Expanding, worked::ROWS, 29),
     (Kind::Linting, worked::LINTS, 14),
 ];

@@ -67,3 +67,42 @@ pub fn rounds_of<A: Allocator>(bindings: &Bindings<'_, A>, name: &Symbol<A>) -> 
         Binding::Fragment(_) | Binding::Empty | Binding::Missing(_) => None,
     }
 }
+
+pub mod tests {
+    use super::{bind_by_hand, bind_missing, bind_rounds, part_ways, rounds_of};
+    use mbe::BindingLog;
+    use mbe_text::lexer::lex;
+    use mbe_tt::symbol::Symbol;
+    use std::alloc::Global;
+
+    fn are_rounds_bound(alloc: Global, name: &Symbol) -> Option<bool> {
+        let tree = lex(alloc, "1 + 2", 1).ok()?;
+        let bindings = bind_rounds(alloc, name, tree.view()).ok()?;
+        let counts = (bindings.len(), bindings.count());
+        Some(rounds_of(&bindings, name) == Some(2) && counts == (1, 2))
+    }
+
+    fn is_bound_by_hand(alloc: Global, name: &Symbol) -> Option<bool> {
+        let tree = lex(alloc, "1", 1).ok()?;
+        let bindings = bind_by_hand(alloc, name, tree.view()).ok()?;
+        Some(rounds_of(&bindings, name).is_none() && bindings.len() == 1)
+    }
+
+    // Copies part, and what is missing is counted.
+    fn do_copies_part(alloc: Global, name: &Symbol) -> Option<bool> {
+        let (with_name, without) = part_ways(alloc, name).ok()?;
+        let counts = (with_name.len(), without.len());
+        let mut log = BindingLog::new(alloc);
+        let missing = bind_missing(&mut log, name).ok()?;
+        Some(rounds_of(&with_name, name).is_none() && counts == (1, 0) && missing == (1, 0))
+    }
+
+    pub fn is_bound_each_way(alloc: Global) -> Option<bool> {
+        let name = Symbol::intern(alloc, "x").ok()?;
+        Some(
+            are_rounds_bound(alloc, &name)?
+                && is_bound_by_hand(alloc, &name)?
+                && do_copies_part(alloc, &name)?,
+        )
+    }
+}

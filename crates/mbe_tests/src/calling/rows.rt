@@ -4,14 +4,15 @@ use crate::calling::expansions::tests::{self, expands_nothing, is_expanded, is_m
 use crate::calling::explaining::tests::are_explained;
 use crate::calling::grammars::tests::are_handed_in;
 use crate::calling::logs::many::is_last_of_many;
+use crate::calling::logs::values::{are_bindings, are_fragments};
 use crate::calling::memory::count_requests;
 use crate::calling::results::tests::{are_made, is_call_changed, is_type_found};
-use crate::calling::small::tests::are_read;
+use crate::calling::small::tests::{are_read, is_bound_in_one};
 use crate::calling::tables::sum_of;
 use crate::calling::tables::tests::SUMS;
-use crate::calling::texts;
 use crate::calling::theorem::tests::{CALLS, becomes};
 use crate::calling::viewing::tests::is_group_expanded;
+use crate::calling::{bindings, texts, walks, writing};
 use std::alloc::{AllocError, Global};
 use test_rows::{Fields, Rows, Wrong, all, rows};
 
@@ -39,11 +40,6 @@ enum Call {
     Made,
     Type,
     Group,
-    Small,
-    Printed,
-    Counted,
-    Kept,
-    Million,
 }
 
 impl Rows for Call {
@@ -68,17 +64,12 @@ impl Rows for Call {
             Call::Made => are_made(alloc),
             Call::Type => is_type_found(alloc),
             Call::Group => is_group_expanded(alloc),
-            Call::Small => are_read(alloc),
-            Call::Printed => Some(texts::tests::is_printed(alloc)),
-            Call::Counted => Some(texts::tests::are_counted(alloc)),
-            Call::Kept => texts::tests::are_kept(alloc),
-            Call::Million => return is_last_of_many(alloc, 500_000),
         };
         Ok(is_so.unwrap_or(false))
     }
 }
 
-static CALLED: [(Call, &str, usize); 19] = [
+static CALLED: [(Call, &str, usize); 14] = [
     (Call::Expanded, tests::CALLS, 3),
     (Call::Described, DESCRIBED, 5),
     (Call::Applied, CALLS, 4),
@@ -93,18 +84,90 @@ static CALLED: [(Call, &str, usize); 19] = [
     (Call::Made, rows![("results are made")], 1),
     (Call::Type, rows![("a type is found")], 1),
     (Call::Group, rows![("a group is an argument")], 1),
-    (Call::Small, rows![("small values are read")], 1),
-    (Call::Printed, rows![("a text is printed by its trees")], 1),
+];
+
+// The same of trees and values.
+#[derive(Clone, Copy)]
+enum Tree {
+    Bound,
+    Read,
+    OfItsLog,
+    Printed,
+    Counted,
+    Kept,
+    Assigned,
+    Expected,
+    Consumed,
+    Names,
+    LookedInto,
+    Built,
+    Group,
+    Bindings,
+    Fragments,
+    Million,
+}
+
+impl Rows for Tree {
+    fn is_so(&self, alloc: Global, _fields: Fields) -> Result<bool, AllocError> {
+        let is_so = match self {
+            Tree::Bound => bindings::tests::is_bound_each_way(alloc),
+            Tree::Read => are_read(alloc),
+            Tree::OfItsLog => is_bound_in_one(alloc),
+            Tree::Printed => Some(texts::tests::is_printed(alloc)),
+            Tree::Counted => Some(texts::tests::are_counted(alloc)),
+            Tree::Kept => texts::tests::are_kept(alloc),
+            Tree::Assigned => walks::tests::is_assignment_read(alloc),
+            Tree::Expected => walks::tests::is_each_expected(alloc),
+            Tree::Consumed => walks::tests::are_consumed(alloc),
+            Tree::Names => walks::tests::are_counted(alloc),
+            Tree::LookedInto => walks::tests::is_looked_into(alloc),
+            Tree::Built => writing::tests::are_built(alloc),
+            Tree::Group => writing::tests::is_group_built(alloc),
+            Tree::Bindings => return are_bindings(alloc),
+            Tree::Fragments => return are_fragments(alloc),
+            Tree::Million => return is_last_of_many(alloc, 500_000),
+        };
+        Ok(is_so.unwrap_or(false))
+    }
+}
+
+static TREES: [(Tree, &str, usize); 16] = [
     (
-        Call::Counted,
+        Tree::Bound,
+        rows![("names are bound by a log and by hand")],
+        1,
+    ),
+    (Tree::Read, rows![("small values are read")], 1),
+    (Tree::OfItsLog, rows![("a handle is of its log")], 1),
+    (Tree::Printed, rows![("a text is printed by its trees")], 1),
+    (
+        Tree::Counted,
         rows![("faults and ends are counted in bytes")],
         1,
     ),
-    (Call::Kept, rows![("names of two files are kept once")], 1),
-    (Call::Million, rows![("a log has a million lists")], 1),
+    (Tree::Kept, rows![("names of two files are kept once")], 1),
+    (Tree::Assigned, rows![("assignments are read")], 1),
+    (Tree::Expected, rows![("each tree is expected")], 1),
+    (Tree::Consumed, rows![("trees are consumed")], 1),
+    (Tree::Names, rows![("names and leaves are counted")], 1),
+    (Tree::LookedInto, rows![("a group is looked into")], 1),
+    (Tree::Built, rows![("trees are built")], 1),
+    (Tree::Group, rows![("groups are built")], 1),
+    (
+        Tree::Bindings,
+        rows![("bindings are equal in any order")],
+        1,
+    ),
+    (
+        Tree::Fragments,
+        rows![("fragments are equal where trees and writing are")],
+        1,
+    ),
+    (Tree::Million, rows![("a log has a million lists")], 1),
 ];
 
 #[test]
 fn all_is_as_its_rows_say(rt: HostRuntime) -> Result<(), Wrong> {
-    all(rt.alloc(), &CALLED)
+    all(rt.alloc(), &CALLED)?;
+    all(rt.alloc(), &TREES)
 }

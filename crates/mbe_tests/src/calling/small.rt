@@ -58,7 +58,8 @@ pub fn bound_in<'a>(
 }
 
 pub mod tests {
-    use super::{failed, head, is_done, outside_bits, sides, takes_more, written};
+    use super::{bound_in, failed, head, is_done, outside_bits, sides, takes_more, written};
+    use mbe::BindingLog;
     use mbe_text::lexer::lex;
     use mbe_tt::span::Edition;
     use mbe_tt::tt::TtIter;
@@ -85,5 +86,13 @@ pub mod tests {
                 && failed(1) == Ok(0)
                 && is_raw_word(alloc)?,
         )
+    }
+
+    pub fn is_bound_in_one(alloc: Global) -> Option<bool> {
+        let mut log = BindingLog::new(alloc);
+        let handle = log.alloc().ok()?;
+        let other = BindingLog::new(alloc);
+        let is_bound = bound_in(&log, &handle).ok()?.is_some();
+        Some(is_bound && bound_in(&other, &handle).ok()?.is_none())
     }
 }

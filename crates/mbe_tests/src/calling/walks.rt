@@ -105,3 +105,74 @@ pub fn suffix<A: Allocator>(literal: &Literal<A>) -> &str {
 pub fn only_group<'a, A: Allocator>(trees: TokenTreesView<'a, A>) -> Option<SubtreeView<'a, A>> {
     trees.strip_invisible().try_into_subtree()
 }
+
+pub mod tests {
+    use super::{
+        assignment, count_leaves, expect_puncts, expect_several, expect_words, names, next_leaf,
+        next_spans, only_group, suffix, view_of_next,
+    };
+    use mbe_text::lexer::lex;
+    use mbe_tt::tt::{DelimiterKind, Leaf, TtIter};
+    use std::alloc::Global;
+
+    // One assignment is read, of a name and a group of one tree; at the two trees that are left none is.
+    pub fn is_assignment_read(alloc: Global) -> Option<bool> {
+        let tree = lex(alloc, "a = (1); b 2", 0).ok()?;
+        let mut iter = tree.iter();
+        let (name, value) = assignment(&mut iter)?;
+        Some(
+            name.sym.as_str() == "a"
+                && (value.len(), value.flat_len()) == (1, 3)
+                && assignment(&mut iter).is_none()
+                && iter.remaining().len() == 2,
+        )
+    }
+
+    pub fn is_each_expected(alloc: Global) -> Option<bool> {
+        let tree = lex(alloc, "a _ 1 b + - $ , ! <<= (x y)", 0).ok()?;
+        let mut iter = tree.iter();
+        Some(
+            expect_words(&mut iter).is_ok()
+                && expect_puncts(&mut iter).is_ok()
+                && expect_several(&mut iter) == Ok((3, 2))
+                && iter.is_empty()
+                && expect_words(&mut iter).is_err(),
+        )
+    }
+
+    // The group comes first, then the literal, and neither call consumes what isn't for it.
+    fn consumes_the_group(iter: &mut TtIter<'_>) -> Option<bool> {
+        let (one, two) = next_spans(iter)?;
+        let is_before = (one.start, two.start) == (0, 4) && next_leaf(iter).is_none();
+        Some(is_before && view_of_next(iter)?.flat_len() == 3)
+    }
+
+    fn is_literal_next(mut iter: TtIter<'_>) -> bool {
+        match iter.expect_leaf() {
+            Ok(Leaf::Literal(literal)) => suffix(literal) == "u8" && literal.text() == "1",
+            _ => false,
+        }
+    }
+
+    pub fn are_consumed(alloc: Global) -> Option<bool> {
+        let tree = lex(alloc, "(a) 1u8 [", 0).ok()?;
+        let mut iter = tree.iter();
+        let is_so = consumes_the_group(&mut iter)? && is_literal_next(iter.fork());
+        Some(is_so && next_leaf(&mut iter)?.len() == 1 && iter.remaining().len() == 1)
+    }
+
+    pub fn are_counted(alloc: Global) -> Option<bool> {
+        let tree = lex(alloc, "a (b + c) d", 0).ok()?;
+        let are_names = names(alloc, &tree).ok()?.as_slice() == ["a", "d"].as_slice();
+        Some(are_names && count_leaves(tree.view()) == 5)
+    }
+
+    pub fn is_looked_into(alloc: Global) -> Option<bool> {
+        let tree = lex(alloc, "[a b]", 0).ok()?;
+        let group = only_group(tree.view())?;
+        Some(
+            group.top_subtree().delimiter.kind == DelimiterKind::Bracket
+                && group.iter().remaining().len() == 2,
+        )
+    }
+}

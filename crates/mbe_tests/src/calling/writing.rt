@@ -74,3 +74,72 @@ pub fn build_group<A: Allocator + Copy>(
 pub fn build_nothing<A: Allocator>(alloc: A, span: Span) -> Result<TopSubtree<A>, AllocError> {
     TopSubtree::empty(alloc, DelimSpan::from_single(span))
 }
+
+pub mod tests {
+    use super::{build_both_or_none, build_call, build_group, build_nothing, word};
+    use mbe_text::lexer::lex;
+    use mbe_text::printing::print_tree;
+    use mbe_tt::span::Span;
+    use mbe_tt::tt::{TokenTreesView, TopSubtree};
+    use std::alloc::Global;
+
+    // Whether the trees are printed so.
+    fn is_printed(alloc: Global, tree: &TopSubtree, want: &str) -> bool {
+        let mut out = Vec::new(alloc);
+        print_tree(tree, &mut out).is_ok() && out.as_slice() == want.as_bytes()
+    }
+
+    const CALL: &str = "SUBTREE $$ 0@0..0 0@0..0
+  IDENT   f 0@0..0
+  PUNCH   ! [alone] 0@0..0
+  SUBTREE () 0@0..0 0@0..0
+    LITERAL Integer 1 1@0..1
+    PUNCH   + [joint] 1@2..3
+    PUNCH   + [alone] 1@3..4
+";
+
+    fn is_call_built(alloc: Global, content: TokenTreesView<'_>) -> Option<bool> {
+        let call = build_call(alloc, "f", content, Span::default()).ok()?;
+        Some(is_printed(alloc, &call, CALL))
+    }
+
+    const BOTH: &str = "SUBTREE $$ 0@0..0 0@0..0
+  LITERAL Integer 1 1@0..1
+  PUNCH   + [joint] 1@2..3
+  PUNCH   + [alone] 1@3..4
+  IDENT   g 0@0..0
+";
+
+    fn are_both_built(alloc: Global, trees: TokenTreesView<'_>) -> Option<bool> {
+        let last = word(alloc, "g", Span::default()).ok()?;
+        let both = build_both_or_none(alloc, trees, last, Span::default()).ok()?;
+        Some(is_printed(alloc, &both, BOTH))
+    }
+
+    pub fn are_built(alloc: Global) -> Option<bool> {
+        let argument = lex(alloc, "1 ++", 1).ok()?;
+        let content = argument.iter().remaining();
+        Some(is_call_built(alloc, content)? && are_both_built(alloc, content)?)
+    }
+
+    const GROUP: &str = "SUBTREE $$ 0@0..0 0@0..0
+  SUBTREE {} 0@0..0 0@0..0
+    IDENT   g 0@0..0
+  LITERAL Integer 1 1@0..1
+";
+
+    fn group_of_a_word(alloc: Global) -> Option<TopSubtree> {
+        let more = lex(alloc, "1", 1).ok()?;
+        let mut leaves = Vec::new(alloc);
+        leaves.push(word(alloc, "g", Span::default()).ok()?).ok()?;
+        build_group(alloc, leaves, &more, Span::default()).ok()
+    }
+
+    // Whether it is printed so, a copy is equal, and a group with nothing in it isn't.
+    pub fn is_group_built(alloc: Global) -> Option<bool> {
+        let group = group_of_a_word(alloc)?;
+        let nothing = build_nothing(alloc, Span::default()).ok()?;
+        let is_so = is_printed(alloc, &group, GROUP) && nothing.iter().is_empty();
+        Some(is_so && nothing != group && group.try_clone().ok()? == group)
+    }
+}

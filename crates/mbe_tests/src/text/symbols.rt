@@ -1,8 +1,14 @@
-// The table of symbols where requests for memory are refused. Texts of at most 14 bytes are in the symbols themselves; the others are
-// shared.
+// The table of symbols: texts that it has and has not, many of them, and requests for memory that are refused. Texts of at most 14
+// bytes are in the symbols themselves; the others are shared.
+use crate::text::taking::trees;
+use mbe_text::lexer::{LexError, lex_in};
 use mbe_text::symbols::SymbolTable;
+use mbe_tt::tt::TopSubtree;
 use std::alloc::{AllocError, Allocator, Global};
 use test_rows::refusing::Refusing;
+
+// So many texts that the slots are made anew several times.
+const COUNT: usize = 300;
 
 // Whether the table's symbol of a text has that text. Nothing where memory is refused.
 fn found<A: Allocator + Copy>(table: &mut SymbolTable<A>, text: &str) -> Option<bool> {
@@ -14,6 +20,65 @@ fn found<A: Allocator + Copy>(table: &mut SymbolTable<A>, text: &str) -> Option<
 
 fn has<A: Allocator + Copy>(table: &mut SymbolTable<A>, text: &str) -> bool {
     found(table, text).unwrap_or(false)
+}
+
+// Whether the table has for each of so many texts the symbol of that text.
+fn has_all(alloc: Global, table: &mut SymbolTable) -> bool {
+    for number in 0..COUNT {
+        match format!(in alloc; "name{number} of many letters") {
+            Ok(text) if has(table, text.as_str()) => {}
+            _ => return false,
+        }
+    }
+    true
+}
+
+/// Whether each text has a symbol of its own.
+pub fn are_apart(alloc: Global) -> bool {
+    let mut table = SymbolTable::new(alloc);
+    has(&mut table, "")
+        && has(&mut table, "fourteen_bytes")
+        && has(&mut table, "of_fifteen_byte")
+        && has_all(alloc, &mut table)
+        && has_all(alloc, &mut table)
+        && has(&mut table, "of_fifteen_byte")
+        && has(&mut table, "")
+}
+
+// The trees of a text that isn't long, by the table.
+fn trees_by(table: &mut SymbolTable, text: &str) -> Result<TopSubtree, LexError> {
+    if text.len() < 1_000_000 {
+        lex_in(table, text, 0)
+    } else {
+        Err(LexError::OutOfMemory)
+    }
+}
+
+// Whether the text has the same trees by the table.
+fn is_same(alloc: Global, table: &mut SymbolTable, text: &str) -> bool {
+    match trees(alloc, text) {
+        Ok(one) => matches!(trees_by(table, text), Ok(other) if other == one),
+        Err(_) => false,
+    }
+}
+
+static TEXTS: [&str; 5] = [
+    "a b a 1u8 1u8",
+    "b (a) \"a\" 1u8",
+    "",
+    "a_name_of_many_letters b a_name_of_many_letters \"a text of many letters\"",
+    "a b a_name_of_many_letters \"a text of many letters\" 1u8",
+];
+
+/// Whether texts have the same trees by one table for all of them.
+pub fn are_same(alloc: Global) -> bool {
+    let mut table = SymbolTable::new(alloc);
+    for text in &TEXTS {
+        if !is_same(alloc, &mut table, text) {
+            return false;
+        }
+    }
+    true
 }
 
 // Whether memory is there for the first text. Then the same text takes none, and another one does.

@@ -18,6 +18,8 @@ enum Kind {
     Context,
     SumKeywords,
     Indented,
+    Apart,
+    Same,
     Kept,
     Right,
     Short,
@@ -42,6 +44,8 @@ impl Rows for Kind {
             Kind::Context => taking::is_by_context(alloc),
             Kind::SumKeywords => reading::has_keywords(alloc),
             Kind::Indented => printing::is_indented(alloc),
+            Kind::Apart => Ok(symbols::are_apart(alloc)),
+            Kind::Same => Ok(symbols::are_same(alloc)),
             Kind::Kept => Ok(symbols::is_kept(alloc)),
             Kind::Right => Ok(symbols::stays_right(alloc)),
             Kind::Short => Ok(symbols::are_short(alloc)),
@@ -52,7 +56,7 @@ impl Rows for Kind {
     }
 }
 
-static TABLES: [(Kind, &str, usize); 28] = [
+static TABLES: [(Kind, &str, usize); 30] = [
     (Kind::Taken(rules::SUM, Edition2021), rules::SUMS, 9),
     (
         Kind::Taken(rules::GEN, Edition2021),
@@ -111,6 +115,8 @@ static TABLES: [(Kind, &str, usize); 28] = [
         1,
     ),
     (Kind::Indented, rows![("seventy groups are indented")], 1),
+    (Kind::Apart, rows![("each text has a symbol of its own")], 1),
+    (Kind::Same, rows![("one table is for many texts")], 1),
     (
         Kind::Kept,
         rows![("a text that the table has takes no memory")],
