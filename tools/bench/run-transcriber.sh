@@ -5,4 +5,4 @@
 #     sh tools/bench/run-transcriber.sh [FOLDER]
 #
 # FOLDER, by default a new one, keeps what was proved for the next time.
-exec sh "$(dirname "$0")/bench.sh" mbe_transcriber_bench 'mbe_tt mbe_ops mbe_errors mbe_parser mbe_log mbe_bindings mbe_transcriber mbe_text' "$@"
+exec sh "$(dirname "$0")/bench.sh" mbe_transcriber_bench 'mbe_tt mbe_ops mbe_parser mbe_log mbe_bindings mbe_transcriber mbe_text' "$@"

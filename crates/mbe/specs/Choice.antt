@@ -11,7 +11,7 @@ use Rattle.mbe_semantics.specs.Writing.Substitution.{IsSubstitution}
 use Rattle.mbe_semantics.specs.Expansion.Expansion.{Applies, IsExpansion}
 use Rattle.mbe_semantics.specs.Expansion.Recovery.{HasStyle, IsStyledAt}
 use Rattle.mbe_semantics.specs.Expansion.Macro.{arm_of}
-use Rattle.mbe_errors.specs.ErrorViews.{error_of}
+use Rattle.mbe_ops.specs.Errors.ErrorViews.{error_of}
 use Rattle.mbe_bindings.specs.BindingViews.{bound_by}
 use Rattle.mbe_matcher.specs.Fronts.{begins_otherwise}
 use Rattle.mbe_parser.specs.RuleViews.{rule_of}

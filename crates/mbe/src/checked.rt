@@ -2,7 +2,7 @@
 ghost use Rattle.std.specs.Prelude.{◌≡◌, ◌<◌, false, length, map, option_map, IfOk, IfErr};
 ghost use Rattle.mbe_tt.specs.Trees.Top.{top_group};
 ghost use Rattle.mbe_tt.specs.Views.View.{group_of};
-ghost use Rattle.mbe_errors.specs.ErrorViews.{errors_of};
+ghost use Rattle.mbe_ops.specs.Errors.ErrorViews.{errors_of};
 ghost use Rattle.mbe_bindings.specs.BindingViews.{bound_by};
 ghost use Rattle.mbe_matcher.specs.Matched.{verdict_seen};
 ghost use Rattle.mbe_matcher.specs.Wanted.{wanted_seen, pair_seen};
@@ -15,10 +15,10 @@ ghost use Rattle.mbe.specs.Refused.{is_refused};
 
 use crate::macros::DeclarativeMacro;
 use mbe_bindings::bindings::Bindings;
-use mbe_errors::error::ParseError;
-use mbe_errors::value_result::{ExpandResult, MatchedArmIndex};
 use mbe_matcher::matching::Verdict;
 use mbe_matcher::wanting::Wants;
+use mbe_ops::errors::error::ParseError;
+use mbe_ops::errors::value_result::{ExpandResult, MatchedArmIndex};
 use mbe_semantics::macro_call_style::MacroCallStyle;
 use mbe_tt::grammar::FragmentGrammar;
 use mbe_tt::span::Span;

@@ -7,7 +7,7 @@ ghost use Rattle.mbe_semantics.specs.Expansion.Macro.{Expands, arm_of, empty_tre
 ghost use Rattle.mbe_semantics.specs.Expansion.Error.{no_matching_rule};
 ghost use Rattle.mbe_semantics.specs.Laws.Marking.{MayMark};
 ghost use Rattle.mbe_semantics.specs.Syntax.Nullable.{Checked};
-ghost use Rattle.mbe_errors.specs.ErrorViews.{error_of, errors_of};
+ghost use Rattle.mbe_ops.specs.Errors.ErrorViews.{error_of, errors_of};
 ghost use Rattle.mbe_ops.specs.Views.{template_of};
 ghost use Rattle.mbe_matcher.specs.Fronts.{begins_otherwise};
 ghost use Rattle.mbe_parser.specs.RuleViews.{rule_of, rules_seen};
@@ -18,11 +18,11 @@ ghost use Rattle.mbe.specs.Choice.{AreChecked, IsTried, IsChosen, IsRemains, is_
 ghost use Rattle.mbe.specs.Recovering.{IsRecovered, Recovers};
 
 use mbe_bindings::bindings::Bindings;
-use mbe_errors::error::{ExpandError, ExpandErrorKind};
-use mbe_errors::value_result::{ExpandResult, MatchedArmIndex, ValueResult};
 use mbe_log::log::BindingLog;
 use mbe_matcher::matching::{Match, match_argument};
 use mbe_matcher::start::{begins_otherwise, error_at_start};
+use mbe_ops::errors::error::{ExpandError, ExpandErrorKind};
+use mbe_ops::errors::value_result::{ExpandResult, MatchedArmIndex, ValueResult};
 use mbe_parser::rules::Rule;
 use mbe_semantics::macro_call_style::MacroCallStyle;
 use mbe_transcriber::transcriber::transcribe;

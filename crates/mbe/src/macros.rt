@@ -1,9 +1,9 @@
 // Macro definitions.
 ghost use Rattle.std.specs.Prelude.{◌≡◌, ◌<◌, [], length, option_map, Some, IfOk};
 ghost use Rattle.mbe_semantics.specs.Syntax.Definition.{with_refusal};
-ghost use Rattle.mbe_errors.specs.ErrorViews.{fault_of};
+ghost use Rattle.mbe_ops.specs.Errors.ErrorViews.{fault_of};
 ghost use Rattle.mbe_parser.specs.RuleViews.{rules_seen};
-ghost use Rattle.mbe_errors.specs.ErrorViews.{parse_error_of, errors_of};
+ghost use Rattle.mbe_ops.specs.Errors.ErrorViews.{parse_error_of, errors_of};
 ghost use Rattle.mbe_semantics.specs.Expansion.Macro.{style_bits, TellsRefusal, IsChecked, Expands};
 ghost use Rattle.mbe_matcher.specs.Matched.{verdict_seen};
 ghost use Rattle.mbe.specs.Explaining.{Explains};
@@ -20,9 +20,9 @@ mod wanting;
 use crate::macro_call_style::MacroCallStyles;
 use crate::macros::viewing::whole;
 use bitflags::Flags;
-use mbe_errors::error::{ParseError, SyntaxFault};
-use mbe_errors::value_result::{ExpandResult, MatchedArmIndex};
 use mbe_matcher::matching::Verdict;
+use mbe_ops::errors::error::{ParseError, SyntaxFault};
+use mbe_ops::errors::value_result::{ExpandResult, MatchedArmIndex};
 use mbe_parser::rules::{Rule, parse_one_rule, parse_rules};
 use mbe_parser::validate::refuses_some;
 use mbe_semantics::macro_call_style::MacroCallStyle;

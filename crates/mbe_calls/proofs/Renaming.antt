@@ -1,3 +1,4 @@
+-- New names for locals and labels: which words they are, which names are free, and that nothing else changes.
 pub mod ApartLemmas
 pub mod BesideLemmas
 pub mod FreshLemmas

@@ -1,3 +1,4 @@
+-- Which words of an expansion are locals and labels, and which names they get.
 pub mod Kinds
 pub mod Ahead
 pub mod Contexts

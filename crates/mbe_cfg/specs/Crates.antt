@@ -1,3 +1,4 @@
+-- The trees of a crate, with those of its modules' files.
 pub mod Fronts
 pub mod Taking
 pub mod Following

@@ -1,3 +1,4 @@
+-- Which file `mod x;` names.
 pub mod Choice
 pub mod Paths
 pub mod Places

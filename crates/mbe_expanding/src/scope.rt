@@ -5,7 +5,7 @@ ghost use Rattle.std.specs.List.{list_any, slice_get};
 ghost use Rattle.mbe_tt.specs.Views.View.{trees};
 ghost use Rattle.mbe.specs.MacroViews.{macro_of};
 ghost use Rattle.mbe_calls.specs.Shown.{call_shown, defined_shown, form_shown};
-ghost use Rattle.mbe_errors.specs.ErrorViews.{parse_error_of};
+ghost use Rattle.mbe_ops.specs.Errors.ErrorViews.{parse_error_of};
 ghost use Rattle.mbe_expanding.specs.Faults as faults;
 ghost use Rattle.mbe_expanding.specs.Scopes as spec;
 ghost use Rattle.mbe_semantics.specs.Expansion.ReadAs.{IsReadAs, IsReadAsMacro};

@@ -1,3 +1,4 @@
+-- What a table of rules takes.
 pub mod Editions
 pub mod FlatTrees
 pub mod Lawful

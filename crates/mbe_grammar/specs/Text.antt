@@ -1,3 +1,4 @@
+-- Which table the text of a grammar is, or what is wrong in it.
 pub mod Faults
 pub mod Text
 pub mod Views

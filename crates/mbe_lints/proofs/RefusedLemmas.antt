@@ -7,8 +7,8 @@ use Rattle.mbe_tt.specs.declared.span.Span.{Span}
 use Rattle.mbe_tt.specs.declared.span.SyntaxContext.{SyntaxContext}
 use Rattle.mbe_tt.specs.declared.tt.Delimiter.{Delimiter}
 use Rattle.mbe_tt.specs.Trees.Tree.{Forest}
-use Rattle.mbe_errors.specs.ErrorViews.{fault_of}
-use Rattle.mbe_errors.specs.declared.error.SyntaxFault as reported
+use Rattle.mbe_ops.specs.Errors.ErrorViews.{fault_of}
+use Rattle.mbe_ops.specs.declared.errors.error.SyntaxFault as reported
 use Rattle.mbe_semantics.specs.Syntax.Template.{Mode, Fault, empty_repetition}
 use Rattle.mbe_semantics.specs.Syntax.Nullable.{is_refused}
 use Rattle.mbe_semantics.specs.Syntax.Definition.{Rule}

@@ -2,7 +2,7 @@
 ghost use Rattle.std.specs.Prelude.{◌≡◌, ◌++◌, map, option_map, IfOk, OnOk};
 ghost use Rattle.mbe_tt.specs.Views.View.{trees};
 ghost use Rattle.mbe_tt.specs.Views.Shown.{ident_of};
-ghost use Rattle.mbe_errors.specs.ErrorViews.{parse_error_of};
+ghost use Rattle.mbe_ops.specs.Errors.ErrorViews.{parse_error_of};
 ghost use Rattle.mbe_parser.specs.RuleViews.{rules_seen};
 ghost use Rattle.mbe_calls.specs.Shown.{defined_shown};
 ghost use Rattle.mbe_linting.specs.Findings.{finding_seen};

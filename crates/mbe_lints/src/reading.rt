@@ -3,7 +3,7 @@ ghost use Rattle.std.specs.Prelude.{◌≡◌, IfOk, None, Some};
 ghost use Rattle.mbe_tt.specs.Views.View.{trees};
 ghost use Rattle.mbe_parser.specs.Reader.{mode_of};
 ghost use Rattle.mbe_parser.specs.RuleViews.{rules_seen};
-ghost use Rattle.mbe_errors.specs.ErrorViews.{parse_error_of};
+ghost use Rattle.mbe_ops.specs.Errors.ErrorViews.{parse_error_of};
 ghost use Rattle.mbe_parser.specs.Faults.Refusals.{refusal_of};
 ghost use Rattle.mbe_semantics.specs.Expansion.ReadAs.{IsReadAs, IsReadAsMacro};
 ghost use Rattle.mbe_calls.specs.Fronts as fronts;
@@ -15,8 +15,8 @@ ghost use Rattle.mbe_lints.specs.Refused.{RefusedAt, rules_spot, part_spot};
 
 use crate::spot::Spot;
 use mbe_calls::calls::{Defined, Form};
-use mbe_errors::error::{ParseError, SyntaxFault};
 use mbe_explaining::places::span_at;
+use mbe_ops::errors::error::{ParseError, SyntaxFault};
 use mbe_parser::faults::rules::{
     PartFault, Refusal, RulesFault, read_one_rule, read_rules as faulty_rules,
 };

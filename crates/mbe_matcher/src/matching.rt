@@ -40,7 +40,7 @@ ghost use Rattle.mbe_semantics.specs.Syntax.Op.{Ops};
 ghost use Rattle.mbe_semantics.specs.Syntax.Nullable.{Checked};
 ghost use Rattle.mbe_semantics.specs.Readings.Verdict.{IsVerdict, stop_of, unmatched, one_reading};
 ghost use Rattle.mbe_semantics.specs.Bindings.Account.{Log, HasEntriesOf};
-ghost use Rattle.mbe_errors.specs.ErrorViews.{errors_of};
+ghost use Rattle.mbe_ops.specs.Errors.ErrorViews.{errors_of};
 ghost use Rattle.mbe_log.specs.Shared.{IsKept};
 ghost use Rattle.mbe_ops.specs.Views.{template_of};
 ghost use Rattle.mbe_matcher.specs.Matched.{verdict_seen, Binds};
@@ -50,8 +50,8 @@ ghost use Rattle.mbe_matcher.specs.Reports.{IsReport, IsFullReport, IsReportIn, 
 use crate::ends::report_up_to;
 use crate::places::Reached;
 use crate::start::reach;
-use mbe_errors::error::ExpandError;
 use mbe_log::log::{BindingLog, Handle, again};
+use mbe_ops::errors::error::ExpandError;
 use mbe_ops::ops::MetaTemplate;
 use mbe_places::stops::Stop;
 use mbe_tt::grammar::FragmentGrammar;

@@ -4,3 +4,4 @@ pub mod Expressions
 pub mod Held
 pub mod Views
 pub mod Walk
+pub mod Errors

@@ -1,8 +1,9 @@
-// What patterns and templates are made of. A layer of `mbe`: use that crate.
+// What patterns and templates are made of, and errors. A layer of `mbe`: use that crate.
 #![tactic(auto)]
 
 mod copies;
 mod equal;
+pub mod errors;
 pub mod expression;
 pub mod held;
 pub mod laws;

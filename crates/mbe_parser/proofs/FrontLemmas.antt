@@ -12,7 +12,7 @@ use Rattle.mbe_tt.specs.Trees.Glue.{glue}
 use Rattle.mbe_ops.proofs.Fragments.{back-skip}
 use Rattle.mbe_semantics.specs.Syntax.Op.{Ops, Expression}
 use Rattle.mbe_semantics.specs.Syntax.Template.{Mode, template, Fault, Head, head, after_dollar, group_after_dollar, expression_at, expression_of, puncts_at, Template, TemplateFault}
-use Rattle.mbe_errors.specs.declared.error.SyntaxFault as reported
+use Rattle.mbe_ops.specs.declared.errors.error.SyntaxFault as reported
 use Rattle.mbe_parser.proofs.ReaderLemmas.{dollar_head}
 use Rattle.mbe_parser.specs.declared.faults.front.Front as code
 use Rattle.mbe_parser.specs.Faults.Fronts.{Shows, Fits}

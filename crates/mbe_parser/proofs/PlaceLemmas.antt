@@ -6,8 +6,8 @@ use Rattle.mbe_tt.specs.declared.span.Edition.{Edition}
 use Rattle.mbe_tt.specs.Trees.Tree.{Forest, none, flat_len, passed}
 use Rattle.mbe_semantics.specs.Syntax.Op.{Op, Ops}
 use Rattle.mbe_semantics.specs.Syntax.Template.{Mode, Fault, Head, ended, one, typed, opens_group, opens_repetition, head, Template, nothing, token, variable, grouped, repeated, TemplateFault, here, in_group, in_repetition, after_token, after_variable, following_group, after_repetition}
-use Rattle.mbe_errors.specs.ErrorViews.{fault_of}
-use Rattle.mbe_errors.specs.declared.error.SyntaxFault as reported
+use Rattle.mbe_ops.specs.Errors.ErrorViews.{fault_of}
+use Rattle.mbe_ops.specs.declared.errors.error.SyntaxFault as reported
 use Rattle.mbe_laws.proofs.Definitions.TemplateLemmas.{ops_or_fault}
 use Rattle.mbe_parser.specs.declared.faults.front.Front as code
 use Rattle.mbe_parser.specs.Faults.Fronts.{Shows}

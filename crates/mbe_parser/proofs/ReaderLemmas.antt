@@ -18,8 +18,8 @@ use Rattle.mbe_semantics.specs.declared.kinds.RepeatKind.{RepeatKind}
 use Rattle.mbe_semantics.specs.Fragments.Kinds.{kind_named, kind_names}
 use Rattle.mbe_semantics.specs.Syntax.Template.{Mode, Fault, Head, ended, one, typed, opens_group, opens_repetition, head, after_dollar, puncts_at, pat_kind, expr_kind, Specifies, dated_pat, dated_expr, undated, Template, token, variable, grouped, repeated, TemplateFault, here as at_front, in_group, in_repetition, after_token, after_variable, following_group, after_repetition}
 use Rattle.mbe_parser.specs.Reader.{AtHead, FaultAtHead, IsPushed, ReadsOp, Stops}
-use Rattle.mbe_errors.specs.ErrorViews.{fault_of}
-use Rattle.mbe_errors.specs.declared.error.ReadError as why
+use Rattle.mbe_ops.specs.Errors.ErrorViews.{fault_of}
+use Rattle.mbe_ops.specs.declared.errors.error.ReadError as why
 use Rattle.mbe_ops.specs.Views.{op_of, ops_of}
 use Rattle.mbe_ops.specs.declared.ops.Op as code
 use Rattle.mbe_ops.proofs.Fragments.{back-skip}

@@ -13,14 +13,14 @@ use Rattle.mbe_tt.specs.declared.span.SyntaxContext.{SyntaxContext}
 use Rattle.mbe_tt.specs.declared.span.Edition.{Edition}
 use Rattle.mbe_semantics.specs.declared.macro_call_style.MacroCallStyle.{MacroCallStyle}
 use Rattle.mbe_semantics.specs.declared.macro_call_style.MacroCallStyle.TheVariants.{FnLike}
-use Rattle.mbe_errors.specs.declared.error.SyntaxFault as reported
-use Rattle.mbe_errors.specs.declared.error.ReadError as why
+use Rattle.mbe_ops.specs.declared.errors.error.SyntaxFault as reported
+use Rattle.mbe_ops.specs.declared.errors.error.ReadError as why
 use Rattle.mbe_parser.specs.declared.rules.Rule as code
 use Rattle.mbe_semantics.specs.Syntax.Op.{Ops}
 use Rattle.mbe_semantics.specs.Syntax.Template.{Fault, pattern, template, Template, TemplateFault}
 use Rattle.mbe_semantics.specs.Syntax.Definition.{RuleTrees, Rule, rule_trees_at, pattern_at, AreParts, PartsFault, in_template, Rules, ended, no_rule, faulty_rule, unseparated, separated, after_separator, with_refusal, IsMacroOfArguments, one_rule, faulty}
 use Rattle.mbe_parser.specs.Reader.{IsStyled, AreRuleTrees, ReadsRule, RuleFault, in_trees, in_parts, AreRules, IsOneRule, Stops}
-use Rattle.mbe_errors.specs.ErrorViews.{fault_of}
+use Rattle.mbe_ops.specs.Errors.ErrorViews.{fault_of}
 use Rattle.mbe_parser.specs.RuleViews.{rule_of, rules_seen}
 use Rattle.mbe_semantics.specs.Expansion.Macro.{Macro}
 use Rattle.mbe_semantics.specs.Expansion.ReadAs.{IsReadAs, IsReadAsMacro}

@@ -1,3 +1,4 @@
+-- Where a definition is refused.
 pub mod Fronts
 pub mod Inners
 pub mod Places

@@ -8,11 +8,11 @@ use Rattle.mbe_semantics.specs.declared.kinds.MetaVarKind.{MetaVarKind}
 use Rattle.mbe_parser.specs.declared.parser.Mode as code
 use Rattle.mbe_ops.specs.declared.ops.Op as pushed
 use Rattle.mbe_ops.specs.Views.{op_of}
-use Rattle.mbe_errors.specs.declared.error.SyntaxFault as reported
-use Rattle.mbe_errors.specs.declared.error.ReadError as read
+use Rattle.mbe_ops.specs.declared.errors.error.SyntaxFault as reported
+use Rattle.mbe_ops.specs.declared.errors.error.ReadError as read
 use Rattle.mbe_semantics.specs.declared.macro_call_style.MacroCallStyle.{MacroCallStyle}
 use Rattle.mbe_semantics.specs.declared.macro_call_style.MacroCallStyle.TheVariants.{FnLike}
-use Rattle.mbe_errors.specs.ErrorViews.{fault_of}
+use Rattle.mbe_ops.specs.Errors.ErrorViews.{fault_of}
 use Rattle.mbe_semantics.specs.Syntax.Op.{Op, Ops, op, variable, group, repetition, Separator}
 use Rattle.mbe_semantics.specs.Syntax.Definition.{RuleTrees, Rule, pattern_at, rule_trees_at, AreParts, PartsFault, Rules}
 use Rattle.mbe_semantics.specs.Syntax.Template.{Mode, pattern, template, Fault, separator_of, Head, ended, one, typed, opens_group, opens_repetition, Specifies, Template, TemplateFault}

@@ -13,7 +13,7 @@ ghost use Rattle.mbe_semantics.specs.Syntax.Op.{Name, token, puncts, ident as id
 ghost use Rattle.mbe_semantics.specs.Syntax.Template as grammar;
 ghost use Rattle.mbe_semantics.specs.Syntax.Template.{Template, TemplateFault, Specifies, opens_repetition, suffix_of, leaf_in_suffix, invalid_repeat};
 ghost use Rattle.mbe_parser.specs.Reader.{mode_of, Stops, IsExtended, NeverExtended, IsPushed, AtHead, FaultAtHead, ReadsOp};
-ghost use Rattle.mbe_errors.specs.ErrorViews.{fault_of};
+ghost use Rattle.mbe_ops.specs.Errors.ErrorViews.{fault_of};
 ghost use Rattle.mbe_semantics.specs.Fragments.Kinds.{kind_named, kind_names};
 ghost use Rattle.mbe_tt.specs.Trees.Leaf.{is_text};
 ghost use Rattle.mbe_semantics.specs.Laws.Marking.{MayAsk};
@@ -23,7 +23,7 @@ mod metavar_expr;
 
 use crate::parser::metavar_expr::parse_metavar_expr;
 use arrayvec::ArrayVec;
-use mbe_errors::error::{ReadError, SyntaxFault};
+use mbe_ops::errors::error::{ReadError, SyntaxFault};
 use mbe_ops::held::{Around, Between, Puncts};
 use mbe_ops::ops::{MetaTemplate, Op, Separator};
 use mbe_semantics::kinds::{ExprKind, MetaVarKind, RepeatKind};

@@ -2,7 +2,7 @@
 ghost use Rattle.std.specs.Prelude.{◌≡◌, ◌<◌, ◌≤◌, ◌+◌, IfOk, IfErr, OnOk, OnErr, is_ok, if◌then◌else◌};
 ghost use Rattle.mbe_tt.specs.Trees.Tree.{Forest, flat_len, rest_of};
 ghost use Rattle.mbe_semantics.specs.Syntax.Definition.{rule_trees_at, pattern_at, AreParts, PartsFault};
-ghost use Rattle.mbe_errors.specs.ErrorViews.{fault_of};
+ghost use Rattle.mbe_ops.specs.Errors.ErrorViews.{fault_of};
 ghost use Rattle.mbe_parser.specs.Reader.{is_word, IsStyled, AreRuleTrees, ReadsRule, RuleFault, AreRules, IsOneRule, Stops};
 ghost use Rattle.mbe_parser.specs.Stops.{stop_at_pattern, stop_in_rule};
 ghost use Rattle.mbe_parser.specs.RuleViews.{rule_of, rules_seen};
@@ -10,7 +10,7 @@ ghost use Rattle.mbe_semantics.specs.declared.macro_call_style.MacroCallStyle.{M
 ghost use Rattle.mbe_semantics.specs.Laws.Marking.{MayAsk};
 
 use crate::parser::{Mode, parse_template};
-use mbe_errors::error::{ReadError, SyntaxFault};
+use mbe_ops::errors::error::{ReadError, SyntaxFault};
 use mbe_ops::ops::MetaTemplate;
 use mbe_semantics::macro_call_style::MacroCallStyle;
 use mbe_tt::span::{Edition, SyntaxContext};

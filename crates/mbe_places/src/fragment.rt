@@ -5,10 +5,10 @@ ghost use Rattle.mbe_tt.specs.Views.View.{trees};
 ghost use Rattle.mbe_tt.specs.Fragments.Grammar.{front, is_good};
 ghost use Rattle.mbe_tt.specs.Buffers.Place.{viewed, place_of};
 ghost use Rattle.mbe_semantics.specs.Expansion.Error.{entry_name, front_error, binding_error};
-ghost use Rattle.mbe_errors.specs.ErrorViews.{error_of, errors_of};
+ghost use Rattle.mbe_ops.specs.Errors.ErrorViews.{error_of, errors_of};
 
-use mbe_errors::error::{ExpandError, ExpandErrorKind};
-use mbe_errors::value_result::{ExpandResult, ValueResult};
+use mbe_ops::errors::error::{ExpandError, ExpandErrorKind};
+use mbe_ops::errors::value_result::{ExpandResult, ValueResult};
 use mbe_tt::grammar::{FragmentGrammar, PrefixEntryPoint};
 use mbe_tt::span::{DelimSpan, Span};
 use mbe_tt::tt::{Cursor, TokenTreesView, TtIter};

@@ -12,7 +12,7 @@ use Rattle.mbe_semantics.specs.Expansion.Macro.{Macro}
 use Rattle.mbe_semantics.specs.Expansion.ReadAs.{IsReadAs}
 use Rattle.mbe_semantics.specs.Readings.Verdict.{Verdict, IsVerdict}
 use Rattle.mbe_semantics.specs.declared.macro_call_style.MacroCallStyle.{MacroCallStyle}
-use Rattle.mbe_errors.specs.ErrorViews.{parse_error_of}
+use Rattle.mbe_ops.specs.Errors.ErrorViews.{parse_error_of}
 use Rattle.mbe.specs.OneAnswer.{IsAnswer}
 use Rattle.mbe_program.specs.declared.expanding.Unread.{Unread}
 use Rattle.mbe_program.specs.declared.expanding.Unread.TheVariants.{Refused, OutOfMemory}

@@ -2,7 +2,7 @@
 use Rattle.std.specs.Prelude.{ℕ, ⊤, ◌≡◌, ◌≤◌, List, ◌++◌, Option, codes}
 use Rattle.std.specs.Fmt.{decimal}
 use Rattle.mbe_semantics.specs.Expansion.Error.{text_of_fault}
-use Rattle.mbe_errors.specs.ErrorViews.{parse_error_of}
+use Rattle.mbe_ops.specs.Errors.ErrorViews.{parse_error_of}
 use Rattle.mbe_program.specs.declared.program.Outcome.{Outcome}
 use Rattle.mbe_program.specs.declared.program.Outcome.TheVariants.{Expanded, Linted, Faulted, Refused, CannotLex, CannotWrite, OutOfMemory}
 use Rattle.mbe_program.specs.declared.reports.Report.{Report}

@@ -1,7 +1,7 @@
 // Expansions and verdicts by any grammar.
 ghost use Rattle.std.specs.Prelude.{◌≡◌, map, None, IfErr, IfOk};
 ghost use Rattle.mbe_tt.specs.Trees.Top.{top_group};
-ghost use Rattle.mbe_errors.specs.ErrorViews.{errors_of};
+ghost use Rattle.mbe_ops.specs.Errors.ErrorViews.{errors_of};
 ghost use Rattle.mbe_semantics.specs.Expansion.Macro.{IsChecked};
 ghost use Rattle.mbe_semantics.specs.Expansion.ReadAs.{IsReadAs};
 ghost use Rattle.mbe_matcher.specs.Matched.{verdict_seen};

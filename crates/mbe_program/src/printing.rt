@@ -1,7 +1,7 @@
 // How an expansion is written.
 ghost use Rattle.std.specs.Prelude.{◌≡◌, ◌++◌, IfOk, option_map};
 ghost use Rattle.std.specs.String.{string_bytes};
-ghost use Rattle.mbe_errors.specs.ErrorViews.{error_of};
+ghost use Rattle.mbe_ops.specs.Errors.ErrorViews.{error_of};
 ghost use Rattle.mbe_text.specs.Printing.{tree_text};
 ghost use Rattle.mbe_text.specs.Writing.{Writes};
 ghost use Rattle.mbe_program.specs.Printed as spec;

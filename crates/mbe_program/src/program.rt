@@ -1,7 +1,7 @@
 // A run, from both texts to what is written.
 ghost use Rattle.std.specs.Prelude.{◌≡◌, ◌<◌, ◌^◌, ◌⊎◌, length, map, true, false, Ok, IfErr, IfOk};
 ghost use Rattle.mbe_tt.specs.Trees.Top.{top_group};
-ghost use Rattle.mbe_errors.specs.ErrorViews.{errors_of};
+ghost use Rattle.mbe_ops.specs.Errors.ErrorViews.{errors_of};
 ghost use Rattle.mbe.specs.MacroViews.{macro_of};
 ghost use Rattle.mbe.specs.Matched.{verdict_seen};
 ghost use Rattle.mbe_text.specs.Tokens.{IsMade};

@@ -4,7 +4,7 @@ use Rattle.mbe_tt.specs.declared.span.Edition.{Edition}
 use Rattle.mbe_tt.specs.Trees.Top.{Top}
 use Rattle.mbe_tt.specs.Trees.Tree.{Forest}
 use Rattle.mbe_tt.specs.Fragments.Grammar.{Grammar}
-use Rattle.mbe_errors.specs.ErrorViews.{parse_error_of}
+use Rattle.mbe_ops.specs.Errors.ErrorViews.{parse_error_of}
 use Rattle.mbe_text.specs.declared.dialect.Dialect.{Dialect}
 use Rattle.mbe_text.specs.declared.scanner.LexFault.{LexFault}
 use Rattle.mbe_text.specs.declared.lexer.LexError.{LexError}

@@ -11,7 +11,7 @@ use Rattle.mbe_grammar.specs.declared.text.fault.RuleFault.TheVariants as rule_f
 use Rattle.mbe_grammar.specs.Text.Text.{read_text}
 use Rattle.mbe_semantics.specs.Syntax.Template.{Fault}
 use Rattle.mbe_semantics.specs.Expansion.Error.{text_of_fault}
-use Rattle.mbe_errors.specs.ErrorViews.{parse_error_of}
+use Rattle.mbe_ops.specs.Errors.ErrorViews.{parse_error_of}
 use Rattle.mbe_replies.specs.declared.flat.token.FlatToken.{FlatToken}
 use Rattle.mbe_replies.specs.declared.flat.reading.FlatError.{FlatError}
 use Rattle.mbe_replies.specs.declared.flat.reading.FlatError.TheVariants as flat_errors

@@ -2,7 +2,7 @@
 ghost use Rattle.std.specs.Prelude.{◌≡◌, IfOk};
 ghost use Rattle.std.specs.String.{string_bytes};
 ghost use Rattle.mbe_semantics.specs.Expansion.Error.{text_of_kind};
-ghost use Rattle.mbe_errors.specs.ErrorViews.{error_of, parse_error_of};
+ghost use Rattle.mbe_ops.specs.Errors.ErrorViews.{error_of, parse_error_of};
 ghost use Rattle.mbe_replies.specs.Answers.{answer_of};
 ghost use Rattle.mbe_replies.specs.Answers as spec;
 

@@ -1,6 +1,6 @@
 // The calls: what each answers.
 ghost use Rattle.std.specs.Prelude.{◌≡◌, map, Ok, IfErr, IfNone, IfOk, IfSome, OnOk};
-ghost use Rattle.mbe_errors.specs.ErrorViews.{errors_of};
+ghost use Rattle.mbe_ops.specs.Errors.ErrorViews.{errors_of};
 ghost use Rattle.mbe_matcher.specs.Matched.{verdict_seen};
 ghost use Rattle.mbe_grammar.specs.Text.Text.{read_text};
 ghost use Rattle.mbe_grammar.specs.Text.Views.{rules_seen};

@@ -57,6 +57,10 @@ close ) 1 2 3
 word c 1 3 4", "[Stuck(0), Stuck(3), OneReading]"),
 ];
 
+fn are_shown(alloc: Global, verdicts: &[Verdict], want: &str) -> Result<bool, AllocError> {
+    Ok(format!(in alloc; "{verdicts:?}")?.as_str() == want)
+}
+
 /// Whether a row is so.
 pub fn is_so(
     alloc: Global,
@@ -64,9 +68,8 @@ pub fn is_so(
 ) -> Result<bool, AllocError> {
     let rules = parsed(alloc, &read(alloc, 0, definition)?)?;
     let argument = read(alloc, 1, argument)?;
-    let Ok(verdicts) = explained(alloc, &grammar_of(grammar), &rules, &argument) else {
-        return Ok(want == "out of memory");
-    };
-    let shown = format!(in alloc; "{:?}", verdicts.as_slice())?;
-    Ok(shown.as_str() == want)
+    match explained(alloc, &grammar_of(grammar), &rules, &argument) {
+        Ok(verdicts) => are_shown(alloc, verdicts.as_slice(), want),
+        Err(AllocError) => Ok(want == "out of memory"),
+    }
 }

@@ -1,3 +1,4 @@
+-- A text that is lexed and written again comes back with its trees.
 pub mod AfterLemmas
 pub mod BackLemmas
 pub mod BareLemmas

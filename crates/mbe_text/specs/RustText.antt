@@ -1,3 +1,4 @@
+-- Trees as Rust text: what is between two tokens, comments, and the text of it all.
 pub mod Comments
 pub mod Gaps
 pub mod Shown

@@ -8,7 +8,7 @@ ghost use Rattle.std.specs.Prelude.{IfOk, OnOk};
 ghost use Rattle.mbe_tt.specs.Buffers.Building.{put};
 ghost use Rattle.mbe_tt.specs.Views.Shown.{literal_of, ident_of};
 ghost use Rattle.mbe_tt.specs.Trees.Top.{top_group};
-ghost use Rattle.mbe_errors.specs.ErrorViews.{errors_of};
+ghost use Rattle.mbe_ops.specs.Errors.ErrorViews.{errors_of};
 ghost use Rattle.mbe_semantics.specs.Laws.Marking.{MayMark};
 ghost use Rattle.mbe_semantics.specs.Syntax.Op as ops;
 ghost use Rattle.mbe_semantics.specs.Syntax.Op.{group, repetition, lifetime_separator};
@@ -31,7 +31,7 @@ mod expressions;
 
 use crate::transcriber::expressions::{find_ignored, write_concat, write_count, write_number};
 use mbe_bindings::bindings::Bindings;
-use mbe_errors::value_result::{ExpandResult, ValueResult};
+use mbe_ops::errors::value_result::{ExpandResult, ValueResult};
 use mbe_ops::expression::Expression;
 use mbe_ops::ops::{MetaTemplate, Op, Separator};
 use mbe_semantics::kinds::RepeatKind;

@@ -1,10 +1,10 @@
 // Why a template can't be written, before memory is asked for the text.
 ghost use Rattle.std.specs.Prelude.{◌≡◌, IfOk};
-ghost use Rattle.mbe_errors.specs.ErrorViews.{error_of, kind_of as kind_seen};
+ghost use Rattle.mbe_ops.specs.Errors.ErrorViews.{error_of, kind_of as kind_seen};
 ghost use Rattle.mbe_semantics.specs.Expansion.Error.{binding_error};
 ghost use Rattle.mbe_variables.specs.FaultViews.{about_binding, kind_of_fault, error_of_fault};
 
-use mbe_errors::error::{ExpandError, ExpandErrorKind};
+use mbe_ops::errors::error::{ExpandError, ExpandErrorKind};
 use mbe_tt::span::Span;
 use mbe_tt::symbol::Symbol;
 use std::alloc::{AllocError, Allocator};

@@ -1,11 +1,11 @@
 // Equality and copies of macros.
 ghost use Rattle.std.specs.Prelude.{◌≡◌, ◌↔◌, IsTrue, IfOk, option_map};
 ghost use Rattle.mbe_ops.specs.Equality.{IsSameMacro};
-ghost use Rattle.mbe_errors.specs.ErrorViews.{parse_error_of};
+ghost use Rattle.mbe_ops.specs.Errors.ErrorViews.{parse_error_of};
 ghost use Rattle.mbe.specs.MacroViews.{macro_of};
 
 use crate::macros::DeclarativeMacro;
-use mbe_errors::error::ParseError;
+use mbe_ops::errors::error::ParseError;
 use mbe_parser::equality::{copied_rules, same_rules};
 use std::alloc::{AllocError, Allocator};
 

@@ -1,6 +1,6 @@
 // Calls whose argument is a group of any buffer.
 ghost use Rattle.std.specs.Prelude.{◌≡◌, ◌<◌, length, IfOk};
-ghost use Rattle.mbe_errors.specs.ErrorViews.{errors_of};
+ghost use Rattle.mbe_ops.specs.Errors.ErrorViews.{errors_of};
 ghost use Rattle.mbe_matcher.specs.Matched.{verdict_seen};
 ghost use Rattle.mbe_semantics.specs.Expansion.Macro.{IsChecked, Expands};
 ghost use Rattle.mbe_semantics.specs.Laws.Marking.{MayMark};
@@ -11,9 +11,9 @@ ghost use Rattle.mbe.specs.Recovering.{Recovers};
 
 use crate::expander::expand_rules;
 use crate::macros::DeclarativeMacro;
-use mbe_errors::value_result::{ExpandResult, MatchedArmIndex};
 use mbe_log::log::BindingLog;
 use mbe_matcher::matching::{Verdict, match_argument};
+use mbe_ops::errors::value_result::{ExpandResult, MatchedArmIndex};
 use mbe_semantics::macro_call_style::MacroCallStyle;
 use mbe_tt::grammar::FragmentGrammar;
 use mbe_tt::span::Span;

@@ -1,7 +1,7 @@
 -- What the reader returns of the front of a pattern or a template, by its grammar.
 use Rattle.std.specs.Prelude.{◌≡◌, ◌≤◌, ◌+◌, ℕ, Result, Ok, Err}
 use Rattle.mbe_tt.specs.Trees.Tree.{Forest, flat_len}
-use Rattle.mbe_errors.specs.ErrorViews.{fault_of}
+use Rattle.mbe_ops.specs.Errors.ErrorViews.{fault_of}
 use Rattle.mbe_semantics.specs.Syntax.Template.{Fault, Head, ended, one, typed, opens_group, opens_repetition}
 use Rattle.mbe_parser.specs.declared.faults.front.Front as code
 

@@ -3,7 +3,7 @@ use Rattle.std.specs.Prelude.{◌≡◌, ◌+◌, ℕ, List, Option, Some, None}
 use Rattle.mbe_tt.specs.declared.span.SyntaxContext.{SyntaxContext}
 use Rattle.mbe_tt.specs.declared.span.Edition.{Edition}
 use Rattle.mbe_tt.specs.Trees.Tree.{Forest}
-use Rattle.mbe_errors.specs.ErrorViews.{fault_of}
+use Rattle.mbe_ops.specs.Errors.ErrorViews.{fault_of}
 use Rattle.mbe_semantics.specs.Syntax.Template.{Fault, empty_repetition}
 use Rattle.mbe_semantics.specs.Syntax.Definition.{Rule, Rules, with_refusal, IsMacroOfArguments}
 use Rattle.mbe_parser.specs.declared.parser.Mode.TheVariants as modes

@@ -1,8 +1,8 @@
 -- The trees of a rule, as the code returns them.
 use Rattle.std.specs.Prelude.{◌≡◌, Result, Ok, Err}
 use Rattle.mbe_tt.specs.Trees.Tree.{Forest}
-use Rattle.mbe_errors.specs.declared.error.SyntaxFault as reported
-use Rattle.mbe_errors.specs.ErrorViews.{fault_of}
+use Rattle.mbe_ops.specs.declared.errors.error.SyntaxFault as reported
+use Rattle.mbe_ops.specs.Errors.ErrorViews.{fault_of}
 use Rattle.mbe_semantics.specs.declared.macro_call_style.MacroCallStyle.{MacroCallStyle}
 use Rattle.mbe_semantics.specs.Syntax.Template.{Fault}
 use Rattle.mbe_semantics.specs.Syntax.Definition.{RuleTrees}

@@ -18,7 +18,7 @@ ghost use Rattle.mbe_parser.specs.Reader.{mode_of};
 ghost use Rattle.mbe_parser.specs.Faults.Fronts.{Shows, Fits};
 
 use crate::parser::{Mode, parse_repeat, parse_template};
-use mbe_errors::error::SyntaxFault;
+use mbe_ops::errors::error::SyntaxFault;
 use mbe_tt::span::{Edition, SyntaxContext};
 use mbe_tt::tt::{
     DelimiterKind, Leaf, Literal, Punct, TokenTreesView, TtElement, TtIter, TtIterSavepoint,

@@ -1,7 +1,7 @@
 // The rules of a definition up to the first fault, and the place of it.
 ghost use Rattle.std.specs.Prelude.{◌≡◌, ◌<◌, ◌≤◌, ◌+◌, ◌^◌, option_map, IfOk, IfErr, IfSome, OnOk, OnErr};
 ghost use Rattle.mbe_tt.specs.Trees.Tree.{flat_len};
-ghost use Rattle.mbe_errors.specs.ErrorViews.{fault_of};
+ghost use Rattle.mbe_ops.specs.Errors.ErrorViews.{fault_of};
 ghost use Rattle.mbe_semantics.specs.Syntax.Template.{pattern, Template};
 ghost use Rattle.mbe_semantics.specs.Syntax.Definition.{rule_trees_at};
 ghost use Rattle.mbe_semantics.specs.Laws.Marking.{MayAsk};
@@ -19,7 +19,7 @@ use crate::faults::empty::{first_empty, further};
 use crate::faults::templates::{Found, read_part};
 use crate::parser::Mode;
 use crate::rules::{Rule, parse_rule_style, rule_groups};
-use mbe_errors::error::SyntaxFault;
+use mbe_ops::errors::error::SyntaxFault;
 use mbe_ops::ops::MetaTemplate;
 use mbe_semantics::macro_call_style::MacroCallStyle;
 use mbe_tt::span::{Edition, SyntaxContext};

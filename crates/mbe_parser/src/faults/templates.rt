@@ -1,7 +1,7 @@
 // The first fault of a pattern or a template, and its place.
 ghost use Rattle.std.specs.Prelude.{◌≡◌, ◌≤◌, ◌<◌, ◌+◌, ◌^◌, IfOk, IfErr, IfSome, IfNone};
 ghost use Rattle.mbe_tt.specs.Trees.Tree.{flat_len};
-ghost use Rattle.mbe_errors.specs.ErrorViews.{fault_of};
+ghost use Rattle.mbe_ops.specs.Errors.ErrorViews.{fault_of};
 ghost use Rattle.mbe_semantics.specs.Syntax.Template.{Fault, Template, TemplateFault};
 ghost use Rattle.mbe_semantics.specs.Laws.Marking.{MayAsk};
 ghost use Rattle.mbe_ops.specs.Views.{template_of};
@@ -10,7 +10,7 @@ ghost use Rattle.mbe_parser.specs.Faults.Places.{TemplateFaultAt};
 
 use crate::faults::front::{Front, eat_front};
 use crate::parser::{Mode, parse_template};
-use mbe_errors::error::SyntaxFault;
+use mbe_ops::errors::error::SyntaxFault;
 use mbe_ops::ops::MetaTemplate;
 use mbe_tt::span::{Edition, SyntaxContext};
 use mbe_tt::tt::TtIter;

@@ -9,7 +9,7 @@ ghost use Rattle.mbe_semantics.specs.Syntax.Template.{expression_of, arguments_o
 ghost use Rattle.mbe_ops.specs.Expressions.{element_seen, expression_seen};
 ghost use Rattle.mbe_ops.specs.Views.{op_of};
 
-use mbe_errors::error::{ReadError, SyntaxFault};
+use mbe_ops::errors::error::{ReadError, SyntaxFault};
 use mbe_ops::expression::{ConcatMetaVarExprElem, Expression};
 use mbe_ops::ops::Op;
 use mbe_tt::span::Span;

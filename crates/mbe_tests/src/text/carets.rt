@@ -59,11 +59,22 @@ impl Rows for Carets {
         let Carets(number, space) = *self;
         let text = format!(in alloc; "{before}{part}{after}")?;
         let said = said(number, text.as_str(), before, part, Level::Note);
-        let want = format!(in alloc;
-            "note: here\n{space}--> a.rs:{number}:3\n{space} |\n{number} | {line}\n{space} | {carets}\n"
-        )?;
-        Ok(rendered(alloc, &said, false)?.as_str() == want.as_str())
+        let shown = rendered(alloc, &said, false)?;
+        Ok(shown == lines(alloc, number, space, line, carets)?)
     }
+}
+
+// The lines of a note at the third column of that line.
+fn lines(
+    alloc: Global,
+    number: usize,
+    space: &str,
+    line: &str,
+    carets: &str,
+) -> Result<String, AllocError> {
+    format!(in alloc;
+        "note: here\n{space}--> a.rs:{number}:3\n{space} |\n{number} | {line}\n{space} | {carets}\n"
+    )
 }
 
 // The first letter of a level, and how it begins its line.

@@ -9,7 +9,7 @@ use Rattle.mbe_semantics.specs.Writing.Substitution.{faults}
 use Rattle.mbe_laws.proofs.Bindings.CommandLemmas.{commands_bind_alike}
 use Rattle.mbe_ops.specs.Views.{template_of}
 use Rattle.mbe_bindings.specs.BindingViews.{bound_by}
-use Rattle.mbe_errors.specs.ErrorViews.{error_of, errors_of}
+use Rattle.mbe_ops.specs.Errors.ErrorViews.{error_of, errors_of}
 use Rattle.mbe_matcher.specs.Matched.{verdict_seen, Binds}
 use Rattle.mbe_transcriber.specs.Faults.{first_fault}
 use Rattle.mbe_parser.specs.RuleViews.{rule_of}

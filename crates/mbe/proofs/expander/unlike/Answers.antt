@@ -6,7 +6,7 @@ use Rattle.mbe_semantics.specs.Readings.Verdict.{stuck}
 use Rattle.mbe_semantics.specs.Bindings.Account.{no_commands}
 use Rattle.mbe_ops.specs.Views.{template_of}
 use Rattle.mbe_bindings.specs.BindingViews.{bound_by}
-use Rattle.mbe_errors.specs.ErrorViews.{error_of, errors_of}
+use Rattle.mbe_ops.specs.Errors.ErrorViews.{error_of, errors_of}
 use Rattle.mbe_matcher.specs.Failures.{Reports}
 use Rattle.mbe_matcher.specs.Fronts.{begins_otherwise}
 use Rattle.mbe_matcher.proofs.MatchEnds.{both_ok}

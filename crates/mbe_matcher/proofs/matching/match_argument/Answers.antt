@@ -4,7 +4,7 @@ use Rattle.std.proofs.lemmas.Result.{IfOk-weaker}
 use Rattle.mbe_tt.specs.Views.View.{trees}
 use Rattle.mbe_semantics.specs.Readings.Verdict.{IsVerdict, unmatched, one_reading}
 use Rattle.mbe_semantics.specs.Bindings.Account.{HasEntriesOf}
-use Rattle.mbe_errors.specs.ErrorViews.{errors_of}
+use Rattle.mbe_ops.specs.Errors.ErrorViews.{errors_of}
 use Rattle.mbe_log.proofs.ClientLemmas.{kept-on}
 use Rattle.mbe_ops.specs.Views.{template_of}
 use Rattle.mbe_matcher.specs.Matched.{verdict_seen, Binds}

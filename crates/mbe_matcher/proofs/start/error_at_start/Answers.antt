@@ -1,6 +1,6 @@
 use Rattle.std.proofs.Common.{◌≡◌, ◌∙◌, Some, None, sym, ap}
 use Rattle.mbe_tt.specs.Views.View.{trees}
-use Rattle.mbe_errors.specs.ErrorViews.{error_of, errors_of}
+use Rattle.mbe_ops.specs.Errors.ErrorViews.{error_of, errors_of}
 use Rattle.mbe_ops.specs.Views.{ops_of, template_of}
 use Rattle.mbe_matcher.specs.Fronts.{failing_first}
 use Rattle.mbe_matcher.proofs.Starts.{otherwise_fails, otherwise_reports}

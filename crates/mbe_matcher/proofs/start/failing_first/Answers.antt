@@ -1,6 +1,6 @@
 use Rattle.std.proofs.Common.{◌≡◌, sym, ap, subst, arith}
 use Rattle.std.specs.Prelude.{IfOk}
-use Rattle.mbe_errors.specs.ErrorViews.{errors_of}
+use Rattle.mbe_ops.specs.Errors.ErrorViews.{errors_of}
 use Rattle.mbe_matcher.specs.Fronts.{failing_first}
 use Rattle.mbe_matcher.proofs.StepLemmas.{first_op, no_op}
 use Rattle.mbe_matcher.proofs.start.failing_first.Goals as goal

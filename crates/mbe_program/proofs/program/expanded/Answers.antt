@@ -1,6 +1,6 @@
 use Rattle.std.proofs.Common.{◌≡◌, None, IsOk, IsErr, rules}
 use Rattle.mbe_tt.specs.Trees.Top.{top_group}
-use Rattle.mbe_errors.specs.ErrorViews.{errors_of}
+use Rattle.mbe_ops.specs.Errors.ErrorViews.{errors_of}
 use Rattle.mbe_program.specs.Printed.{head}
 use Rattle.mbe_program.proofs.OutcomeLemmas.{printed_all, printed_some}
 use Rattle.mbe_program.proofs.program.expanded.Goals as goal

@@ -1,6 +1,6 @@
 use Rattle.std.proofs.Common.{◌≡◌, ◌∷◌, [], ap, ◌∙◌, rules}
 use Rattle.std.specs.Prelude.{is_some, option_map}
-use Rattle.mbe_errors.specs.ErrorViews.{errors_of}
+use Rattle.mbe_ops.specs.Errors.ErrorViews.{errors_of}
 use Rattle.mbe_variables.specs.FaultViews.{error_of_fault}
 use Rattle.mbe_transcriber.specs.Faults.{first_fault}
 use Rattle.mbe_tt.specs.declared.tt.Delimiter.{Delimiter}

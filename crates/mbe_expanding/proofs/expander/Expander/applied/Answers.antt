@@ -1,7 +1,7 @@
 use Rattle.std.proofs.Common.{rules, ap, ◌∙◌}
 use Rattle.std.specs.Prelude.{Some, None}
 use Rattle.mbe_calls.specs.Shown.{call_shown}
-use Rattle.mbe_errors.specs.ErrorViews.{error_of, errors_of}
+use Rattle.mbe_ops.specs.Errors.ErrorViews.{error_of, errors_of}
 use Rattle.mbe_expanding.specs.Shown.{setting_of, state_of}
 use Rattle.mbe.specs.MacroViews.{macro_of}
 use Rattle.mbe_expanding.specs.Calls.{by_definition, by_rules, stepped}

@@ -1,6 +1,6 @@
 use Rattle.std.proofs.Common.{◌∙◌}
 use Rattle.mbe_ops.specs.Views.{template_of}
-use Rattle.mbe_errors.specs.ErrorViews.{fault_of}
+use Rattle.mbe_ops.specs.Errors.ErrorViews.{fault_of}
 use Rattle.mbe_parser.proofs.FrontLemmas.{braces_read, braces_refused}
 use Rattle.mbe_parser.proofs.faults.front.expression.Goals as goal
 

@@ -2,7 +2,7 @@ use Rattle.std.proofs.Common.{◌≡◌, [], ap, refl}
 use Rattle.mbe_semantics.specs.declared.macro_call_style.MacroCallStyle.TheVariants.{FnLike}
 use Rattle.mbe_semantics.specs.Syntax.Template.{pattern, template}
 use Rattle.mbe_semantics.specs.Syntax.Definition.{in_pattern, in_template}
-use Rattle.mbe_errors.specs.ErrorViews.{fault_of}
+use Rattle.mbe_ops.specs.Errors.ErrorViews.{fault_of}
 use Rattle.mbe_ops.specs.Views.{template_of}
 use Rattle.mbe_parser.specs.RuleViews.{rules_seen}
 use Rattle.mbe_parser.specs.Faults.Empty.{by_fault_of}

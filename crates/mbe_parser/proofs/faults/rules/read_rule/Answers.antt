@@ -1,6 +1,6 @@
 use Rattle.std.proofs.Common.{◌≡◌, ℕ, ◌≤◌, ◌<◌, ◌+◌, ◌-◌, ap, arith}
 use Rattle.mbe_tt.specs.Trees.Tree.{flat_len, passed}
-use Rattle.mbe_errors.specs.ErrorViews.{fault_of}
+use Rattle.mbe_ops.specs.Errors.ErrorViews.{fault_of}
 use Rattle.mbe_ops.specs.Views.{template_of}
 use Rattle.mbe_parser.specs.Stops.{stop_in_rule}
 use Rattle.mbe_parser.specs.Faults.Places.{in_trees, in_pattern, in_template, pattern_place, template_place}

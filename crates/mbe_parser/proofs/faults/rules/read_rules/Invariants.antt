@@ -1,6 +1,6 @@
 use Rattle.std.proofs.Common.{◌≡◌, length}
 use Rattle.mbe_tt.specs.Trees.Tree.{flat_len}
-use Rattle.mbe_errors.specs.ErrorViews.{fault_of}
+use Rattle.mbe_ops.specs.Errors.ErrorViews.{fault_of}
 use Rattle.mbe_parser.specs.RuleViews.{rules_seen}
 use Rattle.mbe_parser.proofs.RuleReading.{Continues}
 use Rattle.mbe_parser.proofs.RuleLemmas.{SoFar}

@@ -1,6 +1,6 @@
 use Rattle.std.proofs.Common.{◌≡◌, ◌+◌, ◌-◌, ap, arith}
 use Rattle.mbe_tt.specs.Trees.Tree.{flat_len, passed}
-use Rattle.mbe_errors.specs.ErrorViews.{fault_of}
+use Rattle.mbe_ops.specs.Errors.ErrorViews.{fault_of}
 use Rattle.mbe_parser.specs.Reader.{mode_of}
 use Rattle.mbe_ops.specs.Views.{template_of}
 use Rattle.mbe_parser.proofs.PlaceLemmas.{at_end, at_refused, past_whole, past_group, past_repetition, inside_group, inside_repetition, so_far-step, placed}

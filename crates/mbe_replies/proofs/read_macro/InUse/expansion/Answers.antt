@@ -1,4 +1,4 @@
-use Rattle.mbe_errors.specs.ErrorViews.{errors_of}
+use Rattle.mbe_ops.specs.Errors.ErrorViews.{errors_of}
 use Rattle.mbe_replies.specs.Answers.{answer_of}
 use Rattle.mbe_replies.specs.ReadOnce.{in_use}
 use Rattle.mbe_replies.proofs.ReadLemmas.{shown_of}

@@ -1,6 +1,6 @@
 use Rattle.std.proofs.Common.{◌∙◌, ap, sym, is_some}
 use Rattle.std.proofs.lemmas.Bool.{true≢false}
-use Rattle.mbe_errors.specs.ErrorViews.{errors_of}
+use Rattle.mbe_ops.specs.Errors.ErrorViews.{errors_of}
 use Rattle.mbe_tests.proofs.calling.theorem.applied.Goals as goal
 
 -- With an error no rule applies: where one does, `expand` reports none.

@@ -1,0 +1,2 @@
+-- How errors of definitions and of expansions are seen.
+pub mod ErrorViews
