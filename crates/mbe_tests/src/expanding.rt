@@ -67,8 +67,17 @@ fn reads_again<A: Allocator + Copy>(
 ) -> Result<bool, AllocError> {
     let args = lexed(alloc, 0, sort)?;
     let body = lexed(alloc, 0, definition)?;
-    let first = read_as(alloc, sort, &args, &body);
-    let again = read_as(alloc, sort, &args, &body)?;
+    is_read_again(alloc, sort, &args, &body)
+}
+
+fn is_read_again<A: Allocator + Copy>(
+    alloc: A,
+    sort: &str,
+    args: &TopSubtree<A>,
+    body: &TopSubtree<A>,
+) -> Result<bool, AllocError> {
+    let first = read_as(alloc, sort, args, body);
+    let again = read_as(alloc, sort, args, body)?;
     match first {
         Ok(first) => Ok(first.num_rules() > 0 && first == again),
         Err(AllocError) => Ok(again.num_rules() > 0),

@@ -3,8 +3,9 @@ use crate::grammar::NOTHING;
 use crate::runs::defined;
 use crate::tokens::{at, byte};
 use crate::trees::lexed;
-use mbe::{MacroCallStyle, ParseError};
+use mbe::{DeclarativeMacro, MacroCallStyle, ParseError};
 use mbe_tt::span::Span;
+use mbe_tt::tt::TopSubtree;
 use std::alloc::{AllocError, Global};
 use std::cell::Cell;
 use test_rows::{Fields, rows};
@@ -26,10 +27,18 @@ pub const ROWS: &str = rows![
 // Whether there is an error, and how often a marker was called.
 fn calls(alloc: Global, definition: &str, argument: &str) -> Result<(bool, u32), AllocError> {
     let rules = defined(alloc, definition)?;
+    let argument = lexed(alloc, 1, argument)?;
+    calls_of(alloc, &rules, &argument)
+}
+
+fn calls_of(
+    alloc: Global,
+    rules: &DeclarativeMacro,
+    argument: &TopSubtree,
+) -> Result<(bool, u32), AllocError> {
     if matches!(rules.err(), Some(ParseError::RepetitionEmptyTokenTree)) {
         return Err(AllocError);
     }
-    let argument = lexed(alloc, 1, argument)?;
     let count = Cell::new(0u32);
     let marker = |span: Span| {
         count.set(count.get().saturating_add(1));
@@ -37,7 +46,7 @@ fn calls(alloc: Global, definition: &str, argument: &str) -> Result<(bool, u32),
     };
     let style = MacroCallStyle::FnLike;
     let call_site = at(2, 40, 44);
-    let expansion = rules.expand(alloc, &NOTHING, &argument, marker, style, call_site)?;
+    let expansion = rules.expand(alloc, &NOTHING, argument, marker, style, call_site)?;
     Ok((expansion.err.is_some(), count.get()))
 }
 

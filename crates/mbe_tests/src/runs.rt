@@ -83,13 +83,23 @@ pub fn is_so(
 ) -> Result<bool, AllocError> {
     let rules = parsed(alloc, &read(alloc, 0, definition)?)?;
     let argument = read(alloc, 1, argument)?;
-    let Ok(expansion) = made(alloc, &grammar_of(grammar), &rules, &argument) else {
+    is_called(alloc, grammar, (&rules, &argument), [arm, tokens, error])
+}
+
+// Whether that comes of a call by the grammar of a row.
+fn is_called(
+    alloc: Global,
+    grammar: &str,
+    (rules, argument): (&DeclarativeMacro, &TopSubtree),
+    [arm, tokens, error]: [&str; 3],
+) -> Result<bool, AllocError> {
+    let Ok(expansion) = made(alloc, &grammar_of(grammar), rules, argument) else {
         return Ok(arm == "out of memory");
     };
     if arm.is_empty() {
         return Ok(expansion.err.is_some() && expansion.value.1 == Some(0));
     }
-    is_made(alloc, &expansion, whole(&argument), [arm, tokens, error])
+    is_made(alloc, &expansion, whole(argument), [arm, tokens, error])
 }
 
 /// Whether a call with an argument, in a style, makes that. The grammar faults on everything.

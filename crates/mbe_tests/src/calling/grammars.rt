@@ -81,7 +81,7 @@ fn word_front<A: Allocator>(tokens: TokenTreesView<'_, A>) -> Front
 pub mod tests {
     use super::{NoFragments, Words};
     use crate::calling::expansions::{error_line, read};
-    use mbe::MacroCallStyle;
+    use crate::runs::made;
     use mbe_text::lexer::lex;
     use mbe_tt::grammar::FragmentGrammar;
     use std::alloc::Global;
@@ -90,14 +90,7 @@ pub mod tests {
     fn has_error<G: FragmentGrammar>(alloc: Global, grammar: &G, line: &str) -> Option<bool> {
         let defined = read(alloc, "($e:expr, $t:ty) => {$t $e}").ok()?;
         let argument = lex(alloc, "1, u8", 1).ok()?;
-        if defined.err().is_some() {
-            return None;
-        }
-        let call_site = argument.top_subtree().delimiter.opening;
-        let style = MacroCallStyle::FnLike;
-        let expanded = defined
-            .expand(alloc, grammar, &argument, |s| s, style, call_site)
-            .ok()?;
+        let expanded = made(alloc, grammar, &defined, &argument).ok()?;
         Some(error_line(alloc, &expanded).ok()?.as_str() == line)
     }
 

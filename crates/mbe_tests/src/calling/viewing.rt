@@ -32,6 +32,7 @@ pub fn fits_group<A: Allocator + Copy>(
 pub mod tests {
     use super::{expand_group, fits_group};
     use crate::calling::expansions::{read, tree_or_error};
+    use mbe::CheckedMacro;
     use mbe_text::lexer::lex;
     use mbe_tt::tt::{SubtreeView, TopSubtree};
     use std::alloc::Global;
@@ -48,12 +49,15 @@ pub mod tests {
         iter.next_as_view()?.try_into_subtree()
     }
 
+    fn is_expanded(alloc: Global, defined: &CheckedMacro, group: SubtreeView<'_>) -> Option<bool> {
+        let expansion = expand_group(alloc, defined, group).ok()?;
+        Some(tree_or_error(alloc, expansion).ok()?.as_str() == TREE)
+    }
+
     pub fn is_group_expanded(alloc: Global) -> Option<bool> {
         let defined = read(alloc, RULES).ok()?.checked().ok()?;
         let trees = lex(alloc, "m ! (a) b", 1).ok()?;
         let group = third(&trees)?;
-        let expansion = expand_group(alloc, &defined, group).ok()?;
-        let fits = fits_group(alloc, &defined, group).ok()?;
-        Some(fits && tree_or_error(alloc, expansion).ok()?.as_str() == TREE)
+        Some(fits_group(alloc, &defined, group).ok()? && is_expanded(alloc, &defined, group)?)
     }
 }
