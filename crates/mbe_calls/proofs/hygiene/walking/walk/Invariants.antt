@@ -5,7 +5,7 @@ use Rattle.mbe_calls.specs.Hygiene.Shown.{step_of}
 use Rattle.mbe_calls.specs.Hygiene.Sites.{start}
 use Rattle.mbe_calls.specs.Hygiene.Steps.{steps}
 use Rattle.mbe_calls.proofs.Renaming.WalkLemmas.{Left, tokens_around}
-use Rattle.mbe_calls.proofs.hygiene.walking.steps_of.Given as goal
+use Rattle.mbe_calls.proofs.hygiene.walking.walk.Given as goal
 
 abbrev pub invariant-tokens : goal.invariant-tokens
 invariant-tokens g l =

@@ -5,11 +5,11 @@ use Rattle.mbe_calls.specs.Hygiene.Shown.{step_of}
 use Rattle.mbe_calls.specs.Hygiene.Sites.{after_leaf, after_group, inside_group}
 use Rattle.mbe_calls.specs.Hygiene.Steps.{token, opening, leaf_role}
 use Rattle.mbe_calls.proofs.Renaming.WalkLemmas.{begins, one_shown, leaf_on, group_on, pop_on, all_done}
-use Rattle.mbe_calls.proofs.hygiene.walking.steps_of.Goals as goal
+use Rattle.mbe_calls.proofs.hygiene.walking.walk.Goals as goal
 
 pub tokens-init : goal.tokens-init
 tokens-init g c =
-    begins _ _ _ _ _ _ (ap (map step_of) c.new-found.ensures.items) c.new-around.ensures.items c.start-site.ensures
+    begins _ _ _ _ _ _ (ap (map step_of) c.requires.found) c.requires.around c.start-site.ensures
     c.iter-iter.ensures
 
 pub tokens-preserved-in-Some-Leaf : goal.tokens-preserved-in-Some-Leaf
