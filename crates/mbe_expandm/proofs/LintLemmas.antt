@@ -8,9 +8,9 @@ use Rattle.mbe_semantics.specs.Expansion.Macro.{Macro}
 use Rattle.mbe_calls.specs.Fronts.{Form, Rules, Body, Arguments, Defined}
 use Rattle.mbe.proofs.EditionLemmas.{read_as, read_as_macro}
 use Rattle.mbe_expanding.specs.Scopes.{IsEdition}
-use Rattle.mbe_lints.specs.Definitions.{definitions}
-use Rattle.mbe_lints.specs.Lint.{Lint}
-use Rattle.mbe_lints.specs.Lints.{IsReadIn, IsLinted, AreLinted}
+use Rattle.mbe_explaining.specs.Lints.Definitions.{definitions}
+use Rattle.mbe_explaining.specs.Lints.Lint.{Lint}
+use Rattle.mbe_explaining.specs.Lints.Lints.{IsReadIn, IsLinted, AreLinted}
 use Rattle.mbe_expandm.proofs.RefusedEditions.{refused_read}
 
 module _ {A B : SyntaxContext → Edition → Type 0} (more : (c : SyntaxContext) (e : Edition) → A c e → B c e) where

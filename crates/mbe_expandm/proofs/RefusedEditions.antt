@@ -7,8 +7,8 @@ use Rattle.mbe_tt.specs.Trees.Tree.{Forest}
 use Rattle.mbe_semantics.specs.Expansion.Macro.{Macro}
 use Rattle.mbe_calls.specs.Fronts.{Form}
 use Rattle.mbe_expandm.proofs.EmptyEditions.{refused_place, one_refused_place}
-use Rattle.mbe_lints.specs.declared.spot.Spot.{Spot}
-use Rattle.mbe_lints.specs.Refused.{RefusedAt, not_refused, in_rules, in_body, in_part}
+use Rattle.mbe_explaining.specs.declared.lints.spot.Spot.{Spot}
+use Rattle.mbe_explaining.specs.Lints.Refused.{RefusedAt, not_refused, in_rules, in_body, in_part}
 
 pub refused_read : {A B : SyntaxContext → Edition → Type 0}
     (more : (c : SyntaxContext) (e : Edition) → A c e → B c e) {close : Span} {rules : Forest} {m : Macro}

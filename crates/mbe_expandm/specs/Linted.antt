@@ -3,9 +3,9 @@ use Rattle.std.specs.Prelude.{◌≡◌, ℕ, if◌then◌else◌, ◌==◌, ◌
 use Rattle.mbe_tt.specs.declared.span.Edition.{Edition}
 use Rattle.mbe_tt.specs.Trees.Top.{Top}
 use Rattle.mbe_expanding.specs.Scopes.{IsEdition}
-use Rattle.mbe_lints.specs.Definitions.{definitions}
-use Rattle.mbe_lints.specs.Lint.{Lint}
-use Rattle.mbe_lints.specs.Lints.{AreLinted}
+use Rattle.mbe_explaining.specs.Lints.Definitions.{definitions}
+use Rattle.mbe_explaining.specs.Lints.Lint.{Lint}
+use Rattle.mbe_explaining.specs.Lints.Lints.{AreLinted}
 use Rattle.mbe_expandm.specs.declared.reading.Reading.{Reading}
 use Rattle.mbe_expandm.specs.Conditions.{Conditions}
 use Rattle.mbe_expandm.specs.Readings.{IsReading}

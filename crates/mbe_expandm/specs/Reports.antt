@@ -9,7 +9,7 @@ use Rattle.mbe_explaining.specs.Diagnostics.{text}
 use Rattle.mbe_explaining.specs.Json.{json_line, plain_line}
 use Rattle.mbe_expanding.specs.declared.notes.Level as notes
 use Rattle.mbe_expanding.specs.Explained.{Note}
-use Rattle.mbe_lints.specs.Lint.{Lint}
+use Rattle.mbe_explaining.specs.Lints.Lint.{Lint}
 use Rattle.mbe_expandm.specs.declared.files.SourceFile.{SourceFile}
 use Rattle.mbe_expandm.specs.declared.saying.Form.{Form}
 use Rattle.mbe_expandm.specs.declared.saying.Form.TheVariants.{Text, Colours, Json}

@@ -1,9 +1,9 @@
 // What is said of the definitions of files, without a call.
 ghost use Rattle.std.specs.Prelude.{◌≡◌, IfOk, OnOk, length, map};
 ghost use Rattle.mbe_expanding.specs.Scopes.{IsEdition};
-ghost use Rattle.mbe_lints.specs.Definitions.{definitions};
-ghost use Rattle.mbe_lints.specs.Lint.{lint_seen};
-ghost use Rattle.mbe_lints.specs.Lints.{AreLinted};
+ghost use Rattle.mbe_explaining.specs.Lints.Definitions.{definitions};
+ghost use Rattle.mbe_explaining.specs.Lints.Lint.{lint_seen};
+ghost use Rattle.mbe_explaining.specs.Lints.Lints.{AreLinted};
 ghost use Rattle.mbe_expandm.specs.Linted.{AreTextsLinted, FileLinted, FilesLinted, lint_status};
 ghost use Rattle.mbe_expandm.specs.ShownFiles.{source_of, text_of};
 ghost use Rattle.mbe_expandm.specs.ShownOptions.{conditions_of};
@@ -13,8 +13,8 @@ use crate::files::SourceFile;
 use crate::sessions::{DONE, ERRORS, Named, sources};
 use mbe_expanding::notes::Note;
 use mbe_grammar::rust::fragments::rust_rules;
-use mbe_lints::lint::Lint;
-use mbe_lints::linting::push_lints;
+use mbe_explaining::lints::lint::Lint;
+use mbe_explaining::lints::linting::push_lints;
 use mbe_tt::span::Edition;
 use mbe_tt::tt::TopSubtree;
 use std::alloc::{AllocError, Global};

@@ -3,7 +3,7 @@ ghost use Rattle.std.specs.Prelude.{◌≡◌, [], Some, IfOk, OnOk, map};
 ghost use Rattle.std.specs.String.{string_bytes};
 ghost use Rattle.mbe_expanding.specs.Explained.{note_seen};
 ghost use Rattle.mbe_expandm.specs.Reports as spec;
-ghost use Rattle.mbe_lints.specs.Lint.{lint_seen};
+ghost use Rattle.mbe_explaining.specs.Lints.Lint.{lint_seen};
 ghost use Rattle.mbe_expandm.specs.Reports.{IsAt, IsReport, LintReports, Reports};
 ghost use Rattle.mbe_expandm.specs.Reports.{error_written, form_for, level_shown};
 
@@ -14,7 +14,7 @@ use mbe_expanding::settings::Explain;
 use mbe_explaining::diagnostic::{Diagnostic, Level, Point};
 use mbe_explaining::json::{json_line, plain_line};
 use mbe_explaining::text::rendered;
-use mbe_lints::lint::Lint;
+use mbe_explaining::lints::lint::Lint;
 use mbe_tt::span::Span;
 use std::alloc::{AllocError, Global};
 

@@ -1,6 +1,6 @@
 use Rattle.std.proofs.Common.{◌≡◌, ◌∙◌, [], ap, sym, subst, map}
 use Rattle.std.proofs.lemmas.Simd.{map-map}
-use Rattle.mbe_lints.specs.Lint.{lint_seen}
+use Rattle.mbe_explaining.specs.Lints.Lint.{lint_seen}
 use Rattle.mbe_expandm.specs.Linted.{FilesLinted}
 use Rattle.mbe_expandm.specs.ShownFiles.{source_of}
 use Rattle.mbe_expandm.specs.ShownOptions.{conditions_of}
