@@ -32,7 +32,7 @@ pub enum Wrong {
 }
 
 /// What is wrong, and where.
-#[derive(Drop)]
+#[derive(Clone, Copy, Drop)]
 pub struct Fault {
     pub wrong: Wrong,
     pub at: Span,

@@ -13,6 +13,7 @@ use std::alloc::{AllocError, Allocator, Global};
 
 /// A file that was read.
 #[derive(Drop)]
+#[derive_where(Clone, Copy)]
 pub struct File<'f, A: Allocator = Global> {
     pub path: &'f str,
     /// Its trees, where it is Rust.
@@ -20,7 +21,7 @@ pub struct File<'f, A: Allocator = Global> {
 }
 
 /// Why a module or an `include!` has no file.
-#[derive(Drop)]
+#[derive(Clone, Copy, Drop)]
 pub enum Wrong {
     /// None was read that may be it.
     Missing,

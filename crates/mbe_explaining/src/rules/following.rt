@@ -46,7 +46,7 @@ fn spell(puncts: &[Punct], bytes: &[u8]) -> bool
 }
 
 // What counts of what comes next.
-#[derive(Drop)]
+#[derive(Clone, Copy)]
 enum Look<'a> {
     Puncts(&'a [Punct]),
     Word(&'a str),

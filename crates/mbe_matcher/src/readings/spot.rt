@@ -3,7 +3,7 @@ use mbe_ops::ops::{Op, Separator};
 use mbe_semantics::kinds::RepeatKind;
 use std::alloc::{Allocator, Global};
 
-#[derive(Drop)]
+#[derive_where(Clone, Copy)]
 pub(crate) enum Spot<'a, A: Allocator = Global> {
     // The pattern's end.
     End,
@@ -23,14 +23,14 @@ pub(crate) enum Spot<'a, A: Allocator = Global> {
 }
 
 // A step to the dot of this number, over so many flat tokens.
-#[derive(Drop)]
+#[derive(Clone, Copy)]
 pub(crate) struct Way {
     pub(crate) number: usize,
     pub(crate) width: usize,
 }
 
 // The steps of a dot: two at most.
-#[derive(Drop)]
+#[derive(Clone, Copy)]
 pub(crate) struct Ways {
     pub(crate) one: Option<Way>,
     pub(crate) other: Option<Way>,
