@@ -53,7 +53,7 @@ options:
   --version         print the version";
 
 /// Another crate.
-#[derive(Clone, Copy, Drop)]
+#[derive(Drop)]
 pub struct Extern<'w> {
     pub name: &'w str,
     /// Its root, or the folder that it is in as `src/lib.rs`.
@@ -110,7 +110,7 @@ pub enum Asked<'w, A: Allocator = Global> {
 }
 
 // An option whose value is the next word.
-#[derive(Clone, Copy, Drop)]
+#[derive(Drop)]
 enum Valued {
     Depth,
     Fuel,

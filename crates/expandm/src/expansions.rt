@@ -26,7 +26,7 @@ use std::io;
 use std::io::Write;
 
 /// What is asked for of files.
-#[derive(Clone, Copy, Drop)]
+#[derive(Drop)]
 pub struct Wanted {
     /// What the calls there become, in place of the whole text.
     pub call: Option<Position>,

@@ -4,7 +4,7 @@ use mbe_grammar::tables::table::RuleTable;
 use mbe_tt::span::Edition;
 
 /// How texts are read: in which edition, what `cfg` is evaluated under, and what is an item.
-#[derive(Clone, Copy, Drop)]
+#[derive(Drop)]
 pub struct Reading<'r> {
     pub edition: Edition,
     pub conditions: Settings<'r>,

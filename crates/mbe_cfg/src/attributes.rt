@@ -15,7 +15,7 @@ use mbe_tt::tt::{DelimiterKind, TokenTreesView};
 use std::alloc::Allocator;
 
 /// What an attribute's name says of conditions.
-#[derive(Clone, Copy, Drop)]
+#[derive(Drop)]
 pub enum Sort {
     Cfg,
     CfgAttr,

@@ -32,7 +32,7 @@ pub enum Wrong {
 }
 
 /// What is wrong, and where.
-#[derive(Clone, Copy, Drop)]
+#[derive(Drop)]
 pub struct Fault {
     pub wrong: Wrong,
     pub at: Span,

@@ -23,14 +23,13 @@ pub const DEPTH: u32 = 128;
 
 /// Whether what is at the front holds, and what is after it.
 #[derive(Drop)]
-#[derive_where(Clone, Copy)]
 pub struct Verdict<'t, A: Allocator = Global> {
     pub holds: bool,
     pub rest: TokenTreesView<'t, A>,
 }
 
 /// What a name before parentheses means.
-#[derive(Clone, Copy, Drop)]
+#[derive(Drop)]
 pub enum Operator {
     All,
     Any,

@@ -5,7 +5,7 @@ ghost use Rattle.std.specs.Str.{bytes_eq};
 ghost use Rattle.mbe_cfg.specs.Settings.{is_name, is_pair, is_set};
 
 /// One option: a name, as `unix`, or a name with a value, as `target_os = "linux"`.
-#[derive(Clone, Copy, Drop)]
+#[derive(Drop)]
 pub struct Cfg<'a> {
     pub name: &'a str,
     pub value: Option<&'a str>,
@@ -13,7 +13,7 @@ pub struct Cfg<'a> {
 
 /// The options of a run: those of its target, those that `--cfg` gives, the crate's features, and whether its tests are
 /// compiled.
-#[derive(Clone, Copy, Drop)]
+#[derive(Drop)]
 pub struct Settings<'a> {
     pub target: &'a [Cfg<'a>],
     pub given: &'a [Cfg<'a>],

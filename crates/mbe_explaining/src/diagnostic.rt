@@ -34,7 +34,7 @@ pub struct Point {
 }
 
 /// Something that is said of a part of a file.
-#[derive(Clone, Copy, Drop)]
+#[derive(Drop)]
 pub struct Diagnostic<'t> {
     pub level: Level,
     pub message: &'t str,

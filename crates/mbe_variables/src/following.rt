@@ -32,7 +32,7 @@ use std::alloc::Allocator;
 const LIMIT: usize = 65536;
 
 /// Why a path leads to nothing.
-#[derive(Clone, Copy)]
+#[derive(Drop)]
 pub enum Lost {
     /// A repetition was skipped.
     Empty,
@@ -41,14 +41,14 @@ pub enum Lost {
 }
 
 /// What a variable writes.
-#[derive_where(Clone, Copy)]
+#[derive(Drop)]
 pub enum Simple<'b, 'a, A: Allocator> {
     Fragment(&'b Fragment<'a, A>),
     Missing(MetaVarKind),
 }
 
 /// How many rounds there are.
-#[derive(Clone, Copy)]
+#[derive(Drop)]
 pub enum Extent {
     Finite(usize),
     Endless,

@@ -16,7 +16,6 @@ use std::alloc::{Allocator, Global};
 
 /// The content of a module.
 #[derive(Drop)]
-#[derive_where(Clone, Copy)]
 pub enum Body<'t, A: Allocator = Global> {
     /// It is in a file, as a `;` there says.
     Outside(Span),
@@ -25,7 +24,6 @@ pub enum Body<'t, A: Allocator = Global> {
 
 /// `mod name` with its content.
 #[derive(Drop)]
-#[derive_where(Clone, Copy)]
 pub struct Module<'t, A: Allocator = Global> {
     /// `mod`
     pub word: &'t Ident<A>,

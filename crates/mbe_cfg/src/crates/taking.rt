@@ -13,7 +13,6 @@ use std::alloc::{AllocError, Allocator, Global};
 
 /// A file that was read.
 #[derive(Drop)]
-#[derive_where(Clone, Copy)]
 pub struct File<'f, A: Allocator = Global> {
     pub path: &'f str,
     /// Its trees, where it is Rust.
@@ -21,7 +20,7 @@ pub struct File<'f, A: Allocator = Global> {
 }
 
 /// Why a module or an `include!` has no file.
-#[derive(Clone, Copy, Drop)]
+#[derive(Drop)]
 pub enum Wrong {
     /// None was read that may be it.
     Missing,

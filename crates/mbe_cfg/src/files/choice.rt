@@ -3,7 +3,7 @@ ghost use Rattle.std.specs.Prelude.{◌≡◌};
 ghost use Rattle.mbe_cfg.specs.Files.Choice.{chosen};
 
 /// Which of `x.rs` and `x/mod.rs` holds a module.
-#[derive(Clone, Copy, Drop, PartialEq, Eq)]
+#[derive(Drop, PartialEq, Eq)]
 pub enum Choice {
     /// `x.rs`
     Beside,

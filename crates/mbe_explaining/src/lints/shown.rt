@@ -13,7 +13,7 @@ use mbe_tt::tt::Ident;
 use std::alloc::Allocator;
 
 /// A variable as messages show it. Clauses see it by `shown_seen`.
-#[derive(Clone, Copy, Drop)]
+#[derive(Drop)]
 pub struct Shown<'t> {
     /// Its `$` and its name.
     pub short: Span,

@@ -16,7 +16,7 @@ use std::alloc::{Allocator, Global};
 const LEVELS: u32 = 1000;
 
 /// A variable as it is written. Clauses see it by `written_seen`.
-#[derive_where(Clone, Copy)]
+#[derive(Drop)]
 pub struct Written<'t, A: Allocator = Global> {
     /// Its `$` and its name.
     pub short: Span,

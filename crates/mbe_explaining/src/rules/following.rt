@@ -46,7 +46,7 @@ fn spell(puncts: &[Punct], bytes: &[u8]) -> bool
 }
 
 // What counts of what comes next.
-#[derive(Clone, Copy)]
+#[derive(Drop)]
 enum Look<'a> {
     Puncts(&'a [Punct]),
     Word(&'a str),

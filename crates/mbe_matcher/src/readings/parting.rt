@@ -25,7 +25,7 @@ use mbe_tt::tt::TokenTreesView;
 use std::alloc::{AllocError, Allocator, Global};
 
 /// Where two readings part, and by what each of them goes on there. Clauses see it by `parting_seen`.
-#[derive_where(Clone, Copy)]
+#[derive(Drop)]
 pub struct Parting<'a, A: Allocator = Global> {
     /// A number of flat tokens of the argument.
     pub place: usize,

@@ -3,7 +3,7 @@ use mbe_ops::ops::{Op, Separator};
 use mbe_semantics::kinds::RepeatKind;
 use std::alloc::{Allocator, Global};
 
-#[derive_where(Clone, Copy)]
+#[derive(Drop)]
 pub(crate) enum Spot<'a, A: Allocator = Global> {
     // The pattern's end.
     End,
@@ -23,14 +23,14 @@ pub(crate) enum Spot<'a, A: Allocator = Global> {
 }
 
 // A step to the dot of this number, over so many flat tokens.
-#[derive(Clone, Copy)]
+#[derive(Drop)]
 pub(crate) struct Way {
     pub(crate) number: usize,
     pub(crate) width: usize,
 }
 
 // The steps of a dot: two at most.
-#[derive(Clone, Copy)]
+#[derive(Drop)]
 pub(crate) struct Ways {
     pub(crate) one: Option<Way>,
     pub(crate) other: Option<Way>,
