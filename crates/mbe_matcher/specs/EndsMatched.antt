@@ -23,12 +23,11 @@ use Rattle.mbe_matcher.specs.declared.ends.Firsts.{Firsts}
 use Rattle.mbe_matcher.specs.declared.ends.Lasts.{Lasts}
 use Rattle.mbe_matcher.specs.declared.ends.Left.{Left}
 use Rattle.mbe_matcher.specs.declared.ends.Pass.{Pass}
-use Rattle.mbe_matcher.specs.declared.ends.Stacks.{Stacks}
 use Rattle.mbe_matcher.specs.declared.ends.Visit as declared
 use Rattle.mbe_matcher.specs.declared.ends.Visit.TheVariants as variants
 use Rattle.mbe_matcher.specs.Met.{AreUnmetFrom}
 use Rattle.mbe_matcher.specs.Positions.{Each, Both, Shows, LeadsTo, Holds, Keeps}
-use Rattle.mbe_matcher.specs.Failures.{Misfit, Notes, no_notes, has_step, misfit, misfit_unless, ops_left, bound_by}
+use Rattle.mbe_matcher.specs.Failures.{Misfit, Notes, has_step, misfit, misfit_unless, ops_left, bound_by}
 use Rattle.mbe_matcher.specs.Reports.{IsReportOf}
 use Rattle.mbe_matcher.specs.TwoEnds.{Visit, enter, leave, only_first, kept_first, first_moves, kept_back, back_moves}
 
@@ -81,17 +80,6 @@ AreAsMany new old = length new.places.items ≡ length old.places.items
 -- what is in the log and the outer items stays
 abbrev pub PassKeeps : {A : Type 0} → Log → Log → Pass A → Pass A → Type 0
 PassKeeps old new before after = Keeps old new before.outers.items after.outers.items
-
--- As before the first place, of a pattern with so many dots: none was met, nothing is reported, and no position is
--- there.
-pub record IsFreshPass {A : Type 0} (number : ℕ) (pass : Pass A) (stacks : Stacks A) : Type 0 where
-  pub first_size : length pass.first_met.places.items ≡ number
-  pub last_size : length pass.last_met.places.items ≡ number
-  pub first_unmet : AreUnmetFrom pass.first_met.places.items 0
-  pub last_unmet : AreUnmetFrom pass.last_met.places.items 0
-  pub notes : (log : Log) (f : Forest) → IsReportOf log f pass.report [] no_notes
-  pub no_firsts : stacks.firsts.items ≡ []
-  pub no_lasts : stacks.lasts.items ≡ []
 
 -- ---- the last of each dot
 

@@ -34,12 +34,11 @@ ghost use Rattle.mbe_matcher.specs.Positions.{IsPosition, Holds, Each};
 ghost use Rattle.mbe_matcher.specs.Compacting.{CarriesVisit, PositionsStay, VisitsStay, ReportStays, StartStays};
 ghost use Rattle.mbe_places.specs.Stops.{position_after};
 ghost use Rattle.mbe_semantics.specs.Bindings.Account.{Log};
-ghost use Rattle.mbe_semantics.specs.Matching.Dots.{dots};
 ghost use Rattle.mbe_semantics.specs.Matching.Outline.{Outline};
 ghost use Rattle.mbe_ops.specs.Views.{ops_of, template_of};
 ghost use Rattle.mbe_matcher.specs.Failures.{ops_left, bound_by};
 ghost use Rattle.mbe_matcher.specs.Reports.{IsFullReport};
-ghost use Rattle.mbe_matcher.specs.EndsMatched.{IsFirstStackAt, AreFirstsAt, NotesFirsts, FailsBy, GivesEntered, to_enter, FirstFails, IsStop, IsLastStackAt, AreLastsAt, visit_after, AreUnmetAfter, AreAsMany, PassKeeps, IsFreshPass};
+ghost use Rattle.mbe_matcher.specs.EndsMatched.{IsFirstStackAt, AreFirstsAt, NotesFirsts, FailsBy, GivesEntered, to_enter, FirstFails, IsStop, IsLastStackAt, AreLastsAt, visit_after, AreUnmetAfter, AreAsMany, PassKeeps};
 
 use crate::compacting::{Live, Moved, Room};
 use crate::met::Met;
@@ -90,15 +89,6 @@ struct Lasts<'a, A: Allocator = Global> {
     waiting: Vec<Waiting<'a, A>, A>,
     // The last that fails.
     failed: Option<Failed<'a, A>>,
-}
-
-// The positions that are still to be followed, the first of each dot and the last, and what comes of them at a place.
-#[derive(Drop)]
-struct Stacks<'a, A: Allocator = Global> {
-    firsts: Vec<Position<'a, A>, A>,
-    lasts: Vec<Visit<'a, A>, A>,
-    first: Firsts<'a, A>,
-    last: Lasts<'a, A>,
 }
 
 // What the pass keeps from place to place, beside the log and its lists.
@@ -499,61 +489,6 @@ impl<'a, A: Allocator + Copy> Pass<'a, A> {
     }
 }
 
-impl<'a, A: Allocator + Copy> Stacks<'a, A> {
-    // Nothing yet.
-    fn new(alloc: A) -> Stacks<'a, A>
-        ensures firsts { result.firsts.items ≡ [] }
-        ensures lasts { result.lasts.items ≡ [] }
-    {
-        Stacks {
-            firsts: Vec::new(alloc),
-            lasts: Vec::new(alloc),
-            first: Firsts::new(alloc),
-            last: Lasts::new(alloc),
-        }
-    }
-}
-
-// Goes with the pass from place to place, up to the stop. What it goes by is lent, so that no way out drops it.
-fn walk_both<'a, A: Allocator + Copy, G: FragmentGrammar>(
-    alloc: A,
-    grammar: &G,
-    pattern: &'a MetaTemplate<A>,
-    argument: TokenTreesView<'a, A>,
-    stop: usize,
-    log: &mut BindingLog<'a, A>,
-    pass: &mut Pass<'a, A>,
-    stacks: &mut Stacks<'a, A>,
-) -> Result<(), AllocError>
-    requires checked { Checked (template_of pattern.now) }
-    requires stop { IsStop (G.grammar grammar.now) (template_of pattern.now)
-        (trees argument) stop }
-    requires fresh { IsFreshPass (dots (template_of pattern.now)) pass.old stacks.old }
-    ensures report { OnOk result (IsFullReport (G.grammar grammar.now) (template_of pattern.now)
-        (trees argument.entry) log.new stop pass.new.report) }
-    ensures kept { OnOk result (IsKept log.old log.new) }
-{
-    let mut room = Room::new(log);
-    let position = at_start(pattern, pass.first_met.dots(), log)?;
-    let (firsts, lasts) = (&mut stacks.firsts, &mut stacks.lasts);
-    let (first, last) = (&mut stacks.first, &mut stacks.last);
-    firsts.push(position.again())?;
-    lasts.push(Visit::Enter(position))?;
-    let mut source = Source::new(alloc, argument);
-    loop {
-        first_of_each(grammar, &source, log, pass, firsts, first)?;
-        last_of_each(grammar, &source, log, pass, lasts, last)?;
-        pass.after_place(&source, last.failed.take(), &first.ends);
-        if source.place == stop {
-            return Ok(());
-        }
-        source = after_step(source, &first.waiting[0])?;
-        come_first(&mut last.waiting, firsts)?;
-        come_last(&mut first.waiting, lasts)?;
-        pass.tidy(alloc, log, firsts, lasts, &mut room)?;
-    }
-}
-
 // What all positions report, up to the place where the match stops.
 pub(crate) fn report_up_to<'a, A: Allocator + Copy, G: FragmentGrammar>(
     alloc: A,
@@ -571,17 +506,26 @@ pub(crate) fn report_up_to<'a, A: Allocator + Copy, G: FragmentGrammar>(
     ensures kept { OnOk result (IsKept log.old log.new) }
 {
     let dots = dots_of(&pattern.0).ok_or(AllocError)?;
+    let mut room = Room::new(log);
     let mut pass = Pass::new(alloc, dots)?;
-    let mut stacks = Stacks::new(alloc);
-    walk_both(
-        alloc,
-        grammar,
-        pattern,
-        argument,
-        stop,
-        log,
-        &mut pass,
-        &mut stacks,
-    )?;
-    Ok(pass.report)
+    let position = at_start(pattern, dots, log)?;
+    let mut firsts = Vec::new(alloc);
+    firsts.push(position.again())?;
+    let mut lasts = Vec::new(alloc);
+    lasts.push(Visit::Enter(position))?;
+    let mut first = Firsts::new(alloc);
+    let mut last = Lasts::new(alloc);
+    let mut source = Source::new(alloc, argument);
+    loop {
+        first_of_each(grammar, &source, log, &mut pass, &mut firsts, &mut first)?;
+        last_of_each(grammar, &source, log, &mut pass, &mut lasts, &mut last)?;
+        pass.after_place(&source, last.failed.take(), &first.ends);
+        if source.place == stop {
+            return Ok(pass.report);
+        }
+        source = after_step(source, &first.waiting[0])?;
+        come_first(&mut last.waiting, &mut firsts)?;
+        come_last(&mut first.waiting, &mut lasts)?;
+        pass.tidy(alloc, log, &mut firsts, &mut lasts, &mut room)?;
+    }
 }

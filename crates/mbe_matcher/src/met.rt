@@ -33,14 +33,6 @@ impl<A: Allocator> Met<A> {
         Ok(Met { places })
     }
 
-    // For how many dots it is.
-    #[inline(always)]
-    pub(crate) fn dots(&self) -> usize
-        ensures { result ≡ length self.now.places.items }
-    {
-        self.places.len()
-    }
-
     // Whether the dot wasn't met at the place yet; it is met there, then.
     #[inline(always)]
     pub(crate) fn takes(&mut self, number: usize, place: usize) -> bool

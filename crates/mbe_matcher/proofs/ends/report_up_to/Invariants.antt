@@ -7,7 +7,7 @@ use Rattle.mbe_log.specs.Shared.{IsKept}
 use Rattle.mbe_ops.specs.Views.{template_of}
 use Rattle.mbe_matcher.specs.Met.{AreUnmetFrom}
 use Rattle.mbe_matcher.proofs.EndsPass.{PassAt}
-use Rattle.mbe_matcher.proofs.ends.walk_both.Given as goal
+use Rattle.mbe_matcher.proofs.ends.report_up_to.Given as goal
 
 abbrev pub invariant-loop-source : goal.invariant-loop-source
 invariant-loop-source g l = record {
