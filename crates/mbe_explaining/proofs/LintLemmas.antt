@@ -1,5 +1,5 @@
 -- What is said of the macro definitions of a file alone: lemmas.
-mod DefinitionLemmas
-mod LintedLemmas
-mod RefusedLemmas
-mod WrittenLemmas
+pub mod DefinitionLemmas
+pub mod LintedLemmas
+pub mod RefusedLemmas
+pub mod WrittenLemmas

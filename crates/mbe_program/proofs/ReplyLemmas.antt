@@ -1,6 +1,6 @@
 -- What the calls of other languages answer: lemmas.
 pub mod BareLemmas
-mod CallLemmas
-mod KeptLemmas
-mod ReadLemmas
+pub mod CallLemmas
+pub mod KeptLemmas
+pub mod ReadLemmas
 pub mod FlatTokens
