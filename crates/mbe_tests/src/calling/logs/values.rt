@@ -45,7 +45,7 @@ fn bindings(alloc: Global, names: Bound) -> Result<Bindings<'static>, AllocError
 
 const PRINTED: &str = "{\"x\": Nested([Fragment(Empty), Empty, ]), \"y\": Missing(Expr(Expr)), }";
 
-fn is_equal(alloc: Global, one: &Bindings<'_>, other: Bound) -> Result<bool, AllocError> {
+fn is_equal(alloc: Global, one: &Bindings<'static>, other: Bound) -> Result<bool, AllocError> {
     Ok(*one == bindings(alloc, other)?)
 }
 
