@@ -3,5 +3,3 @@ pub mod Saying
 pub mod SpanAt
 pub mod Diagnostics
 pub mod Json
-pub mod Rules
-pub mod Lints

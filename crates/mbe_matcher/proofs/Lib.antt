@@ -22,4 +22,3 @@ pub mod WantedLemmas
 pub mod Looking
 pub mod Starts
 pub mod Carrying
-pub mod Parting

@@ -10,4 +10,3 @@ pub mod Met
 pub mod EndsMatched
 pub mod Wanted
 pub mod Compacting
-pub mod Readings

@@ -4,15 +4,14 @@
 mod compacting;
 pub mod eat;
 mod ends;
-mod fronts;
+pub mod fronts;
 pub mod laws;
 pub mod matching;
 mod met;
 mod places;
-pub mod readings;
 mod report;
 mod settle;
-mod skipping;
+pub mod skipping;
 pub mod start;
 mod steps;
 pub mod wanting;

@@ -5,4 +5,3 @@ pub mod MarkLemmas
 pub mod OutcomeLemmas
 pub mod Reading
 pub mod VerdictLemmas
-pub mod ReplyLemmas

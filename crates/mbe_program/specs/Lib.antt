@@ -5,4 +5,3 @@ pub mod Options
 pub mod Outcomes
 pub mod Printed
 pub mod Unread
-pub mod Replies

@@ -1,5 +1,5 @@
 // Trees as steps, one after another: leaves with what they may be, openings and closings.
-ghost use Rattle.std.specs.Prelude.{◌≡◌, ◌<◌, IfOk, OnOk, length, map, []};
+ghost use Rattle.std.specs.Prelude.{◌≡◌, ◌<◌, IfOk, OnOk, length, map};
 ghost use Rattle.mbe_tt.specs.Views.Shown.{leaf_of};
 ghost use Rattle.mbe_tt.specs.Views.View.{trees};
 ghost use Rattle.mbe_calls.specs.Hygiene.Sites.{start};
@@ -12,7 +12,7 @@ use crate::hygiene::sites::{
     Before, Part, Region, Role, Site, after_group, after_leaf, inside_group,
 };
 use mbe_tt::span::Span;
-use mbe_tt::tt::{DelimiterKind, Leaf, LitKind, TokenTreesView, TtElement, TtIter};
+use mbe_tt::tt::{DelimiterKind, Leaf, LitKind, TokenTreesView, TtElement};
 use std::alloc::{AllocError, Allocator};
 
 /// A leaf with what it may be, an opening, or a closing.
@@ -61,19 +61,15 @@ fn leaf_role<A: Allocator>(site: Site, leaf: &Leaf<A>, rest: TokenTreesView<'_, 
     }
 }
 
-// What closes a group, and how its trees go on.
-type Around<'t, A> = (Span, Site, TtIter<'t, A>);
-
-// Pushes the steps of these trees; what it owns while it walks is lent, so that no way out drops it.
-fn walk<'t, A: Allocator>(
+/// The steps of these trees.
+pub(crate) fn steps_of<'t, A: Allocator + Copy>(
+    alloc: A,
     tokens: TokenTreesView<'t, A>,
-    found: &mut Vec<Step<'t, A>, A>,
-    around: &mut Vec<Around<'t, A>, A>,
-) -> Result<(), AllocError>
-    requires found { found.old.items ≡ [] }
-    requires around { around.old.items ≡ [] }
-    ensures { OnOk result (map step_of found.new.items ≡ spec.steps start (trees tokens.entry)) }
+) -> Result<Vec<Step<'t, A>, A>, AllocError>
+    ensures { IfOk result (λ v. map step_of v.items ≡ spec.steps start (trees tokens.entry)) }
 {
+    let mut found = Vec::new(alloc);
+    let mut around = Vec::new(alloc);
     let mut iter = tokens.iter();
     let mut site = start();
     'tokens: loop {
@@ -93,7 +89,7 @@ fn walk<'t, A: Allocator>(
                 iter = inside;
             }
             None => match around.pop() {
-                None => return Ok(()),
+                None => return Ok(found),
                 Some((close, after, rest)) => {
                     found.push(Step::Close(close))?;
                     site = after;
@@ -102,17 +98,4 @@ fn walk<'t, A: Allocator>(
             },
         }
     }
-}
-
-/// The steps of these trees.
-pub(crate) fn steps_of<'t, A: Allocator + Copy>(
-    alloc: A,
-    tokens: TokenTreesView<'t, A>,
-) -> Result<Vec<Step<'t, A>, A>, AllocError>
-    ensures { IfOk result (λ v. map step_of v.items ≡ spec.steps start (trees tokens.entry)) }
-{
-    let mut found = Vec::new(alloc);
-    let mut around = Vec::new(alloc);
-    walk(tokens, &mut found, &mut around)?;
-    Ok(found)
 }

@@ -1,0 +1,4 @@
+mod DefinitionLemmas
+mod LintedLemmas
+mod RefusedLemmas
+mod WrittenLemmas

@@ -1,0 +1,5 @@
+pub mod Parting
+pub mod Spots
+pub mod Graph
+pub mod Code
+pub mod Going

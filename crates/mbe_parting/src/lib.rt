@@ -1,0 +1,13 @@
+// Where two readings of an argument part. A layer of `mbe`: use that crate.
+#![tactic(auto)]
+
+mod edges;
+mod going;
+mod graph;
+pub mod laws;
+mod marks;
+pub mod parting;
+mod spot;
+mod spots;
+mod steps;
+mod ways;

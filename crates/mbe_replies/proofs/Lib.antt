@@ -1,0 +1,5 @@
+pub mod BareLemmas
+mod CallLemmas
+mod KeptLemmas
+mod ReadLemmas
+pub mod FlatTokens

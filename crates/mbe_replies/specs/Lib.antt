@@ -1,0 +1,6 @@
+pub mod Asked
+pub mod Answers
+pub mod Calls
+pub mod ReadOnce
+pub mod Kept
+pub mod Flat
