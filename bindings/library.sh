@@ -31,7 +31,7 @@ for it in $below; do
         exit 1
     fi
     set -- "$@" -L "dependency=$(dirname "$rlib")"
-    case " mbe_tt mbe_replies " in *" $it "*) set -- "$@" --extern "$it=$rlib" ;; esac
+    case " mbe_tt mbe_program " in *" $it "*) set -- "$@" --extern "$it=$rlib" ;; esac
 done
 cd "$root/crates/mbe_c"
 mkdir -p out/rlib

@@ -80,7 +80,7 @@ def differing_files(rustc, all_rows):
 
 def differing_names(rustc, all_rows):
     """The unknown specifiers for which rustc names another field."""
-    with open(f"{TOP}/crates/mbe_lints/src/nearest.rt", encoding="utf-8") as it:
+    with open(f"{TOP}/crates/mbe_explaining/src/lints/nearest.rt", encoding="utf-8") as it:
         fields = re.findall(r'^    "(\w+)",', it.read(), re.M)
     text = f"pub struct S {{ {', '.join(f'pub {name}: u8' for name in fields)} }}\n"
     text += "".join(f"pub fn f_{name}(s: S) {{ let _ = s.r#{name}; }}\n" for name, _ in all_rows)

@@ -1,7 +1,27 @@
-// Expands the calls of macros that Rust files define.
+// The program `expandm`, which expands the calls of macros that Rust files define: what its words ask for, a run from files to what is
+// printed, and what is said of them.
 #![tactic(auto)]
 
-use mbe_expandm::command::run_command;
+mod arguments;
+mod command;
+mod crates;
+mod expansions;
+mod files;
+mod limits;
+mod lines;
+mod linting;
+mod messages;
+mod modules;
+mod naming;
+mod places;
+mod progress;
+mod reached;
+mod reading;
+mod saying;
+mod sessions;
+mod targets;
+
+use crate::command::run_command;
 use std::io::IsTerminal;
 use std::process::ExitCode;
 

@@ -1,13 +1,13 @@
 -- Answers to many arguments, one after another.
 use Rattle.std.proofs.Common.{◌≡◌, ◌∙◌, ◌+◌, ◌<◌, inl, inr, ℕ, zero, suc, List, [], ◌∷◌, ◌++◌, take, length, slice_index_or, Option, Some, None, add-one, arith, refl, subst, sym}
 use Rattle.std.proofs.lemmas.List.{flat_map_more, map-append}
-use Rattle.mbe_replies.specs.declared.flat.token.FlatSpan.{FlatSpan}
-use Rattle.mbe_replies.specs.declared.calls.Request.{Request}
-use Rattle.mbe_replies.specs.declared.read_macro.ReadMacro.{ReadMacro}
-use Rattle.mbe_replies.specs.Answers.{Answer}
-use Rattle.mbe_replies.specs.Calls.{Source, Expands}
-use Rattle.mbe_replies.specs.ReadOnce.{AnswersBy, IsMacro, asked_at}
-use Rattle.mbe_replies.proofs.BareLemmas.{IsBare, out_of_memory-bare, unread-bare}
+use Rattle.mbe_program.specs.declared.replies.flat.token.FlatSpan.{FlatSpan}
+use Rattle.mbe_program.specs.declared.replies.calls.Request.{Request}
+use Rattle.mbe_program.specs.declared.replies.read_macro.ReadMacro.{ReadMacro}
+use Rattle.mbe_program.specs.Replies.Answers.{Answer}
+use Rattle.mbe_program.specs.Replies.Calls.{Source, Expands}
+use Rattle.mbe_program.specs.Replies.ReadOnce.{AnswersBy, IsMacro, asked_at}
+use Rattle.mbe_program.proofs.ReplyLemmas.BareLemmas.{IsBare, out_of_memory-bare, unread-bare}
 use Rattle.mbe_c.specs.declared.each.Piece.{Piece}
 use Rattle.mbe_c.specs.Copies.{reply_to}
 use Rattle.mbe_c.specs.Each.{AreAnswersAt, AreJoined, IsAnswerAt, IsAnswerTo, IsNoExpansion, Joined, argument_at, joined, with_answer}

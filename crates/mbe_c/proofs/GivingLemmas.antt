@@ -1,8 +1,8 @@
 -- What is given of an answer that shows no tokens and no text: its message.
 use Rattle.std.proofs.Common.{◌≡◌, ◌∙◌, ℕ, Bool, true, List, [], ap, refl}
-use Rattle.mbe_replies.specs.declared.flat.token.FlatToken.{FlatToken}
-use Rattle.mbe_replies.specs.Answers.{Answer}
-use Rattle.mbe_replies.proofs.BareLemmas.{IsBare}
+use Rattle.mbe_program.specs.declared.replies.flat.token.FlatToken.{FlatToken}
+use Rattle.mbe_program.specs.Replies.Answers.{Answer}
+use Rattle.mbe_program.proofs.ReplyLemmas.BareLemmas.{IsBare}
 use Rattle.mbe_c.specs.declared.Reply.{Reply}
 use Rattle.mbe_c.specs.Copies.{Gives, GivesMessage, has_room, reply_to, status_given}
 

@@ -28,7 +28,7 @@ use Rattle.std.specs.contracts.impls.GlobalAllocator.TheImpl.{ghosts, dict}
 use Rattle.std.proofs.alloc.Global.TheLaws as heap_laws
 use Rattle.std.proofs.alloc.Calls.{handle_tells}
 use Rattle.std.proofs.BoxSteps.Form.{Bx}
-use Rattle.mbe_replies.proofs.kept.KeptMacro.TheLaws as macro_laws
+use Rattle.mbe_program.proofs.replies.kept.KeptMacro.TheLaws as macro_laws
 use Rattle.mbe_c.specs.Held.{macro_row, HeldMacro, handle_owns, has_one}
 use Rattle.mbe_c.specs.contracts.block.Block as block
 use Rattle.mbe_c.specs.contracts.handle.Macro as handle

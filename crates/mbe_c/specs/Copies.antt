@@ -1,14 +1,14 @@
 -- What a call leaves in memory of its caller: an answer in numbers, and what there is room for.
 use Rattle.std.specs.Prelude.{◌≡◌, ◌⊎◌, ◌-◌, ◌^◌, ℕ, Bool, ◌&&◌, if◌then◌else◌, min, nat_le, List, [], ◌++◌, length, drop, Option, Some, None, unwrap_or}
-use Rattle.mbe_replies.specs.declared.flat.token.FlatToken.{FlatToken}
-use Rattle.mbe_replies.specs.Flat.Numbers.{flat_span}
-use Rattle.mbe_replies.specs.declared.answer.Part.TheVariants as parts
-use Rattle.mbe_replies.specs.declared.answer.Status.{Status}
-use Rattle.mbe_replies.specs.declared.answer.Status.TheVariants.{Done}
-use Rattle.mbe_replies.specs.declared.calls.FlatVerdict.{FlatVerdict}
-use Rattle.mbe_replies.specs.declared.calls.Request.{Request}
-use Rattle.mbe_replies.specs.Answers.{Answer, empty, part_number, status_number, IsNoGrammar}
-use Rattle.mbe_replies.specs.Calls.{Source, Converts, Defines, Expands, IsGrammarText, IsNoAnswer, IsUndefined, ShowsVerdicts}
+use Rattle.mbe_program.specs.declared.replies.flat.token.FlatToken.{FlatToken}
+use Rattle.mbe_program.specs.Replies.Flat.Numbers.{flat_span}
+use Rattle.mbe_program.specs.declared.replies.answer.Part.TheVariants as parts
+use Rattle.mbe_program.specs.declared.replies.answer.Status.{Status}
+use Rattle.mbe_program.specs.declared.replies.answer.Status.TheVariants.{Done}
+use Rattle.mbe_program.specs.declared.replies.calls.FlatVerdict.{FlatVerdict}
+use Rattle.mbe_program.specs.declared.replies.calls.Request.{Request}
+use Rattle.mbe_program.specs.Replies.Answers.{Answer, empty, part_number, status_number, IsNoGrammar}
+use Rattle.mbe_program.specs.Replies.Calls.{Source, Converts, Defines, Expands, IsGrammarText, IsNoAnswer, IsUndefined, ShowsVerdicts}
 use Rattle.mbe_c.specs.declared.Reply.{Reply}
 
 -- ---- copies

@@ -2,14 +2,14 @@
 -- its caller.
 use Rattle.std.specs.Prelude.{◌≡◌, ◌⊎◌, ◌+◌, ⊤, ℕ, Bool, ◌&&◌, if◌then◌else◌, nat_le, List, [], ◌∷◌, ◌++◌, map, length, take, drop, Option, Some, None}
 use Rattle.std.specs.List.{flat_map}
-use Rattle.mbe_replies.specs.declared.flat.token.FlatSpan.{FlatSpan}
-use Rattle.mbe_replies.specs.declared.flat.token.FlatToken.{FlatToken}
-use Rattle.mbe_replies.specs.declared.answer.Part.TheVariants as parts
-use Rattle.mbe_replies.specs.declared.answer.Status.TheVariants.{Done, Number}
-use Rattle.mbe_replies.specs.declared.calls.Request.{Request}
-use Rattle.mbe_replies.specs.Answers.{Answer, empty, IsOutOfMemory}
-use Rattle.mbe_replies.specs.Calls.{Source, Expands}
-use Rattle.mbe_replies.specs.ReadOnce.{IsUnread, asked_at}
+use Rattle.mbe_program.specs.declared.replies.flat.token.FlatSpan.{FlatSpan}
+use Rattle.mbe_program.specs.declared.replies.flat.token.FlatToken.{FlatToken}
+use Rattle.mbe_program.specs.declared.replies.answer.Part.TheVariants as parts
+use Rattle.mbe_program.specs.declared.replies.answer.Status.TheVariants.{Done, Number}
+use Rattle.mbe_program.specs.declared.replies.calls.Request.{Request}
+use Rattle.mbe_program.specs.Replies.Answers.{Answer, empty, IsOutOfMemory}
+use Rattle.mbe_program.specs.Replies.Calls.{Source, Expands}
+use Rattle.mbe_program.specs.Replies.ReadOnce.{IsUnread, asked_at}
 use Rattle.mbe_c.specs.declared.Reply.{Reply}
 use Rattle.mbe_c.specs.declared.each.Answers.{Answers as AnswersOfCode}
 use Rattle.mbe_c.specs.declared.each.Piece.{Piece}

@@ -1,13 +1,13 @@
 -- What calls with a handle answer, and leave in it.
 use Rattle.std.specs.Prelude.{◌≡◌, ℕ, List, Option, Some, None}
-use Rattle.mbe_replies.specs.declared.flat.token.FlatToken.{FlatToken}
-use Rattle.mbe_replies.specs.declared.answer.Part.TheVariants as parts
-use Rattle.mbe_replies.specs.declared.answer.Status.TheVariants.{Done, HasMacro, NoMacro}
-use Rattle.mbe_replies.specs.declared.calls.Request.{Request}
-use Rattle.mbe_replies.specs.declared.kept.Call.{Call}
-use Rattle.mbe_replies.specs.Answers.{Answer, empty, status_number}
-use Rattle.mbe_replies.specs.Calls.{Source}
-use Rattle.mbe_replies.specs.Kept.{AnswersCall, IsKept, rule_count}
+use Rattle.mbe_program.specs.declared.replies.flat.token.FlatToken.{FlatToken}
+use Rattle.mbe_program.specs.declared.replies.answer.Part.TheVariants as parts
+use Rattle.mbe_program.specs.declared.replies.answer.Status.TheVariants.{Done, HasMacro, NoMacro}
+use Rattle.mbe_program.specs.declared.replies.calls.Request.{Request}
+use Rattle.mbe_program.specs.declared.replies.kept.Call.{Call}
+use Rattle.mbe_program.specs.Replies.Answers.{Answer, empty, status_number}
+use Rattle.mbe_program.specs.Replies.Calls.{Source}
+use Rattle.mbe_program.specs.Replies.Kept.{AnswersCall, IsKept, rule_count}
 use Rattle.mbe_c.specs.declared.Reply.{Reply}
 use Rattle.mbe_c.specs.Copies.{Buffers, done, Gives, GivesFailure}
 use Rattle.mbe_c.specs.Each.{IsNoExpansion}

@@ -5,7 +5,7 @@ use Rattle.std.specs.Box.Ownership.{box_owns}
 use Rattle.std.specs.Global.{Global}
 use Rattle.std.specs.contracts.alloc.Global as heap
 use Rattle.std.specs.contracts.impls.GlobalAllocator.TheImpl.{ghosts}
-use Rattle.mbe_replies.specs.contracts.kept.KeptMacro as kept
+use Rattle.mbe_program.specs.contracts.replies.kept.KeptMacro as kept
 use base.Fml.{Fml, ftrue, fsep, fex}
 use denote.RattleType.{RattleType}
 use denote.RawPtr.{Ptr}

@@ -1,16 +1,16 @@
 // Many arguments of one definition, and the answers to them, one after another.
 ghost use Rattle.std.specs.Prelude.{◌≡◌, [], option_map, IfErr, IfOk};
-ghost use Rattle.mbe_replies.specs.Answers.{answer_of};
-ghost use Rattle.mbe_replies.specs.Calls.{source_of};
-ghost use Rattle.mbe_replies.specs.ReadOnce.{AnswersBy};
+ghost use Rattle.mbe_program.specs.Replies.Answers.{answer_of};
+ghost use Rattle.mbe_program.specs.Replies.Calls.{source_of};
+ghost use Rattle.mbe_program.specs.Replies.ReadOnce.{AnswersBy};
 ghost use Rattle.mbe_c.specs.Each.{answers_seen};
 ghost use Rattle.mbe_c.specs.Each as spec;
 
 use crate::{Reply, reply_of};
-use mbe_replies::answer::{Answer, Part, Status};
-use mbe_replies::calls::{Input, Request};
-use mbe_replies::flat::token::{FlatSpan, FlatToken};
-use mbe_replies::read_macro::ReadMacro;
+use mbe_program::replies::answer::{Answer, Part, Status};
+use mbe_program::replies::calls::{Input, Request};
+use mbe_program::replies::flat::token::{FlatSpan, FlatToken};
+use mbe_program::replies::read_macro::ReadMacro;
 use std::alloc::{AllocError, Allocator};
 
 /// An argument: which part of a text and of the tokens beside it, and the span of its call.

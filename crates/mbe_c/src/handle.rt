@@ -4,7 +4,7 @@ ghost use Rattle.std.specs.Box.{box_value};
 ghost use Rattle.mbe_c.specs.Held as spec;
 
 use crate::block::Block;
-use mbe_replies::kept::KeptMacro;
+use mbe_program::replies::kept::KeptMacro;
 use std::alloc::Global;
 use std::marker::Model;
 

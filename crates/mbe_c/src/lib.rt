@@ -1,11 +1,11 @@
-// The expander for C, and for all that calls C: each export calls a function of `mbe_replies`, and copies its answer into memory of
+// The expander for C, and for all that calls C: each export calls a function of `mbe_program::replies`, and copies its answer into memory of
 // the caller. What a call allocates is freed when it returns, but for the macro that `mbe_c_macro_read` leaves in a handle.
 // `bindings/c/mbe.h` declares them.
 #![tactic(auto)]
 
 ghost use Rattle.std.specs.Prelude.{◌≡◌, ◌-◌, ◌^◌, length, min, nat_le, None};
-ghost use Rattle.mbe_replies.specs.Answers.{answer_of};
-ghost use Rattle.mbe_replies.specs.Calls.{argument_of, definition_of};
+ghost use Rattle.mbe_program.specs.Replies.Answers.{answer_of};
+ghost use Rattle.mbe_program.specs.Replies.Calls.{argument_of, definition_of};
 ghost use Rattle.mbe_c.specs.Copies as spec;
 ghost use Rattle.mbe_c.specs.Each.{answers_seen, GivesAll, GivesExpansions};
 ghost use Rattle.mbe_c.specs.Handles.{argument_of_call, freed, GivesAnswer, GivesMacro};
@@ -18,12 +18,12 @@ mod macros;
 use crate::each::{Answers, Piece, expand_each};
 use crate::handle::Macro;
 use crate::macros::read_macro;
-use mbe_replies::answer::{Answer, Part, Status};
-use mbe_replies::calls::{
+use mbe_program::replies::answer::{Answer, Part, Status};
+use mbe_program::replies::calls::{
     FlatVerdict, Input, Request, check_grammar, convert, define, expand, explain,
 };
-use mbe_replies::flat::token::{FlatSpan, FlatToken, flat_span};
-use mbe_replies::kept::Call;
+use mbe_program::replies::flat::token::{FlatSpan, FlatToken, flat_span};
+use mbe_program::replies::kept::Call;
 use std::alloc::{Allocator, Global};
 
 /// What is said of an answer, in numbers.
@@ -128,7 +128,7 @@ fn give<A: Allocator>(
     reply.status
 }
 
-/// Expands an argument by a definition (`mbe_replies::calls::expand`). The status comes back, and is in the reply too.
+/// Expands an argument by a definition (`mbe_program::replies::calls::expand`). The status comes back, and is in the reply too.
 #[unsafe(no_mangle)]
 pub extern "C" fn mbe_c_expand(
     alloc: Global,
@@ -168,7 +168,7 @@ pub extern "C" fn mbe_c_expand(
     give(&answer, tokens, text, message, reply)
 }
 
-/// Expands each argument, in its piece of `arguments`, by a definition that is read once (`mbe_replies::read_macro`). The answers come
+/// Expands each argument, in its piece of `arguments`, by a definition that is read once (`mbe_program::replies::read_macro`). The answers come
 /// one after another, and the reply of each says how much of the buffers is its own; `reply` is of them all, and `reply.place` is how many
 /// there are. Where no macro is read `reply` says why, and nothing is written of the arguments.
 #[unsafe(no_mangle)]
@@ -215,7 +215,7 @@ pub extern "C" fn mbe_c_expand_each(
     }
 }
 
-/// The verdict on an argument of each rule of a definition (`mbe_replies::calls::explain`). `reply.tokens` is how many there are.
+/// The verdict on an argument of each rule of a definition (`mbe_program::replies::calls::explain`). `reply.tokens` is how many there are.
 #[unsafe(no_mangle)]
 pub extern "C" fn mbe_c_explain(
     alloc: Global,
@@ -303,7 +303,7 @@ fn give_answers<A: Allocator + Copy>(
     reply.status
 }
 
-/// The trees of an input in another form (`mbe_replies::calls::convert`): a text to flat tokens, flat tokens to a text.
+/// The trees of an input in another form (`mbe_program::replies::calls::convert`): a text to flat tokens, flat tokens to a text.
 #[unsafe(no_mangle)]
 pub extern "C" fn mbe_c_convert(
     alloc: Global,
@@ -332,7 +332,7 @@ pub extern "C" fn mbe_c_convert(
     give(&answer, tokens, text, message, reply)
 }
 
-/// Whether a definition is one (`mbe_replies::calls::define`); `reply.place` is the number of its rules.
+/// Whether a definition is one (`mbe_program::replies::calls::define`); `reply.place` is the number of its rules.
 #[unsafe(no_mangle)]
 pub extern "C" fn mbe_c_define(
     alloc: Global,
@@ -364,7 +364,7 @@ pub extern "C" fn mbe_c_define(
     }
 }
 
-/// Whether a text is a grammar of fragments (`mbe_replies::calls::check_grammar`).
+/// Whether a text is a grammar of fragments (`mbe_program::replies::calls::check_grammar`).
 #[unsafe(no_mangle)]
 pub extern "C" fn mbe_c_grammar(
     alloc: Global,
@@ -384,7 +384,7 @@ pub extern "C" fn mbe_c_grammar(
     }
 }
 
-/// Reads a definition into a handle that has no macro (`mbe_replies::kept`). `reply.place` is the number of its rules. Where none is read,
+/// Reads a definition into a handle that has no macro (`mbe_program::replies::kept`). `reply.place` is the number of its rules. Where none is read,
 /// or the handle has one, `reply` says why, and the handle stays as it is.
 #[unsafe(no_mangle)]
 pub extern "C" fn mbe_c_macro_read(
@@ -425,7 +425,7 @@ pub extern "C" fn mbe_c_macro_read(
     }
 }
 
-/// Expands an argument by the macro that a handle has (`mbe_replies::kept`), which it keeps.
+/// Expands an argument by the macro that a handle has (`mbe_program::replies::kept`), which it keeps.
 #[unsafe(no_mangle)]
 pub extern "C" fn mbe_c_macro_expand(
     alloc: Global,

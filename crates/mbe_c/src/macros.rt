@@ -1,13 +1,13 @@
 // A macro in a block of its own.
 ghost use Rattle.std.specs.Prelude.{◌≡◌, IfErr, IfOk};
-ghost use Rattle.mbe_replies.specs.Answers.{answer_of};
-ghost use Rattle.mbe_replies.specs.Calls.{source_of};
-ghost use Rattle.mbe_replies.specs.Kept.{IsKept};
+ghost use Rattle.mbe_program.specs.Replies.Answers.{answer_of};
+ghost use Rattle.mbe_program.specs.Replies.Calls.{source_of};
+ghost use Rattle.mbe_program.specs.Replies.Kept.{IsKept};
 ghost use Rattle.mbe_c.specs.Each.{IsNoExpansion};
 
-use mbe_replies::answer::{Answer, Part, Status};
-use mbe_replies::calls::{Input, Request};
-use mbe_replies::kept::KeptMacro;
+use mbe_program::replies::answer::{Answer, Part, Status};
+use mbe_program::replies::calls::{Input, Request};
+use mbe_program::replies::kept::KeptMacro;
 use std::alloc::Global;
 
 // A macro that is read, or why there is none.

@@ -15,8 +15,8 @@ use Rattle.mbe_matcher.specs.declared.matching.Verdict as code
 use Rattle.mbe_matcher.specs.declared.matching.Verdict.TheVariants.{OneReading, Ambiguous, Stuck}
 use Rattle.mbe_matcher.specs.Matched.{verdict_seen}
 use Rattle.mbe_matcher.specs.Wanted.{Wanted}
-use Rattle.mbe_parting.specs.Parting.{IsParting, Parting}
-use Rattle.mbe_parting.proofs.Beginnings.{readings-part}
+use Rattle.mbe_matcher.specs.Readings.Parting.{IsParting, Parting}
+use Rattle.mbe_matcher.proofs.Parting.Beginnings.{readings-part}
 use Rattle.mbe.specs.Explaining.{Explains, HasPattern, WantsThere}
 use Rattle.mbe_explaining.specs.declared.saying.Said.{Said}
 use Rattle.mbe_explaining.specs.Saying.{part_of, part_seen, pair_of, parts_seen, said_seen}

@@ -10,7 +10,7 @@ use Rattle.mbe_bindings.specs.declared.bindings.Binding.{Binding, Nested}
 use Rattle.mbe_bindings.specs.BindingViews.{value_seen, values_seen}
 use Rattle.mbe_bindings.proofs.BindingLemmas.{seen-nested}
 use Rattle.mbe.specs.Explaining.{BindsThere, HasPattern}
-use Rattle.mbe_linting.specs.Variables.{bound_in}
+use Rattle.mbe_explaining.specs.Rules.Variables.{bound_in}
 use Rattle.mbe_text.specs.RustText.Writing.{text_of, written_after}
 use Rattle.mbe_expanding.specs.Taking.{Taken, Takes, taken_of}
 

@@ -11,7 +11,7 @@ use Rattle.mbe_semantics.specs.Readings.Input.{input_of}
 use Rattle.mbe_semantics.specs.Readings.Verdict.{Verdict, many_readings, stop_of}
 use Rattle.mbe_calls.specs.Fronts.{Call}
 use Rattle.mbe_matcher.specs.Wanted.{Wanted}
-use Rattle.mbe_parting.specs.Parting.{Parting, PartFirst}
+use Rattle.mbe_matcher.specs.Readings.Parting.{Parting, PartFirst}
 use Rattle.mbe.specs.Explaining.{Explains, WantsThere, ClashesThere}
 use Rattle.mbe_explaining.specs.Saying.{Part, Said, part_of, pair_of, said_seen, named_parts, message_text}
 use Rattle.mbe_explaining.specs.SpanAt.{span_at}

@@ -11,7 +11,7 @@ use Rattle.mbe_semantics.specs.Readings.Item.{Fragment}
 use Rattle.mbe_semantics.specs.Bindings.Environment.{Environment, Value, fragment, list, empty, missing, Values, no_values, value, value_of}
 use Rattle.mbe_semantics.specs.Writing.Rounds.{value_count}
 use Rattle.mbe.specs.Explaining.{BindsThere, HasPattern}
-use Rattle.mbe_linting.specs.Variables.{Bound, bound_in}
+use Rattle.mbe_explaining.specs.Rules.Variables.{Bound, bound_in}
 use Rattle.mbe_explaining.specs.Excerpt.{excerpt}
 use Rattle.mbe_explaining.specs.Saying.{Part, part_seen, quoted, variable_text}
 use Rattle.mbe_text.specs.RustText.Writing.{text_of}

@@ -1,2 +1,4 @@
 pub mod SpanLemmas
 pub mod ExcerptLemmas
+pub mod RuleLemmas
+pub mod LintLemmas

@@ -3,3 +3,5 @@ pub mod Saying
 pub mod SpanAt
 pub mod Diagnostics
 pub mod Json
+pub mod Rules
+pub mod Lints

@@ -22,3 +22,4 @@ pub mod WantedLemmas
 pub mod Looking
 pub mod Starts
 pub mod Carrying
+pub mod Parting

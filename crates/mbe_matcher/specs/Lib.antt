@@ -10,3 +10,4 @@ pub mod Met
 pub mod EndsMatched
 pub mod Wanted
 pub mod Compacting
+pub mod Readings

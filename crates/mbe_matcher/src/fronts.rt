@@ -35,7 +35,7 @@ fn width_to<A: Allocator>(
 /// The width of an op that is a token.
 #[tactic(auto, using(mbe_ops::proofs::OpViews::views))]
 #[inline(always)]
-pub fn token_width<A: Allocator>(op: &Op<A>, src: &TtIter<'_, A>) -> Option<usize>
+pub(crate) fn token_width<A: Allocator>(op: &Op<A>, src: &TtIter<'_, A>) -> Option<usize>
     ensures { result ≡ op_width (op_of op.now) src.now }
 {
     match op {
@@ -134,7 +134,7 @@ fn eat_lifetime_of<A: Allocator>(ident: &Ident<A>, src: &mut TtIter<'_, A>) -> b
 
 /// Whether a group of the kind comes first.
 #[inline(always)]
-pub fn opens<A: Allocator>(kind: DelimiterKind, src: &TtIter<'_, A>) -> bool
+pub(crate) fn opens<A: Allocator>(kind: DelimiterKind, src: &TtIter<'_, A>) -> bool
     ensures { result ≡ is_opening kind src.now }
 {
     let mut ahead = src.fork();
@@ -147,7 +147,7 @@ pub fn opens<A: Allocator>(kind: DelimiterKind, src: &TtIter<'_, A>) -> bool
 /// The width of what is between a round and the next one of a repetition, if a next one may
 /// begin here.
 #[inline(always)]
-pub fn between_width<A: Allocator>(
+pub(crate) fn between_width<A: Allocator>(
     kind: RepeatKind,
     separator: Option<&Separator<A>>,
     src: &TtIter<'_, A>,

@@ -4,14 +4,15 @@
 mod compacting;
 pub mod eat;
 mod ends;
-pub mod fronts;
+mod fronts;
 pub mod laws;
 pub mod matching;
 mod met;
 mod places;
+pub mod readings;
 mod report;
 mod settle;
-pub mod skipping;
+mod skipping;
 pub mod start;
 mod steps;
 pub mod wanting;

@@ -89,7 +89,7 @@ pub(crate) fn dots_of<A: Allocator>(ops: &[Op<A>]) -> Option<usize>
 /// How many dots there are in the op. `None` if no `usize` holds the number.
 #[cycle(counting)]
 #[tactic(auto, using(mbe_ops::proofs::OpViews::views))]
-pub fn op_dots_of<A: Allocator>(op: &Op<A>) -> Option<usize>
+pub(crate) fn op_dots_of<A: Allocator>(op: &Op<A>) -> Option<usize>
     ensures { IfSome result (λ n. n ≡ op_dots (op_of op.now)) }
 {
     match op {

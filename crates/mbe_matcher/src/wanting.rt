@@ -83,7 +83,7 @@ struct Looked<'a, A: Allocator = Global> {
 
 /// An op that reads something by itself.
 #[tactic(auto, using(mbe_ops::proofs::OpViews::views))]
-pub fn op_next<A: Allocator>(op: &Op<A>) -> Option<Wanted<'_, A>>
+pub(crate) fn op_next<A: Allocator>(op: &Op<A>) -> Option<Wanted<'_, A>>
     ensures { option_map wanted_seen result ≡ read_next (op_of op.now) }
 {
     match op {
@@ -95,7 +95,7 @@ pub fn op_next<A: Allocator>(op: &Op<A>) -> Option<Wanted<'_, A>>
 }
 
 /// The separator after a round that another may follow.
-pub fn round_next<A: Allocator>(
+pub(crate) fn round_next<A: Allocator>(
     kind: RepeatKind,
     separator: Option<&Separator<A>>,
 ) -> Option<Wanted<'_, A>>

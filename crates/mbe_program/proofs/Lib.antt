@@ -5,3 +5,4 @@ pub mod MarkLemmas
 pub mod OutcomeLemmas
 pub mod Reading
 pub mod VerdictLemmas
+pub mod ReplyLemmas

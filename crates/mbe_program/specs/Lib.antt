@@ -5,3 +5,4 @@ pub mod Options
 pub mod Outcomes
 pub mod Printed
 pub mod Unread
+pub mod Replies

@@ -1,10 +1,13 @@
 // Where errors are, and what is written beside them: the argument's opening, its closing and the call site are apart, and a
 // marker sets the context of what the template writes itself.
+ghost use Rattle.mbe.specs.Macro.{IsChecked};
+ghost use Rattle.mbe.specs.MacroViews.{macro_of};
+
 use crate::grammar::grammar_of;
 use crate::runs::{Expansion, defined, is_made};
 use crate::tokens::at;
 use crate::trees::lexed;
-use mbe::{MacroCallStyle, ParseError};
+use mbe::{DeclarativeMacro, MacroCallStyle, ParseError};
 use mbe_tt::span::{Span, SyntaxContext};
 use mbe_tt::tt::{Delimiter, DelimiterKind, TopSubtree, TopSubtreeBuilder};
 use std::alloc::{AllocError, Global};
@@ -121,13 +124,25 @@ fn expansion_of(
         return Err(AllocError);
     }
     let argument = argument_of(alloc, argument)?;
+    expanded_at_call(alloc, grammar, &rules, &argument)
+}
+
+// The expansion of a call there, in which the marker sets the context.
+fn expanded_at_call(
+    alloc: Global,
+    grammar: &str,
+    rules: &DeclarativeMacro,
+    argument: &TopSubtree,
+) -> Result<Expansion<Global>, AllocError>
+    requires { IsChecked (macro_of rules.now) }
+{
     let grammar = grammar_of(grammar);
     let marker = |span: Span| Span {
         ctx: SyntaxContext(MARKED),
         ..span
     };
     let style = MacroCallStyle::FnLike;
-    rules.expand(alloc, &grammar, &argument, marker, style, span_of(CALL))
+    rules.expand(alloc, &grammar, argument, marker, style, span_of(CALL))
 }
 
 /// Whether a row is so.

@@ -117,40 +117,41 @@ fn are_groups_shown(alloc: Global) -> Result<bool, AllocError> {
     Ok(shows(alloc, &(subtree, builder, rules), &parts))
 }
 
-// Whether errors and results are shown, and copies of them.
-fn are_errors_shown(alloc: Global) -> Result<bool, AllocError> {
+// Whether the copy of a result is shown, and that of an error of a definition.
+fn are_results_shown(alloc: Global) -> Result<bool, AllocError> {
     let result: ValueResult<u32, CountError> = ValueResult::new(6, CountError::Misplaced);
     let parse: ParseError = ParseError::Expected(String::from_str(alloc, "b")?);
-    let kind: ExpandErrorKind = ExpandErrorKind::BindingError(String::from_str(alloc, "c")?);
     let parts = [
         "ValueResult { value: 6, err: Some(Misplaced) }",
         "Expected(\"b\")",
-        "BindingError(\"c\")",
-        "ExpandError { inner: (Span {",
     ];
-    let copies = (
-        result.try_clone()?,
-        parse.try_clone(alloc)?,
-        kind.try_clone(alloc)?,
-    );
+    let copies = (result.try_clone()?, parse.try_clone(alloc)?);
+    Ok(shows(alloc, &copies, &parts))
+}
+
+// Whether an error of a call is shown, and a copy of its kind.
+fn are_errors_shown(alloc: Global) -> Result<bool, AllocError> {
+    let kind: ExpandErrorKind = ExpandErrorKind::BindingError(String::from_str(alloc, "c")?);
+    let parts = ["BindingError(\"c\")", "ExpandError { inner: (Span {"];
+    let copy = kind.try_clone(alloc)?;
     let error: ExpandError = ExpandError::new(alloc, SPAN, kind)?;
-    Ok(shows(alloc, &(copies, error), &parts))
+    Ok(shows(alloc, &(copy, error), &parts))
 }
 
 // Whether a handle that has bound the name to the tree is shown, and what is built of it.
-fn is_bound_shown(
+fn is_bound_shown<'a>(
     alloc: Global,
+    log: &mut BindingLog<'a>,
     name: &Symbol,
-    tree: TokenTreesView<'_>,
+    tree: TokenTreesView<'a>,
 ) -> Result<bool, AllocError> {
     let fragment = Fragment::Tokens {
         tree,
         origin: TokensOrigin::Raw,
     };
-    let mut log = BindingLog::new(alloc);
     let mut handle = log.alloc()?;
     log.push_fragment(&mut handle, name, fragment)?;
-    let bindings = Bindings::build(&log, &handle)?;
+    let bindings = Bindings::build(log, &handle)?;
     let missing: Binding = Binding::Missing(MetaVarKind::Expr(ExprKind::Expr2021));
     let parts = [
         "Handle {",
@@ -166,7 +167,8 @@ fn is_bound_shown(
 fn are_bindings_shown(alloc: Global) -> Result<bool, AllocError> {
     let name = Symbol::intern(alloc, "x")?;
     let tree = lexed(alloc, 0, "d")?;
-    is_bound_shown(alloc, &name, tree.view())
+    let mut log = BindingLog::new(alloc);
+    is_bound_shown(alloc, &mut log, &name, tree.view())
 }
 
 /// Whether all of that is shown.
@@ -175,6 +177,7 @@ pub fn are_shown(alloc: Global) -> Result<bool, AllocError> {
         are_spans_shown(alloc)
             && are_trees_shown(alloc)?
             && are_groups_shown(alloc)?
+            && are_results_shown(alloc)?
             && are_errors_shown(alloc)?
             && are_bindings_shown(alloc)?,
     )

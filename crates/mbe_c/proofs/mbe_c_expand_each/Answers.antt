@@ -1,6 +1,6 @@
 use Rattle.std.proofs.Common.{refl}
-use Rattle.mbe_replies.specs.Answers.{answer_of}
-use Rattle.mbe_replies.specs.Calls.{definition_of}
+use Rattle.mbe_program.specs.Replies.Answers.{answer_of}
+use Rattle.mbe_program.specs.Replies.Calls.{definition_of}
 use Rattle.mbe_c.specs.Each.{answers_seen, with_expansions, without_expansions}
 use Rattle.mbe_c.proofs.EachLemmas.{no_expansion-bare}
 use Rattle.mbe_c.proofs.GivingLemmas.{gives_message}

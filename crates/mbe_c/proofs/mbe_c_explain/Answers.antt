@@ -1,8 +1,8 @@
 use Rattle.std.proofs.Common.{◌≡◌, List, refl, subst}
-use Rattle.mbe_replies.specs.declared.calls.FlatVerdict.{FlatVerdict}
-use Rattle.mbe_replies.specs.Answers.{answer_of}
-use Rattle.mbe_replies.specs.Calls.{argument_of, definition_of}
-use Rattle.mbe_replies.proofs.BareLemmas.{no_answer-bare}
+use Rattle.mbe_program.specs.declared.replies.calls.FlatVerdict.{FlatVerdict}
+use Rattle.mbe_program.specs.Replies.Answers.{answer_of}
+use Rattle.mbe_program.specs.Replies.Calls.{argument_of, definition_of}
+use Rattle.mbe_program.proofs.ReplyLemmas.BareLemmas.{no_answer-bare}
 use Rattle.mbe_c.specs.Copies.{GivesVerdicts, with_verdicts, without_verdicts}
 use Rattle.mbe_c.proofs.GivingLemmas.{gives_message}
 use Rattle.mbe_c.proofs.mbe_c_explain.Goals as goal

@@ -1,6 +1,6 @@
 use Rattle.std.proofs.Common.{Option, subst}
-use Rattle.mbe_replies.specs.Answers.{answer_of}
-use Rattle.mbe_replies.specs.Kept.{AnswersCall}
+use Rattle.mbe_program.specs.Replies.Answers.{answer_of}
+use Rattle.mbe_program.specs.Replies.Kept.{AnswersCall}
 use Rattle.mbe_c.specs.Handles.{argument_of_call, GivesAnswer}
 use Rattle.mbe_c.specs.Held.{HeldMacro}
 use Rattle.mbe_c.proofs.mbe_c_macro_expand.Goals as goal

@@ -1,8 +1,8 @@
 use Rattle.std.proofs.Common.{◌∙◌, ℕ, ap, ap₂, refl, sym}
-use Rattle.mbe_replies.specs.Answers.{Answer, answer_of}
-use Rattle.mbe_replies.specs.Calls.{definition_of}
-use Rattle.mbe_replies.specs.Kept.{rule_count}
-use Rattle.mbe_replies.proofs.BareLemmas.{IsBare}
+use Rattle.mbe_program.specs.Replies.Answers.{Answer, answer_of}
+use Rattle.mbe_program.specs.Replies.Calls.{definition_of}
+use Rattle.mbe_program.specs.Replies.Kept.{rule_count}
+use Rattle.mbe_program.proofs.ReplyLemmas.BareLemmas.{IsBare}
 use Rattle.mbe_c.specs.declared.Reply.{Reply}
 use Rattle.mbe_c.specs.Copies.{reply_to}
 use Rattle.mbe_c.specs.Handles.{with_another, with_macro, without_macro}

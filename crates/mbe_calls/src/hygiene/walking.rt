@@ -1,5 +1,5 @@
 // Trees as steps, one after another: leaves with what they may be, openings and closings.
-ghost use Rattle.std.specs.Prelude.{◌≡◌, ◌<◌, IfOk, OnOk, length, map};
+ghost use Rattle.std.specs.Prelude.{◌≡◌, ◌<◌, IfOk, OnOk, length, map, []};
 ghost use Rattle.mbe_tt.specs.Views.Shown.{leaf_of};
 ghost use Rattle.mbe_tt.specs.Views.View.{trees};
 ghost use Rattle.mbe_calls.specs.Hygiene.Sites.{start};
@@ -12,7 +12,7 @@ use crate::hygiene::sites::{
     Before, Part, Region, Role, Site, after_group, after_leaf, inside_group,
 };
 use mbe_tt::span::Span;
-use mbe_tt::tt::{DelimiterKind, Leaf, LitKind, TokenTreesView, TtElement};
+use mbe_tt::tt::{DelimiterKind, Leaf, LitKind, TokenTreesView, TtElement, TtIter};
 use std::alloc::{AllocError, Allocator};
 
 /// A leaf with what it may be, an opening, or a closing.
@@ -61,15 +61,19 @@ fn leaf_role<A: Allocator>(site: Site, leaf: &Leaf<A>, rest: TokenTreesView<'_, 
     }
 }
 
-/// The steps of these trees.
-pub(crate) fn steps_of<'t, A: Allocator + Copy>(
-    alloc: A,
+// What closes a group, and how its trees go on.
+type Around<'t, A> = (Span, Site, TtIter<'t, A>);
+
+// Pushes the steps of these trees; what it owns while it walks is lent, so that no way out drops it.
+fn walk<'t, A: Allocator>(
     tokens: TokenTreesView<'t, A>,
-) -> Result<Vec<Step<'t, A>, A>, AllocError>
-    ensures { IfOk result (λ v. map step_of v.items ≡ spec.steps start (trees tokens.entry)) }
+    found: &mut Vec<Step<'t, A>, A>,
+    around: &mut Vec<Around<'t, A>, A>,
+) -> Result<(), AllocError>
+    requires found { found.old.items ≡ [] }
+    requires around { around.old.items ≡ [] }
+    ensures { OnOk result (map step_of found.new.items ≡ spec.steps start (trees tokens.entry)) }
 {
-    let mut found = Vec::new(alloc);
-    let mut around = Vec::new(alloc);
     let mut iter = tokens.iter();
     let mut site = start();
     'tokens: loop {
@@ -89,7 +93,7 @@ pub(crate) fn steps_of<'t, A: Allocator + Copy>(
                 iter = inside;
             }
             None => match around.pop() {
-                None => return Ok(found),
+                None => return Ok(()),
                 Some((close, after, rest)) => {
                     found.push(Step::Close(close))?;
                     site = after;
@@ -98,4 +102,17 @@ pub(crate) fn steps_of<'t, A: Allocator + Copy>(
             },
         }
     }
+}
+
+/// The steps of these trees.
+pub(crate) fn steps_of<'t, A: Allocator + Copy>(
+    alloc: A,
+    tokens: TokenTreesView<'t, A>,
+) -> Result<Vec<Step<'t, A>, A>, AllocError>
+    ensures { IfOk result (λ v. map step_of v.items ≡ spec.steps start (trees tokens.entry)) }
+{
+    let mut found = Vec::new(alloc);
+    let mut around = Vec::new(alloc);
+    walk(tokens, &mut found, &mut around)?;
+    Ok(found)
 }

@@ -88,13 +88,15 @@ pub mod tests {
         Some(rounds_of(&bindings, name).is_none() && bindings.len() == 1)
     }
 
-    // Copies part, and what is missing is counted.
     fn do_copies_part(alloc: Global, name: &Symbol) -> Option<bool> {
         let (with_name, without) = part_ways(alloc, name).ok()?;
         let counts = (with_name.len(), without.len());
+        Some(rounds_of(&with_name, name).is_none() && counts == (1, 0))
+    }
+
+    fn is_missing_counted(alloc: Global, name: &Symbol) -> Option<bool> {
         let mut log = BindingLog::new(alloc);
-        let missing = bind_missing(&mut log, name).ok()?;
-        Some(rounds_of(&with_name, name).is_none() && counts == (1, 0) && missing == (1, 0))
+        Some(bind_missing(&mut log, name).ok()? == (1, 0))
     }
 
     pub fn is_bound_each_way(alloc: Global) -> Option<bool> {
@@ -102,7 +104,8 @@ pub mod tests {
         Some(
             are_rounds_bound(alloc, &name)?
                 && is_bound_by_hand(alloc, &name)?
-                && do_copies_part(alloc, &name)?,
+                && do_copies_part(alloc, &name)?
+                && is_missing_counted(alloc, &name)?,
         )
     }
 }

@@ -1,5 +1,5 @@
 use Rattle.std.proofs.Common.{inl}
-use Rattle.mbe_replies.specs.Calls.{source_of}
+use Rattle.mbe_program.specs.Replies.Calls.{source_of}
 use Rattle.mbe_c.specs.Each.{answers_seen}
 use Rattle.mbe_c.proofs.EachLemmas.{joined_allowed}
 use Rattle.mbe_c.proofs.each.expand_each.Goals as goal

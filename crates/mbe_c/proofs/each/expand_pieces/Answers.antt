@@ -1,7 +1,7 @@
 use Rattle.std.proofs.Common.{rules}
-use Rattle.mbe_replies.specs.Answers.{answer_of}
-use Rattle.mbe_replies.specs.Calls.{source_of}
-use Rattle.mbe_replies.specs.ReadOnce.{AnswersBy}
+use Rattle.mbe_program.specs.Replies.Answers.{answer_of}
+use Rattle.mbe_program.specs.Replies.Calls.{source_of}
+use Rattle.mbe_program.specs.Replies.ReadOnce.{AnswersBy}
 use Rattle.mbe_c.specs.Each.{answers_seen}
 use Rattle.mbe_c.proofs.EachLemmas.{one_answer_more}
 use Rattle.mbe_c.proofs.each.expand_pieces.Goals as goal

@@ -1,6 +1,6 @@
 use Rattle.std.proofs.Common.{take}
-use Rattle.mbe_replies.specs.Calls.{source_of}
-use Rattle.mbe_replies.specs.ReadOnce.{AnswersBy}
+use Rattle.mbe_program.specs.Replies.Calls.{source_of}
+use Rattle.mbe_program.specs.Replies.ReadOnce.{AnswersBy}
 use Rattle.mbe_c.specs.Each.{AreJoined, answers_seen}
 use Rattle.mbe_c.proofs.each.expand_pieces.Given as goal
 

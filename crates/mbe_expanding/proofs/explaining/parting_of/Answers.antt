@@ -1,8 +1,8 @@
 use Rattle.std.proofs.Common.{◌∙◌, subst}
 use Rattle.std.specs.Prelude.{option_map}
 use Rattle.mbe.specs.MacroViews.{macro_of}
-use Rattle.mbe_parting.specs.Code.{parting_seen}
-use Rattle.mbe_parting.specs.Parting.{IsParting}
+use Rattle.mbe_matcher.specs.Readings.Code.{parting_seen}
+use Rattle.mbe_matcher.specs.Readings.Parting.{IsParting}
 use Rattle.mbe_expanding.proofs.ExplainLemmas.{part_somewhere, parts_there}
 use Rattle.mbe_expanding.proofs.explaining.parting_of.Goals as goal
 

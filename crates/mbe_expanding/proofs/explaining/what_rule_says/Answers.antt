@@ -5,7 +5,7 @@ use Rattle.mbe_tt.specs.Views.View.{trees}
 use Rattle.mbe_semantics.specs.Readings.Verdict.{stop_of}
 use Rattle.mbe_matcher.specs.Matched.{verdict_seen}
 use Rattle.mbe_matcher.specs.Wanted.{pair_seen, wanted_seen}
-use Rattle.mbe_parting.specs.Code.{parting_seen}
+use Rattle.mbe_matcher.specs.Readings.Code.{parting_seen}
 use Rattle.mbe_expanding.specs.Explained.{PointsTo, at_parting, at_stop}
 use Rattle.mbe_expanding.proofs.ExplainLemmas.{rule_says, stops_there, not_many}
 use Rattle.mbe_expanding.proofs.explaining.what_rule_says.Goals as goal

@@ -1,7 +1,7 @@
 use Rattle.std.proofs.Common.{◌≡◌, ◌++◌, map, drop}
 use Rattle.mbe_bindings.specs.BindingViews.{bound_by}
 use Rattle.mbe_ops.specs.Views.{template_of}
-use Rattle.mbe_linting.specs.Variables.{bound_in, bound_seen}
+use Rattle.mbe_explaining.specs.Rules.Variables.{bound_in, bound_seen}
 use Rattle.mbe_expanding.specs.Taking.{taken_of, taken_seen}
 use Rattle.mbe_expanding.proofs.taking.all_taken.Given as goal
 

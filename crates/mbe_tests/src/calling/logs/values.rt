@@ -45,11 +45,19 @@ fn bindings(alloc: Global, names: Bound) -> Result<Bindings<'static>, AllocError
 
 const PRINTED: &str = "{\"x\": Nested([Fragment(Empty), Empty, ]), \"y\": Missing(Expr(Expr)), }";
 
+fn is_equal(alloc: Global, one: &Bindings<'static>, other: Bound) -> Result<bool, AllocError> {
+    Ok(*one == bindings(alloc, other)?)
+}
+
+fn is_printed(alloc: Global, one: &Bindings<'_>) -> Result<bool, AllocError> {
+    Ok(format!(in alloc; "{one:?}")?.as_str() == PRINTED)
+}
+
 /// Whether bindings are equal in any order, and print their names in that of their binding.
 pub fn are_bindings(alloc: Global) -> Result<bool, AllocError> {
     let one = bindings(alloc, ONE)?;
-    let are_compared = one == bindings(alloc, OTHER_WAY)? && one != bindings(alloc, OTHER_KIND)?;
-    Ok(are_compared && format!(in alloc; "{one:?}")?.as_str() == PRINTED)
+    let are_compared = is_equal(alloc, &one, OTHER_WAY)? && !is_equal(alloc, &one, OTHER_KIND)?;
+    Ok(are_compared && is_printed(alloc, &one)?)
 }
 
 fn tokens<'a>(tree: TokenTreesView<'a>, origin: TokensOrigin) -> Fragment<'a> {

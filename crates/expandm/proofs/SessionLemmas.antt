@@ -1,0 +1,178 @@
+-- Files one after another: what they are, and what they become.
+use Rattle.std.proofs.Common.{◌≡◌, ◌<◌, ◌≤◌, ◌+◌, ◌-◌, ℕ, Bool, List, [], ◌∷◌, ◌++◌, length, map, take, get_or, Option, Some, None, Result, true, false, inl, inr, refl, ap, sym, ◌∙◌, subst, arith}
+use Rattle.std.specs.Prelude.{IfSome}
+use Rattle.std.specs.List.{slice_get}
+use Rattle.std.proofs.lemmas.Grind.{common_steps}
+use Rattle.std.proofs.lemmas.Option.{slice_get-get_or}
+use Rattle.std.proofs.lemmas.List.{length-map, map-append, take_more}
+use Rattle.mbe_calls.specs.Splicing.{Part}
+use Rattle.mbe_expanding.specs.Calls.{Setting, State}
+use Rattle.mbe_expanding.specs.Scopes.{Scope}
+use Rattle.expandm.specs.declared.places.Position.{Position}
+use Rattle.expandm.specs.declared.reading.Reading.{Reading}
+use Rattle.mbe_grammar.specs.declared.tables.table.RuleTable.{RuleTable}
+use Rattle.mbe_grammar.specs.Rust.Keywords.{rows, rust_keywords}
+use Rattle.mbe_grammar.specs.Rust.Starts.{rust_starts}
+use Rattle.expandm.specs.Conditions.{Conditions, IsUnder}
+use Rattle.expandm.specs.Readings.{IsReading, IsRustTable}
+use Rattle.expandm.specs.Expansions as spec
+use Rattle.expandm.specs.Expansions.{DefinesCrates, IsThere, KnowsOthers, RootBecomes, TextsThere, WritesOne}
+use Rattle.expandm.specs.Runs.{IsBegun, IsPrinted}
+use Rattle.expandm.specs.Sources as sources
+use Rattle.expandm.specs.Sources.{AreSources, IsSource, Source, Text, source_text}
+use Rattle.mbe_tt.specs.declared.span.Edition.{Edition}
+
+-- what is read by a table of Rust, as the words ask
+pub read_as_asked : (edition : Edition) (c : Conditions) (table : RuleTable) (r : Reading)
+    → rows table.keywords.now ≡ rust_keywords → table.starts ≡ rust_starts → table.edition ≡ edition
+    → r.edition ≡ edition → IsUnder c r.conditions → r.grammar ≡ table → IsReading edition c r
+read_as_asked edition c table r keywords starts dated same under by = record {
+  edition_is = same;
+  is_rust = subst (IsRustTable edition) (sym by)
+      (record { keywords = keywords; starts = starts; edition_is = dated });
+  is_under = under;
+}
+
+-- the items up to one more
+pub map_taken : {X Y : Type 0} (f : X → Y) (items : List X) (item : X) (i : ℕ) → i < length items
+    → item ≡ get_or items i item
+    → map f (take (i + 1) items) ≡ map f (take i items) ++ f item ∷ []
+map_taken f items item i h is =
+    ap (map f) (take_more items i item h) ∙ map-append f (take i items) (get_or items i item ∷ [])
+    ∙ ap (λ x. map f (take i items) ++ f x ∷ []) (sym is)
+
+pub one_more_text : {X Y Z : Type 0} (f : X → Z) (g : Y → Z) (found more : List X) (new : X) (items : List Y) (item : Y)
+    (i : ℕ)
+    → i < length items → item ≡ get_or items i item → more ≡ found ++ new ∷ [] → map f found ≡ map g (take i items)
+    → f new ≡ g item
+    → map f more ≡ map g (take (i + 1) items)
+one_more_text f g found more new items item i h is e before one =
+    ap (map f) e ∙ map-append f found (new ∷ []) ∙ ap (λ xs. xs ++ f new ∷ []) before
+    ∙ ap (λ x. map g (take i items) ++ x ∷ []) one ∙ sym (map_taken g items item i h is)
+
+pub same_text : (x y : Text) → x.path ≡ y.path → x.text ≡ y.text → x ≡ y
+same_text x y p t =
+    ap (λ q. let z : Text = record { path = q; text = x.text } in z) p
+    ∙ ap (λ u. let z : Text = record { path = y.path; text = u } in z) t
+
+pub one_more_source : {X : Type 0} (see : X → Source) (r : Reading) (found more : List X) (new : X) (number : ℕ)
+    → AreSources r (map see found) → number ≡ length found → more ≡ found ++ new ∷ []
+    → IsSource r number (see new)
+    → AreSources r (map see more)
+one_more_source see r found more new number h n e one =
+    subst (AreSources r) (sym (ap (map see) e ∙ map-append see found (new ∷ [])))
+    (sources.one_more (map see found) (see new) h
+    (subst (λ m. IsSource r m (see new)) (n ∙ sym (length-map found see)) one))
+
+-- ---- texts of calls
+
+pub more_there : {X : Type 0} (see : X → Part) (position : Position) (text : List ℕ) (items : List X) (item : X) (i : ℕ)
+    (out more : List ℕ)
+    → i < length items → item ≡ get_or items i item → TextsThere position text (map see (take i items)) out
+    → IsThere position text (see item).start true → more ≡ out ++ ((see item).text ++ 10 ∷ [])
+    → TextsThere position text (map see (take (i + 1) items)) more
+more_there see position text items item i out more h is before there e =
+    subst (λ parts. TextsThere position text parts more) (sym (map_taken see items item i h is))
+    (subst (TextsThere position text (map see (take i items) ++ see item ∷ [])) (sym e)
+    (spec.one_there (map see (take i items)) (see item) out before there))
+
+pub none_there : {X : Type 0} (see : X → Part) (position : Position) (text : List ℕ) (items : List X) (item : X) (i : ℕ)
+    (out : List ℕ)
+    → i < length items → item ≡ get_or items i item → TextsThere position text (map see (take i items)) out
+    → IsThere position text (see item).start false → TextsThere position text (map see (take (i + 1) items)) out
+none_there see position text items item i out h is before there =
+    subst (λ parts. TextsThere position text parts out) (sym (map_taken see items item i h is))
+    (spec.one_elsewhere (map see (take i items)) (see item) out before there)
+
+pub nothing_there : (position : Position) (text out : List ℕ) → out ≡ [] → TextsThere position text [] out
+nothing_there position text out e = subst (TextsThere position text []) (sym e) spec.no_part
+
+-- ---- runs begin with nothing
+
+pub no_source : {X : Type 0} (see : X → Source) (r : Reading) (found : List X) → found ≡ []
+    → AreSources r (map see found)
+no_source see r found is = subst (λ xs. AreSources r (map see xs)) (sym is) sources.no_file
+
+-- ---- the last file that is given
+
+pub is_there : {X : Type 0} (xs : List X) (n : ℕ) → n < length xs → slice_get xs n ≡ None → ⊥
+is_there [] n h e = absurd (omega (arith, h))
+is_there (x ∷ xs) n h e = some_is_none (sym (slice_get-get_or (x ∷ xs) n x h) ∙ e)
+  where
+    some_is_none : {X : Type 0} {x : X} → Some x ≡ None → ⊥
+    some_is_none e = grind (arith, common_steps)
+
+printed_by : {T E : Type 0} (edition : Edition) (c : Conditions) (depth : Option ℕ) (fuel : ℕ)
+    (call : Option Position) (follows : Bool) (given : ℕ) (others : List (List ℕ)) (texts : List Text)
+    (files : List Source)
+    (e : Setting) (s t : State) (before after : Option (List ℕ)) (r : Result T E) (found : Option Source)
+    → IsBegun edition c depth fuel follows given others texts files e s → given - 1 < length files
+    → slice_get files (given - 1) ≡ found
+    → IfSome found (λ root. WritesOne before after r
+    (λ out. RootBecomes e 1000 call follows files (given - 1) root s out t))
+    → WritesOne before after r (IsPrinted edition c depth fuel call follows given others texts)
+printed_by edition c depth fuel call follows given others texts files e s t before after r None begun within is last =
+    absurd (is_there files (given - 1) within is)
+printed_by edition c depth fuel call follows given others texts files e s t before after r (Some root) begun within is
+    last =
+    elim last [
+      | inl none ↦ inl none
+      | inr one ↦ inr (
+        one.0,
+        record {
+          files = files;
+          setting = e;
+          start = s;
+          end = t;
+          begins = begun;
+          root = root;
+          is_last = is;
+          becomes = one.1;
+        },
+        one.2,
+      )
+    ]
+
+-- Of values that are the same, as a call of `write_last` has them.
+pub printed : {T E : Type 0} (edition : Edition) (c : Conditions) (depth : Option ℕ) (fuel : ℕ)
+    (call asked : Option Position) (follows followed : Bool) (given n : ℕ) (others : List (List ℕ))
+    (texts : List Text)
+    (files seen : List Source)
+    (e : Setting) (s t : State) (before after : Option (List ℕ)) (r : Result T E)
+    → IsBegun edition c depth fuel follows given others texts files e s → 0 < given → given ≤ length texts
+    → asked ≡ call → followed ≡ follows → n ≡ given → seen ≡ files
+    → IfSome (slice_get seen (n - 1)) (λ root. WritesOne before after r
+    (λ out. RootBecomes e 1000 asked followed seen (n - 1) root s out t))
+    → WritesOne before after r (IsPrinted edition c depth fuel call follows given others texts)
+printed edition c depth fuel call asked follows followed given n others texts files seen e s t before after r begun
+    some few same_call same_follows same_number same_files last =
+    let within : given - 1 < length files =
+    omega (arith, some, few, ap length begun.texts_are, length-map files source_text) in
+    let Last : Option Position → Bool → List Source → ℕ → Type 0 = λ k f fs m.
+    IfSome (slice_get fs (m - 1)) (λ root. WritesOne before after r
+    (λ out. RootBecomes e 1000 k f fs (m - 1) root s out t)) in
+    printed_by edition c depth fuel call follows given others texts files e s t before after r
+    (slice_get files (given - 1)) begun within refl
+    (subst (λ m. Last call follows files m) same_number
+    (subst (λ fs. Last call follows fs n) same_files
+    (subst (λ f. Last call f seen n) same_follows
+    (subst (λ k. Last k followed seen n) same_call last))))
+
+-- ---- definitions, of values that are the same
+
+pub others_are : (e d : Edition) (follows : Bool) (fs gs : List Source) (n m : ℕ) (s t u : Scope)
+    (xs ys : List (List ℕ)) → e ≡ d → fs ≡ gs → n ≡ m → s ≡ t → xs ≡ ys → KnowsOthers e 1001 follows fs n s xs u
+    → KnowsOthers d 1001 follows gs m t ys u
+others_are e d follows fs gs n m s t u xs ys edition files number scope names h =
+    subst (λ x. KnowsOthers x 1001 follows gs m t ys u) edition
+    (subst (λ x. KnowsOthers e 1001 follows x m t ys u) files
+    (subst (λ x. KnowsOthers e 1001 follows fs x t ys u) number
+    (subst (λ x. KnowsOthers e 1001 follows fs n x ys u) scope
+    (subst (λ x. KnowsOthers e 1001 follows fs n s x u) names h))))
+
+pub crates_are : (e d : Edition) (follows : Bool) (fs gs : List Source) (n m : ℕ) (s t : Scope) → e ≡ d → fs ≡ gs
+    → n ≡ m → DefinesCrates e 1001 follows fs s n t → DefinesCrates d 1001 follows gs s m t
+crates_are e d follows fs gs n m s t edition files number h =
+    subst (λ x. DefinesCrates x 1001 follows gs s m t) edition
+    (subst (λ x. DefinesCrates e 1001 follows x s m t) files
+    (subst (λ x. DefinesCrates e 1001 follows fs s x t) number h))

@@ -1,0 +1,34 @@
+use Rattle.std.proofs.Common.{◌≡◌, arith, length, map, subst}
+use Rattle.std.specs.String.{string_bytes}
+use Rattle.mbe_calls.specs.Replacements.{part_of}
+use Rattle.mbe_expanding.specs.Shown.{setting_of, state_of}
+use Rattle.expandm.specs.Expansions.{CratesParts, FilesBecome}
+use Rattle.expandm.specs.ShownFiles.{source_of, sources_of}
+use Rattle.expandm.proofs.sessions.write.Goals as goal
+
+pub returns : goal.returns
+returns c =
+    let session = c.in_ok-session.session in
+    let e = setting_of session.expander in
+    let s = state_of session.expander in
+    let t = state_of c.crates_parts.new.expander in
+    let options = c.args.options.now in
+    let parts = map part_of c.in_ok-parts.parts.items in
+    let texts = map string_bytes c.in_ok-written.written.items in
+    let n : c.len-given.result ≡ length options.names.items =
+    omega (arith, c.len-given.ensures, options.names.ok.0) in
+    record {
+      files = sources_of session;
+      setting = e;
+      start = s;
+      end = t;
+      begins = c.in_ok-session.ensures;
+      parts = parts;
+      of_crates = subst (λ n. CratesParts e 1000 options.follows (sources_of session) s n parts t) n
+          (subst (λ fs. CratesParts e 1000 options.follows (map source_of fs) s c.len-given.result parts t)
+          c.deref.ensures.value c.in_ok-parts.ensures);
+      become = subst (λ ps. FilesBecome options.call (map part_of ps) (sources_of session) texts)
+          c.as_slice.ensures.value
+          (subst (λ fs. FilesBecome options.call (map part_of c.as_slice.result.now) (map source_of fs) texts)
+          c.deref-2.ensures.value c.in_ok-written.ensures);
+    }

@@ -1,0 +1,37 @@
+use Rattle.std.proofs.Common.{Some, None, ap, sym, subst, ◌∙◌}
+use Rattle.std.proofs.lemmas.Result.{IfOk-weaker}
+use Rattle.mbe_tt.specs.Views.View.{trees}
+use Rattle.mbe_parser.specs.Reader.{mode_of}
+use Rattle.mbe_semantics.specs.Expansion.ReadAs.{IsReadAsMacro}
+use Rattle.mbe_parser.specs.Faults.Refusals.{refusal_of}
+use Rattle.mbe_calls.specs.Fronts.{Arguments}
+use Rattle.mbe_explaining.specs.Lints.Read.{macro_read}
+use Rattle.mbe_explaining.proofs.LintLemmas.RefusedLemmas.{told, not_refused_at, fault_in_part}
+use Rattle.mbe_explaining.proofs.lints.reading.read_one.Goals as goal
+
+pub returns-in_default-clause-read : goal.returns-in_default-clause-read
+returns-in_default-clause-read g c =
+    let read = rw (c.in_default.is, c.iter.ensures, c.iter-2.ensures) at c.in_ok-rules.ensures.rule in
+    subst (IsReadAsMacro _ (Some (trees c.args.pattern)) (trees c.args.body)) (sym c.kept.ensures.read) read
+
+pub returns-in_default-clause-spot : goal.returns-in_default-clause-spot
+returns-in_default-clause-spot g c =
+    not_refused_at _ c.args.close (trees c.args.body)
+    (Arguments c.args.pattern_group.now.delimiter (trees c.args.pattern)) (macro_read c.kept.result) c.kept.result.spot
+    (ap (λ m. m.err) c.kept.ensures.read) c.kept.ensures.spot
+
+pub returns-clause-read : goal.returns-clause-read
+returns-clause-read g c =
+    let read = rw (c.in-Some.is, c.iter.ensures, c.iter-2.ensures) at c.in_ok-rules.ensures.rule in
+    IfOk-weaker c.refused.result _ _
+    (λ m e. subst (IsReadAsMacro _ (Some (trees c.args.pattern)) (trees c.args.body)) (sym e) read)
+    c.refused.ensures.read
+
+pub returns-clause-spot : goal.returns-clause-spot
+returns-clause-spot g c =
+    let w = rw (c.in-Some.is, c.iter.ensures, c.iter-2.ensures) at c.in_ok-rules.ensures.place in
+    told c.refused.result _ _ _
+    (λ m e s. fault_in_part _ c.args.close (trees c.args.body) (refusal_of c.in-Some.found.fault) (macro_read m) m.spot
+    (ap (λ x. x.err) e) c.args.pattern_group.now.delimiter (trees c.args.pattern) (mode_of c.in-Some.found.part)
+    c.in-Some.found.place (s ∙ ap Some c.part_spot-spot.ensures) w)
+    c.refused.ensures.read c.refused.ensures.spot

@@ -1,0 +1,74 @@
+// The definitions of trees.
+ghost use Rattle.std.specs.Prelude.{◌≡◌, ◌++◌, map, IfOk, OnOk};
+ghost use Rattle.mbe_tt.specs.Views.Element.{element_tree};
+ghost use Rattle.mbe_tt.specs.Views.View.{trees};
+ghost use Rattle.mbe_calls.specs.Shown.{defined_shown};
+ghost use Rattle.mbe_explaining.specs.Lints.Definitions as spec;
+
+use mbe_calls::calls::{Defined, Front, front_of};
+use mbe_tt::tt::{TokenTreesView, TtElement};
+use std::alloc::{AllocError, Allocator};
+
+/// How many groups may be in one another where definitions are looked for.
+pub const LEVELS: u32 = 1001;
+
+#[cycle(defined)]
+fn push_defined<'t, A: Allocator>(
+    found: &mut Vec<Defined<'t, A>, A>,
+    tokens: TokenTreesView<'t, A>,
+    levels: u32,
+) -> Result<(), AllocError>
+    ensures { OnOk result (map defined_shown found.new.items ≡ map defined_shown found.old.items
+        ++ spec.definitions levels (trees tokens.entry)) }
+{
+    if levels == 0 {
+        return Ok(());
+    }
+    let mut rest = tokens;
+    let mut left = tokens.flat_len();
+    'fronts: while left > 0 {
+        left -= 1;
+        match front_of(rest) {
+            Front::End => return Ok(()),
+            Front::Definition(defined) => {
+                found.push(defined)?;
+                rest = defined.rest;
+            }
+            Front::Call(call) => rest = call.rest,
+            Front::Tree(tree, after) => {
+                push_defined_in_tree(found, tree, levels - 1)?;
+                rest = after;
+            }
+        }
+    }
+    Ok(())
+}
+
+#[cycle(defined)]
+fn push_defined_in_tree<'t, A: Allocator>(
+    found: &mut Vec<Defined<'t, A>, A>,
+    tree: TtElement<'t, A>,
+    levels: u32,
+) -> Result<(), AllocError>
+    ensures { OnOk result (map defined_shown found.new.items ≡ map defined_shown found.old.items
+        ++ spec.defined_in_tree (spec.definitions levels) (element_tree tree.entry)) }
+{
+    match tree {
+        TtElement::Leaf(_) => Ok(()),
+        TtElement::Subtree(_, inside) => push_defined(found, inside.remaining(), levels),
+    }
+}
+
+/// The definitions of macros among these trees, in the order of the text: those in groups too, but not those that a definition or
+/// the argument of a call holds. Deeper than `LEVELS` groups none is found. `AllocError` if out of memory.
+pub fn definitions<'t, A: Allocator + Copy>(
+    alloc: A,
+    tokens: TokenTreesView<'t, A>,
+) -> Result<Vec<Defined<'t, A>, A>, AllocError>
+    ensures { IfOk result (λ found. map defined_shown found.items
+        ≡ spec.definitions 1001 (trees tokens.entry)) }
+{
+    let mut found = Vec::new(alloc);
+    push_defined(&mut found, tokens, LEVELS)?;
+    Ok(found)
+}

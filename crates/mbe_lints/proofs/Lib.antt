@@ -1,4 +1,0 @@
-mod DefinitionLemmas
-mod LintedLemmas
-mod RefusedLemmas
-mod WrittenLemmas

@@ -1,5 +1,0 @@
-pub mod Parting
-pub mod Spots
-pub mod Graph
-pub mod Code
-pub mod Going

@@ -1,7 +1,0 @@
-// Laws about partings. They run nothing.
-ghost use Rattle.mbe_parting.specs.Parting.{ReadingsPart};
-
-/// Two different readings part somewhere.
-pub fn readings_part()
-    ensures { ReadingsPart }
-{}

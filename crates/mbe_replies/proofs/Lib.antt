@@ -1,5 +1,0 @@
-pub mod BareLemmas
-mod CallLemmas
-mod KeptLemmas
-mod ReadLemmas
-pub mod FlatTokens

@@ -1,9 +1,0 @@
-use Rattle.std.proofs.Common.{subst}
-use Rattle.mbe_replies.specs.Answers.{answer_of}
-use Rattle.mbe_replies.specs.ReadOnce.{AnswersTreesBy}
-use Rattle.mbe_replies.proofs.read_macro.ReadMacro.expand_trees.Goals as goal
-
-pub returns : goal.returns
-returns g c =
-    subst (λ m. AnswersTreesBy m c.args.argument.now c.args.call_site (answer_of c.expand_trees.result))
-    c.in_use.ensures c.expand_trees.ensures

@@ -1,6 +1,0 @@
--- What flat trees show, whatever memory holds them.
-use Rattle.mbe_replies.specs.Flat.Writing.{State}
-use Rattle.mbe_replies.specs.declared.flat.writing.FlatTrees.{FlatTrees}
-
-abbrev pub state_of : {A : Type 0} → FlatTrees A → State
-state_of t = record { tokens = t.tokens.items; text = t.text.items }

@@ -1,6 +1,0 @@
-pub mod Asked
-pub mod Answers
-pub mod Calls
-pub mod ReadOnce
-pub mod Kept
-pub mod Flat
