@@ -163,8 +163,8 @@ class Build:
     """What cargo made of a copy: whether there is a library, its programs of tests, the options of its build script, and what rustc said."""
     def __init__(self, folder, target):
         env = {**os.environ, "CARGO_TARGET_DIR": target, "RUSTFLAGS": "--cap-lints allow", "CARGO_INCREMENTAL": "0", "CARGO_PROFILE_DEV_DEBUG": "0"}
-        told = ["cargo", "build", "--offline", "-q", "-j", os.environ.get("JOBS", "2"), "--message-format=json", "--lib", "--tests", "--keep-going"]
-        ran = subprocess.run(told, cwd=folder, env=env, capture_output=True, text=True, errors="replace")
+        command = ["cargo", "build", "--offline", "-q", "-j", os.environ.get("JOBS", "2"), "--message-format=json", "--lib", "--tests", "--keep-going"]
+        ran = subprocess.run(command, cwd=folder, env=env, capture_output=True, text=True, errors="replace")
         self.passed = False
         self.said = ran.stderr
         self.tests, self.options = {}, []
@@ -205,9 +205,9 @@ class Alone:
         numbers = dict(zip(("MAJOR", "MINOR", "PATCH"), re.findall(r"\d+", package["version"])))
         env = {**os.environ, **{f"CARGO_PKG_VERSION_{key}": it for key, it in numbers.items()}, "CARGO_PKG_VERSION": package["version"]}
         env.update(CARGO_PKG_NAME=package["name"], CARGO_MANIFEST_DIR=self.folder, CARGO_CRATE_NAME=name, CARGO_PKG_AUTHORS="", CARGO_PKG_DESCRIPTION="")
-        told = ["rustc", "--crate-name", name, "--edition", package.get("edition", "2015"), "--cap-lints", "allow", *words, self.root]
-        told += [word for it in self.manifest["features"] for word in ("--cfg", f'feature="{it}"')]
-        ran = subprocess.run(told, cwd=self.folder, env=env, capture_output=True, text=True, errors="replace")
+        command = ["rustc", "--crate-name", name, "--edition", package.get("edition", "2015"), "--cap-lints", "allow", *words, self.root]
+        command += [word for it in self.manifest["features"] for word in ("--cfg", f'feature="{it}"')]
+        ran = subprocess.run(command, cwd=self.folder, env=env, capture_output=True, text=True, errors="replace")
         return ran.returncode == 0, ran.stderr
 
 
@@ -236,14 +236,14 @@ def results(folder, build, left_out=()):
 def expanded(program, folder, after, manifest, options, words):
     """Writes the library's files, as expanded, over themselves; the calls that were, the errors, and what was reported."""
     root = os.path.normpath(manifest.get("lib", {}).get("path", "src/lib.rs"))
-    told = [program, "--edition", manifest["package"].get("edition", "2015"), "--trace", "--fuel", "10000000", *words]
+    command = [program, "--edition", manifest["package"].get("edition", "2015"), "--trace", "--fuel", "10000000", *words]
     for option in options:
-        told += ["--cfg", option]
+        command += ["--cfg", option]
     if manifest["features"]:
-        told += ["--features", ",".join(manifest["features"])]
+        command += ["--features", ",".join(manifest["features"])]
     with tempfile.TemporaryDirectory() as to:
         try:
-            ran = subprocess.run([*told, "--write", to, os.path.join(folder, root)], capture_output=True, timeout=600)
+            ran = subprocess.run([*command, "--write", to, os.path.join(folder, root)], capture_output=True, timeout=600)
         except subprocess.TimeoutExpired:
             return None, 0, "no end in ten minutes"
         said = ran.stderr.decode(errors="replace")

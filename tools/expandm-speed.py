@@ -27,23 +27,23 @@ ENV = {**os.environ, "RUSTC_BOOTSTRAP": "1", "RUSTFLAGS": "--cap-lints allow", "
 MADE_UP = (50, 100, 200, 400, 800)
 
 
-def timed(told, folder, env, out):
+def timed(command, folder, env, out):
     """The seconds of the clock that a run takes, the bytes that it and what it starts hold at the most, and its status."""
     with open(out, "wb") as it:
         begin = time.perf_counter()
-        ran = subprocess.Popen(told, cwd=folder, env=env, stdout=it, stderr=subprocess.DEVNULL)
+        ran = subprocess.Popen(command, cwd=folder, env=env, stdout=it, stderr=subprocess.DEVNULL)
         _, status, used = os.wait4(ran.pid, 0)
         ran.returncode = os.waitstatus_to_exitcode(status)
         return time.perf_counter() - begin, used.ru_maxrss * 1024, ran.returncode
 
 
-def least(told, folder, env, out, before=lambda: None):
+def least(command, folder, env, out, before=lambda: None):
     """The least time and memory of some runs, or None if one fails."""
     runs = []
     for _ in range(TIMES):
         before()
-        seconds, held, status = timed(told, folder, env, out)
-        if status not in (0, 1) or (status and told[0] == "cargo"):
+        seconds, held, status = timed(command, folder, env, out)
+        if status not in (0, 1) or (status and command[0] == "cargo"):
             return None
         runs.append((seconds, held))
     return min(it[0] for it in runs), min(it[1] for it in runs)
@@ -62,19 +62,19 @@ def sizes(folder):
 
 def with_expandm(program, folder, manifest, options, work):
     root = os.path.normpath(manifest.get("lib", {}).get("path", "src/lib.rs"))
-    told = [program, "--edition", manifest["package"].get("edition", "2015"), "--fuel", "10000000"]
+    command = [program, "--edition", manifest["package"].get("edition", "2015"), "--fuel", "10000000"]
     for option in options:
-        told += ["--cfg", option]
+        command += ["--cfg", option]
     if manifest["features"]:
-        told += ["--features", ",".join(manifest["features"])]
+        command += ["--features", ",".join(manifest["features"])]
     to = f"{work}/written"
-    return least([*told, "--write", to, os.path.join(folder, root)], folder, os.environ, "/dev/null", lambda: emptied(to))
+    return least([*command, "--write", to, os.path.join(folder, root)], folder, os.environ, "/dev/null", lambda: emptied(to))
 
 
 def with_cargo(folder, manifest, work):
     root = os.path.join(folder, manifest.get("lib", {}).get("path", "src/lib.rs"))
-    told = ["cargo", "rustc", "--offline", "-q", "--lib", "--", "-Zunpretty=expanded"]
-    return least(told, folder, {**ENV, "CARGO_TARGET_DIR": f"{work}/target"}, f"{work}/unpretty", lambda: os.utime(root))
+    command = ["cargo", "rustc", "--offline", "-q", "--lib", "--", "-Zunpretty=expanded"]
+    return least(command, folder, {**ENV, "CARGO_TARGET_DIR": f"{work}/target"}, f"{work}/unpretty", lambda: os.utime(root))
 
 
 def measured(program, package, work, registry):
@@ -130,8 +130,8 @@ def main(words):
         whole(program, registry, words[2:], work)
         for n in MADE_UP:
             made_up(f"{work}/made", n)
-            told = [program, "--fuel", "10000000", "--write", f"{work}/written", f"{work}/made/lib.rs"]
-            ours = least(told, work, os.environ, "/dev/null", lambda: emptied(f"{work}/written"))
+            command = [program, "--fuel", "10000000", "--write", f"{work}/written", f"{work}/made/lib.rs"]
+            ours = least(command, work, os.environ, "/dev/null", lambda: emptied(f"{work}/written"))
             print(line(f"{n} files", *sizes(f"{work}/made"), ours, None), flush=True)
     return 0
 

@@ -38,8 +38,8 @@ WORDS = (
 
 # A definition whose rules tell the editions apart: `pat` takes a `|` from 2021 on, and `expr` takes `_` from 2024 on.
 # The fragments of 2015 are those of 2018. Of each edition, the first rule that reads the argument.
-TELLING = "($p:pat, $e:expr) => {}; ($p:pat, _) => {}; ($($t:tt)*) => {}"
-TOLD = "a | b, _"
+BY_EDITION = "($p:pat, $e:expr) => {}; ($p:pat, _) => {}; ($($t:tt)*) => {}"
+ALTERNATIVES = "a | b, _"
 FIRST_RULE = {2015: 2, 2018: 2, 2021: 1, 2024: 0}
 
 USAGE = "usage: mbex [--lint] DEF-FILE ARG-FILE [EDITION]\n"
@@ -85,8 +85,8 @@ def failures(program):
         program.check("FAILURES", row, (run.status, run.err, run.out != ""), want)
 
 
-def has_told(run, lint, year):
-    """Whether a run on TELLING lints or expands, with the first rule that reads its argument in that edition."""
+def is_read(run, lint, year):
+    """Whether a run on BY_EDITION lints or expands, with the first rule that reads its argument in that edition."""
     first = FIRST_RULE[year]
     if not lint:
         return run.out.startswith(f"arm {first}\n")
@@ -97,11 +97,11 @@ def has_told(run, lint, year):
 def words(program):
     for row in WORDS:
         text, *asked = row
-        run = program.run(text.split(), {"d": TELLING, "a": TOLD})
+        run = program.run(text.split(), {"d": BY_EDITION, "a": ALTERNATIVES})
         if asked == ["usage"]:
             program.check("WORDS", row, (run.status, run.out, run.err), (3, "", USAGE))
             continue
-        program.check("WORDS", row, (run.status, has_told(run, *asked), run.err), (0, True, ""))
+        program.check("WORDS", row, (run.status, is_read(run, *asked), run.err), (0, True, ""))
 
 
 def lines(program):

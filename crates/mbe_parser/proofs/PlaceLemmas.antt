@@ -17,31 +17,31 @@ use Rattle.mbe_parser.specs.Faults.Places.{TemplateFaultAt}
 module _ (HasEdition : SyntaxContext → Edition → Type 0) (mode : Mode) where
   -- ---- what the head says of a fault
 
-  abbrev Told : Fault → Result Head Fault → Type 0
-  Told fault (Err e) = e ≡ fault
-  Told fault (Ok ended) = ⊥
-  Told fault (Ok (one o rest)) = TemplateFault HasEdition mode fault rest
-  Told fault (Ok (typed name span specifier rest)) = TemplateFault HasEdition mode fault rest
-  Told fault (Ok (opens_group d inside rest)) =
+  abbrev InHead : Fault → Result Head Fault → Type 0
+  InHead fault (Err e) = e ≡ fault
+  InHead fault (Ok ended) = ⊥
+  InHead fault (Ok (one o rest)) = TemplateFault HasEdition mode fault rest
+  InHead fault (Ok (typed name span specifier rest)) = TemplateFault HasEdition mode fault rest
+  InHead fault (Ok (opens_group d inside rest)) =
       TemplateFault HasEdition mode fault inside ⊎ TemplateFault HasEdition mode fault rest
-  Told fault (Ok (opens_repetition s repeat inside rest)) =
+  InHead fault (Ok (opens_repetition s repeat inside rest)) =
       TemplateFault HasEdition mode fault inside ⊎ TemplateFault HasEdition mode fault rest
 
-  told : (fault : Fault) {f : Forest} → TemplateFault HasEdition mode fault f → Told fault (head mode f)
-  told fault (here f e) = subst (Told fault) (sym e) refl
-  told fault (in_group f inside rest d e w) = subst (Told fault) (sym e) (inl w)
-  told fault (in_repetition f inside rest s repeat e w) = subst (Told fault) (sym e) (inl w)
-  told fault (after_token f rest o e w) = subst (Told fault) (sym e) w
-  told fault (after_variable f rest name span specifier e w) = subst (Told fault) (sym e) w
-  told fault (following_group f inside rest d body e b w) = subst (Told fault) (sym e) (inr w)
-  told fault (after_repetition f inside rest s repeat body e b w) = subst (Told fault) (sym e) (inr w)
+  in_head : (fault : Fault) {f : Forest} → TemplateFault HasEdition mode fault f → InHead fault (head mode f)
+  in_head fault (here f e) = subst (InHead fault) (sym e) refl
+  in_head fault (in_group f inside rest d e w) = subst (InHead fault) (sym e) (inl w)
+  in_head fault (in_repetition f inside rest s repeat e w) = subst (InHead fault) (sym e) (inl w)
+  in_head fault (after_token f rest o e w) = subst (InHead fault) (sym e) w
+  in_head fault (after_variable f rest name span specifier e w) = subst (InHead fault) (sym e) w
+  in_head fault (following_group f inside rest d body e b w) = subst (InHead fault) (sym e) (inr w)
+  in_head fault (after_repetition f inside rest s repeat body e b w) = subst (InHead fault) (sym e) (inr w)
 
   pub nothing_faulty : (fault : Fault) (f : Forest) → f ≡ none → TemplateFault HasEdition mode fault f → ⊥
-  nothing_faulty fault f e w = subst (Told fault) (ap (head mode) e) (told fault w)
+  nothing_faulty fault f e w = subst (InHead fault) (ap (head mode) e) (in_head fault w)
 
   pub past_token : (fault : Fault) (f rest : Forest) (o : Op) → head mode f ≡ Ok (one o rest)
       → TemplateFault HasEdition mode fault f → TemplateFault HasEdition mode fault rest
-  past_token fault f rest o e w = subst (Told fault) e (told fault w)
+  past_token fault f rest o e w = subst (InHead fault) e (in_head fault w)
 
   -- ---- trees that were read aren't refused
 
@@ -75,11 +75,11 @@ module _ (HasEdition : SyntaxContext → Edition → Type 0) (mode : Mode) where
       → Shows {A = A} h code.TheVariants.Whole left → Passes f left
   whole_step A f left (Ok (one o rest)) e s = moved f rest left s (record {
     at = λ fault n w. places.after_token f rest o n e w;
-    others = λ fault w. subst (Told fault) e (told fault w);
+    others = λ fault w. subst (InHead fault) e (in_head fault w);
   })
   whole_step A f left (Ok (typed name span specifier rest)) e s = moved f rest left s (record {
     at = λ fault n w. places.after_variable f rest name span specifier n e w;
-    others = λ fault w. subst (Told fault) e (told fault w);
+    others = λ fault w. subst (InHead fault) e (in_head fault w);
   })
   whole_step A f left (Ok ended) e s = absurd s
   whole_step A f left (Ok (opens_group d inside rest)) e s = absurd s
@@ -103,7 +103,7 @@ module _ (HasEdition : SyntaxContext → Edition → Type 0) (mode : Mode) where
       moved f rest left s.1 (record {
         at = λ fault n w. places.following_group f inside rest d body n e b w;
         others = λ fault w. other (ops_or_fault HasEdition mode inside body fault b)
-            (subst (Told fault) e (told fault w));
+            (subst (InHead fault) e (in_head fault w));
       })
   group_step A f g left body (Ok (one o rest)) e s t = absurd s
   group_step A f g left body (Ok (typed name span specifier rest)) e s t = absurd s
@@ -123,7 +123,7 @@ module _ (HasEdition : SyntaxContext → Edition → Type 0) (mode : Mode) where
       moved f rest left s.1 (record {
         at = λ fault n w. places.after_repetition f inside rest sep repeat body n e b w;
         others = λ fault w. other (ops_or_fault HasEdition mode inside body fault b)
-            (subst (Told fault) e (told fault w));
+            (subst (InHead fault) e (in_head fault w));
       })
   repetition_step A f g left body (Ok (one o rest)) e s t = absurd s
   repetition_step A f g left body (Ok (typed name span specifier rest)) e s t = absurd s
@@ -191,7 +191,7 @@ module _ (HasEdition : SyntaxContext → Edition → Type 0) (mode : Mode) where
   -- nothing is at the front
   ended_step : (A : Type 0) (f left : Forest) (h : Result Head Fault) → head mode f ≡ h
       → Shows {A = A} h code.TheVariants.Ended left → (fault : Fault) → TemplateFault HasEdition mode fault f → ⊥
-  ended_step A f left (Ok ended) e s fault w = subst (Told fault) e (told fault w)
+  ended_step A f left (Ok ended) e s fault w = subst (InHead fault) e (in_head fault w)
   ended_step A f left (Ok (one o rest)) e s fault w = absurd s
   ended_step A f left (Ok (typed name span specifier rest)) e s fault w = absurd s
   ended_step A f left (Ok (opens_group d inside rest)) e s fault w = absurd s

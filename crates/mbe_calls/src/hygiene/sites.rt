@@ -1,4 +1,4 @@
-// Where a token stands, by the tokens around it.
+// Where a token is, by the tokens around it.
 //
 // Tokens are gone through from the front of a group. What is kept of those that were passed is a site: which token was the last,
 // what the group holds, and which part of a statement or of a closure goes on.

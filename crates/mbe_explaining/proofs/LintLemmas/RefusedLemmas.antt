@@ -19,11 +19,11 @@ use Rattle.mbe_parser.specs.Faults.Empty as refused
 use Rattle.mbe_explaining.specs.declared.lints.spot.Spot.{Spot}
 use Rattle.mbe_explaining.specs.Lints.Refused.{RefusedAt, not_refused, in_rules, in_body, in_part, rules_spot, part_spot}
 
--- what is told of a result by two of its clauses
-pub told : {T E : Type 0} (r : Result T E) (P Q R : T → Type 0) → ((x : T) → P x → Q x → R x) → IfOk r P → IfOk r Q
+-- what two clauses say of a result together
+pub by_both : {T E : Type 0} (r : Result T E) (P Q R : T → Type 0) → ((x : T) → P x → Q x → R x) → IfOk r P → IfOk r Q
     → IfOk r R
-told (Ok x) P Q R k p q = k x p q
-told (Err e) P Q R k p q = tt
+by_both (Ok x) P Q R k p q = k x p q
+by_both (Err e) P Q R k p q = tt
 
 module _ (HasEdition : SyntaxContext → Edition → Type 0) (close : Span) (rules : Forest) where
   pub not_refused_at : (form : Form) (m : Macro) (spot : Option Spot) → m.err ≡ None → spot ≡ None

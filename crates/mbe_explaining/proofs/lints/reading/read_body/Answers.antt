@@ -5,7 +5,7 @@ use Rattle.mbe_semantics.specs.Expansion.ReadAs.{IsReadAsMacro}
 use Rattle.mbe_parser.specs.Faults.Refusals.{refusal_of}
 use Rattle.mbe_calls.specs.Fronts.{Body}
 use Rattle.mbe_explaining.specs.Lints.Read.{macro_read}
-use Rattle.mbe_explaining.proofs.LintLemmas.RefusedLemmas.{told, not_refused_at, fault_in_body}
+use Rattle.mbe_explaining.proofs.LintLemmas.RefusedLemmas.{by_both, not_refused_at, fault_in_body}
 use Rattle.mbe_explaining.proofs.lints.reading.read_body.Goals as goal
 
 pub returns-in_default-clause-read : goal.returns-in_default-clause-read
@@ -27,7 +27,7 @@ returns-clause-read g c =
 pub returns-clause-spot : goal.returns-clause-spot
 returns-clause-spot g c =
     let w = rw (c.in-Some.is, c.iter.ensures) at c.in_ok-rules.ensures.place in
-    told c.refused.result _ _ _
+    by_both c.refused.result _ _ _
     (λ m e s. fault_in_body _ c.args.close (trees c.args.body) (refusal_of c.in-Some.found.fault) (macro_read m) m.spot
     (ap (λ x. x.err) e) c.in-Some.found.rule c.in-Some.found.place (s ∙ ap Some c.rules_spot-spot.ensures) w)
     c.refused.ensures.read c.refused.ensures.spot

@@ -6,7 +6,7 @@ use Rattle.mbe_semantics.specs.Expansion.ReadAs.{IsReadAsMacro}
 use Rattle.mbe_parser.specs.Faults.Refusals.{refusal_of}
 use Rattle.mbe_calls.specs.Fronts.{Arguments}
 use Rattle.mbe_explaining.specs.Lints.Read.{macro_read}
-use Rattle.mbe_explaining.proofs.LintLemmas.RefusedLemmas.{told, not_refused_at, fault_in_part}
+use Rattle.mbe_explaining.proofs.LintLemmas.RefusedLemmas.{by_both, not_refused_at, fault_in_part}
 use Rattle.mbe_explaining.proofs.lints.reading.read_one.Goals as goal
 
 pub returns-in_default-clause-read : goal.returns-in_default-clause-read
@@ -30,7 +30,7 @@ returns-clause-read g c =
 pub returns-clause-spot : goal.returns-clause-spot
 returns-clause-spot g c =
     let w = rw (c.in-Some.is, c.iter.ensures, c.iter-2.ensures) at c.in_ok-rules.ensures.place in
-    told c.refused.result _ _ _
+    by_both c.refused.result _ _ _
     (λ m e s. fault_in_part _ c.args.close (trees c.args.body) (refusal_of c.in-Some.found.fault) (macro_read m) m.spot
     (ap (λ x. x.err) e) c.args.pattern_group.now.delimiter (trees c.args.pattern) (mode_of c.in-Some.found.part)
     c.in-Some.found.place (s ∙ ap Some c.part_spot-spot.ensures) w)
