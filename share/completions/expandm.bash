@@ -1,20 +1,14 @@
-# Completion of expandm for bash.
+# Completion of expandm for bash, written by tools/docs/options.py.
 _expandm() {
     local word=${COMP_WORDS[COMP_CWORD]} before=${COMP_WORDS[COMP_CWORD - 1]}
     case $before in
     --edition) mapfile -t COMPREPLY < <(compgen -W '2015 2018 2021 2024' -- "$word"); return ;;
+    --target) mapfile -t COMPREPLY < <(compgen -W 'x86_64-unknown-linux-gnu x86_64-pc-windows-msvc x86_64-apple-darwin aarch64-apple-darwin wasm32-unknown-unknown' -- "$word"); return ;;
     --write) mapfile -t COMPREPLY < <(compgen -d -- "$word"); return ;;
-    --target)
-        mapfile -t COMPREPLY < <(compgen -W 'x86_64-unknown-linux-gnu x86_64-pc-windows-msvc x86_64-apple-darwin \
-            aarch64-apple-darwin wasm32-unknown-unknown' -- "$word")
-        return ;;
     --depth | --fuel | --call | --cfg | --features | --extern) COMPREPLY=(); return ;;
     esac
     case $word in
-    -*)
-        mapfile -t COMPREPLY < <(compgen -W \
-            '--once --depth --fuel --call --write --no-modules --extern --edition --cfg --features --target --test --trace --origin --explain --lint --json --help --version' -- "$word")
-        ;;
+    -*) mapfile -t COMPREPLY < <(compgen -W '--once --depth --fuel --call --no-modules --extern --write --edition --cfg --features --target --test --trace --origin --explain --lint --json --help --version -h -V' -- "$word") ;;
     *) mapfile -t COMPREPLY < <(compgen -f -X '!*.rs' -- "$word"; compgen -d -- "$word") ;;
     esac
 }

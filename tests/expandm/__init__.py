@@ -28,7 +28,7 @@ def files_of(row):
 
 def objects(err):
     """The reports in JSON, an object in each line."""
-    return [json.loads(line) for line in err.splitlines()]
+    return [json.loads(line) for line in err.split("\n") if line]
 
 
 def shown(report):

@@ -1,4 +1,4 @@
-"""What attributes mean, as rustc 1.95 says, whom `tools/cfg-forms.py` asks: whether what they are on is compiled, under
+"""What attributes mean, as rustc 1.95 says, whom `tools/rustc/cfg-forms.py` asks: whether what they are on is compiled, under
 `--cfg yes --cfg 'mode="fast"' --features std`, and the options of targets.
 """
 from expandm import defined

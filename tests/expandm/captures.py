@@ -35,9 +35,45 @@ ROWS = (
         "m!(a);",
         "0:46 `a` keeps its name, since this may be the one that a macro binds; 0:36 `a` is bound here; ",
     ),
+    # A string of the template's own: what it names is the local, however often and however its brace is written.
+    (
+        'm { ($x:expr) => { let a = 1; f!("{a} {a:?} {:a$}", $x) } }',
+        "m!(a);",
+        "0:46 `a` keeps its name, since this may be the one that a macro binds; 0:36 `a` is bound here; ",
+    ),
+    (
+        r'm { ($x:expr) => { let a = 1; f!("\u{7b}a}", $x) } }',
+        "m!(a);",
+        "0:46 `a` keeps its name, since this may be the one that a macro binds; 0:36 `a` is bound here; ",
+    ),
+    (
+        r'm { ($x:expr) => { let a = 1; f!("\x7ba}", $x) } }',
+        'm!(f!("{a}"));',
+        "0:46 `a` keeps its name, since this may be the one that a macro binds; 0:36 `a` is bound here; ",
+    ),
+    ('m { ($x:expr) => { let a = 1; f!("a {}a a", $x) + a } }', "m!(a);", ""),
+    ('m { ($x:expr) => { let a = 1; f!("{a}", $x) } }', "m!(b);", ""),
     ("m { ($x:expr) => { let a = 1; S { a } + $x } }", "m!(b);", ""),
     ("m { ($x:expr) => { fn f(a: u8) { a } $x } }", "m!(a);", ""),
 )
+
+# Strings that name `a` if they are formats, and strings that don't.
+STRINGS = (
+    '"{a}"',
+    '"{a:?}"',
+    '"{:a$}"',
+    '"{:>a$}"',
+    '"{:0a$}"',
+    '"{b:.a$}"',
+    '"{b:c$.a$}"',
+    '"{b} {a}"',
+    'r#"{a}"#',
+    r'"\u{7b}a}"',
+    r'"\x7Ba}"',
+    r'"{:a\u{24}}"',
+    r'"{:a\x24}"',
+)
+OTHER_STRINGS = ('"a"', '"{}a"', '"{b}a{c}"', '"{ab} {ba} {a_1}"', '"{:?} a: {}"', r'"\u{61}a"', 'b"{a}"', "'a'")
 
 # A definition, what follows it, and what that becomes: locals and labels of the macro have names of their own where others have
 # theirs. Where the text has white space is the writer's choice.
@@ -83,6 +119,38 @@ RENAMED = (
         "macro_rules! n {\n    () => {\n        {\n            let b = 1;\n            a + b\n        }\n    }\n"
         "} y = {\n    let b = 1;\n    a + b\n};",
     ),
+    # A string has the names that the text of a format takes from around it.
+    *(
+        (
+            "m { ($x:tt) => {{ let a = 1; f!(a, $x) }} }",
+            f"y = m!({text});",
+            f"y = {{\n    let a_1 = 1;\n    f!(a_1, {text})\n}};",
+        )
+        for text in STRINGS
+    ),
+    *(
+        (
+            "m { ($x:tt) => {{ let a = 1; f!(a, $x) }} }",
+            f"y = m!({text});",
+            f"y = {{\n    let a = 1;\n    f!(a, {text})\n}};",
+        )
+        for text in OTHER_STRINGS
+    ),
+    (
+        "m { ($x:expr, $y:tt) => {{ let a = $x; f!(a, $y) }} }",
+        'y = m!(a, "{a_1} {b_2} {:a_3$}");',
+        'y = {\n    let a_2 = a;\n    f!(a_2, "{a_1} {b_2} {:a_3$}")\n};',
+    ),
+    (
+        'm { ($x:expr) => {{ let a = $x; f!(a, "{a_1}") }} }',
+        "y = m!(a);",
+        'y = {\n    let a_2 = a;\n    f!(a_2, "{a_1}")\n};',
+    ),
+    ("m { ($x:expr) => { let a = $x; } }", '{ m!(1); f!("{a}") }', '{ let a_1 = 1; f!("{a}") }'),
+    ("m { ($x:expr) => { let a = $x; } }", '{ m!(1); { f!("{:.a$}") } }', '{ let a_1 = 1; { f!("{:.a$}") } }'),
+    ("m { ($x:expr) => { let a = $x; } }", '{ m!(1); f!("{b} a") }', '{ let a = 1; f!("{b} a") }'),
+    ("m { ($x:expr) => { let a = $x; } }", '{ m!(1); #[doc = "{a}"] fn f() {} }', '{ let a = 1; #[doc = "{a}"] fn f() {} }'),
+    ("m { ($x:expr) => { { let a = $x; } } }", '{ m!(1); f!("{a}") }', '{ {\n    let a = 1;\n}; f!("{a}") }'),
     ("m { ($i:ident $j:ident) => {{ let $i = 1; $j }} }", "y = m!(a a);", "y = {\n    let a = 1;\n    a\n};"),
 )
 

@@ -27,15 +27,15 @@ ROWS = (
     (
         "--features c,b a.rs",
         '#[cfg(feature = "b")] m!(); #[cfg(feature = "d")] m!();',
-        '#[cfg(feature = "b")] 2; #[cfg(feature = "d")] m!();',
+        '2; #[cfg(feature = "d")] m!();',
         0,
     ),
     ("a.rs", "fn f() { #[cfg(b)] let a = m!(); m!() }", "fn f() { #[cfg(b)] let a = m!(); 2 }", 0),
     ("a.rs", "match x { #[cfg(b)] A { c } => m!(), D => m!() }", "match x { #[cfg(b)] A { c } => m!(), D => 2 }", 0),
     ("a.rs", "mod a { #![cfg(b)] y = m!(); } m!();", "mod a { #![cfg(b)] y = m!(); } 2;", 0),
-    ("a.rs", "#[cfg_attr(b, cfg(c))] m!();", "#[cfg_attr(b, cfg(c))] 2;", 0),
+    ("a.rs", "#[cfg_attr(b, cfg(c))] m!();", "2;", 0),
     ("--cfg b a.rs", "#[cfg_attr(b, cfg(c))] m!();", "#[cfg_attr(b, cfg(c))] m!();", 0),
-    ("a.rs", "#[cfg(a b)] m!();", "#[cfg(a b)] 2;", 1),
+    ("a.rs", "#[cfg(a b)] m!();", "2;", 1),
 )
 
 

@@ -150,7 +150,7 @@ STEPS = (
 # take four.
 REPORTS = (
     (
-        "--explain 2:13 a.rs",
+        "--explain=2:13 a.rs",
         """\
 macro_rules! pair { ($k:ident => $v:expr) => {}; ($k:ident = $v:expr) => {}; }
 fn main() { pair!(a -> 1); pair!(b = 2 + 3); }
@@ -184,7 +184,7 @@ note: `=` in rule 2 of `pair!`
 """,
     ),
     (
-        "--explain 9 a.rs",
+        "--explain=9 a.rs",
         'macro_rules! m { (a) => {} }\n\tx("漢", m!(b));',
         """\
 error: unexpected token in input in the call of `m!`
@@ -199,7 +199,7 @@ error: unexpected token in input in the call of `m!`
 # Words, the file of the example, and the notes on it.
 NOTES = (
     (
-        "--explain 3 a.rs",
+        "--explain=3 a.rs",
         """\
 macro_rules! pair { ($k:ident => $v:expr) => {}; ($k:ident = $v:expr) => {}; }
 fn main() { pair!(a -> 1); pair!(b = 2 + 3); }
@@ -207,7 +207,7 @@ fn main() { pair!(a -> 1); pair!(b = 2 + 3); }
         "",
     ),
     (
-        "--explain 2:28 a.rs",
+        "--explain=2:28 a.rs",
         """\
 macro_rules! pair { ($k:ident => $v:expr) => {}; ($k:ident = $v:expr) => {}; }
 fn main() { pair!(a -> 1); pair!(b = 2 + 3); }
@@ -223,7 +223,7 @@ fn main() { pair!(a -> 1); pair!(b = 2 + 3); }
 # Words, a file, and its objects. Where its lines end with carriage returns, too, bytes are those of the file as it is.
 OBJECTS = (
     (
-        "--explain 2 a.rs",
+        "--explain=2 a.rs",
         "macro_rules! m { (a) => {} }\r\nm!(b);",
         """\
 2:4 33..34 error: unexpected token in input in the call of `m!`
@@ -247,7 +247,7 @@ def tokens(said):
 def test(program):
     for row in ROWS:
         rules, call, want = row
-        err = reported(program, "--explain 2:1 a.rs", defined(rules, call))
+        err = reported(program, "--explain=2:1 a.rs", defined(rules, call))
         program.check("explained.ROWS", row, joined(notes(err)), want)
     for row in ORIGINS:
         rules, call, want = row

@@ -1,6 +1,6 @@
 """What a fragment is to rustc, which keeps it whole, and calls of macros that are built in. Worked out by hand, and by what rustc 1.95
-makes of such calls: `u8 < 1` after `as` begins generic arguments, `stringify!` shows no parentheses that the argument doesn't have,
-`concat!` takes none, and `line!()` and `column!()` are the place of the outermost call.
+makes of such calls: `u8 < 1` after `as` begins generic arguments, `-2.pow(2)` is -4 and `(-2).pow(2)` is 4, `stringify!` shows no
+parentheses that the argument doesn't have, `concat!` takes none, and `line!()` and `column!()` are the place of the outermost call.
 """
 from expandm import check_like
 
@@ -21,6 +21,78 @@ TYPES = (
     ),
     ("m { () => {} } macro n($x:ident, $t:ty) { $x as $t < 1 }", "x = n!(y, u8);", "x = y as (u8) < 1;"),
     ("m { ($t:ty) => { f::<$t>(0 as $t, 1 as $t + 2) } }", "x = m!(u8);", "x = f::<u8 >(0 as u8, 1 as u8 + 2);"),
+)
+
+# The same: a method is called on all of a negative literal, and on nothing else are parentheses needed.
+RECEIVERS = (
+    (
+        "m { ($e:expr, $l:literal) => { ($e.pow(2), $l.abs()) } }",
+        "x = m!(-2i32, -5.5f64);",
+        "x = ((-2i32).pow(2), (-5.5f64).abs());",
+    ),
+    ("m { ($e:expr_2021) => { $e.pow(2) } }", "x = m!(- 2);", "x = (- 2).pow(2);"),
+    (
+        "m { ($e:expr, $l:literal) => { $e.f($l.g()) } }",
+        "x = m!(2, 3.5); x = m!(a, true);",
+        "x = 2 .f(3.5 .g()); x = a.f(true.g());",
+    ),
+    (
+        "m { ($e:expr) => { $e.f() } }",
+        "x = m!(a::b); x = m!(a.b); x = m!(f(1)); x = m!(-a);",
+        "x = (a::b).f(); x = (a.b).f(); x = (f(1)).f(); x = (-a).f();",
+    ),
+    (
+        "m { ($e:expr) => { $e.f() } }",
+        "x = m!(1 - 2); x = m!((-2)); x = m!([-2]);",
+        "x = (1 - 2).f(); x = (-2).f(); x = [-2].f();",
+    ),
+    ("m { ($e:expr) => { ($e.0.x, $e.await, $e.f.g()) } }", "x = m!(a);", "x = (a.0.x, a.await, a.f.g());"),
+    # Nothing is in parentheses beside another operator.
+    (
+        "m { ($e:expr) => { ($e..2, $e..=2, $e.., 1 + $e, $e as u8, f($e)) } }",
+        "x = m!(-2);",
+        "x = (-2 ..2, -2 ..=2, -2 .., 1 + -2, -2 as u8, f(-2));",
+    ),
+    (
+        "m { ($($x:literal),*) => { [$($x.pow(2), $x),*] } }",
+        "x = m!(-1i32, 2i32);",
+        "x = [(-1i32).pow(2), -1i32, 2i32 .pow(2), 2i32];",
+    ),
+    # Through two macros, whose call may be the argument of one more.
+    (
+        "m { ($e:expr) => { n!($e) } } macro_rules! n { ($e:expr) => { $e.abs() } }",
+        "x = m!(-5); x = m!(m!(-5));",
+        "x = (-5).abs(); x = ((-5).abs()).abs();",
+    ),
+    ("m { ($e:expr) => { n!($e.f()) } } macro_rules! n { ($e:expr) => { $e.g() } }", "x = m!(-5);", "x = ((-5).f()).g();"),
+    # What another variable takes may begin with a `.`.
+    (
+        "m { ($e:expr; $($t:tt)*) => { $e $($t)* } }",
+        "x = m!(-2; .pow(2)); x = m!(-2; + 1); x = m!(-2; ..3);",
+        "x = (-2).pow(2); x = -2 + 1; x = -2 ..3;",
+    ),
+    ("m { ($e:expr; $d:tt $f:ident) => { $e $d $f } }", "x = m!(-2; .f); x = m!(-2; + f);", "x = (-2).f; x = -2 + f;"),
+    (
+        "m { ($e:expr) => { (stringify!($e.pow(2)), concat!(stringify!($e.f()))) } }",
+        "x = m!(-2);",
+        "x = (stringify!(-2 .pow(2)), concat!(stringify!(-2 .f())));",
+    ),
+    (
+        "m { () => {} } macro n($e:expr) { $e.f() } macro k { ($e:expr) => { $e.f() } }",
+        "x = n!(-2); x = k!(-2);",
+        "x = (-2).f(); x = (-2).f();",
+    ),
+    # The variables of an inner definition are its own.
+    (
+        "m { ($e:expr) => { macro_rules! n { ($f:expr) => { $f.f($e.g()) } } } }",
+        "m!(-1); x = n!(-2);",
+        "macro_rules! n {\n    ($f:expr) => {\n        $f.f((-1).g())\n    }\n} x = (-2).f((-1).g());",
+    ),
+    (
+        "m { ($e:expr) => { macro_rules! n { ($$e:expr) => { $$e.f($e) } } } }",
+        "m!(-1); x = n!(-2);",
+        "macro_rules! n {\n    ($e:expr) => {\n        $e.f(-1)\n    }\n} x = (-2).f(-1);",
+    ),
 )
 
 # The same.
@@ -49,4 +121,5 @@ BUILTINS = (
 
 def test(program):
     check_like(program, "fragments.TYPES", TYPES)
+    check_like(program, "fragments.RECEIVERS", RECEIVERS)
     check_like(program, "fragments.BUILTINS", BUILTINS)

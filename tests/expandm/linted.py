@@ -1,5 +1,5 @@
 """What is said of definitions alone. Where a row's messages are errors, rustc 1.95 reports them with these words at these places, but
-for its `is followed by`; the specifiers that are similar are those that it names for fields of these names: tools/lint-rows.py asks
+for its `is followed by`; the specifiers that are similar are those that it names for fields of these names: tools/rustc/lint-rows.py asks
 it. The rest was worked out by hand.
 """
 import re

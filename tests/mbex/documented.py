@@ -32,7 +32,7 @@ ERRORS = (
     ),
 )
 
-# Calls on which rustc says something else; tools/beside-rustc.py runs them on rustc.
+# Calls on which rustc says something else; tools/rustc/documented.py runs them on rustc.
 BESIDE_RUSTC = (
     ("($($l:lifetime)? 'a) => {X}", "'b 'a", "leftover tokens at 1@0..5", 0, "  IDENT   X 0@25..26\n"),
     ("(1) => {X}", '"1"', "", 0, "  IDENT   X 0@8..9\n"),

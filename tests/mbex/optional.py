@@ -1,10 +1,10 @@
 """What many optional parts take of memory: each that may be skipped is a position more, at each place."""
-import os
 import subprocess
+import sys
 import tempfile
 
 from mbex import ARG, DEF, printed
-from programs import write
+from programs import text_of, write
 
 # A part, with its number, and what a template writes of it; what an argument has of it, and what is printed of that, with its
 # bytes, the last before a blank; how many parts, and how many megabytes a run may hold. If what no position needs any more were
@@ -15,17 +15,22 @@ PARTS = (
 )
 
 
+# Runs a program in a process of its own and prints its status and how many kilobytes it held at most. A process that is started
+# counts what the one that starts it holds, so the tests can't start the program themselves.
+MEASURING = """import resource, subprocess, sys
+ran = subprocess.run(sys.argv[2:], stdout=open(sys.argv[1], "wb"), stderr=subprocess.STDOUT)
+print(ran.returncode, resource.getrusage(resource.RUSAGE_CHILDREN).ru_maxrss)"""
+
+
 def held(program, files, words):
     """How a run ended, what it printed, and how many megabytes it held at most."""
     with tempfile.TemporaryDirectory() as folder:
         for path, text in files.items():
             write(folder, path, text)
-        with open(os.path.join(folder, "printed"), "w+b") as out:
-            run = subprocess.Popen([program.path, *words], cwd=folder, stdout=out, stderr=subprocess.STDOUT)
-            _, status, used = os.wait4(run.pid, 0)
-            run.returncode = os.waitstatus_to_exitcode(status)
-            out.seek(0)
-            return (run.returncode, out.read().decode()), used.ru_maxrss // 1024
+        measuring = [sys.executable, "-c", MEASURING, "printed", program.path, *words]
+        ran = subprocess.run(measuring, cwd=folder, capture_output=True, check=True)
+        status, most = (int(word) for word in ran.stdout.split())
+        return (status, text_of(folder, "printed")), most // 1024
 
 
 def test(program):

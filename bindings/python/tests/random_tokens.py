@@ -1,4 +1,4 @@
-"""Random texts of an edition, each with what rustc makes of it, from `tools/rust-tokens.py`."""
+"""Random texts of an edition, each with what rustc makes of it, from `tools/rustc/rust-tokens.py`."""
 
 ROWS = {
     2018: [

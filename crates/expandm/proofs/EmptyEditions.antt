@@ -5,9 +5,11 @@ use Rattle.mbe_tt.specs.declared.span.Edition.{Edition}
 use Rattle.mbe_tt.specs.declared.span.SyntaxContext.{SyntaxContext}
 use Rattle.mbe_tt.specs.Trees.Tree.{Forest}
 use Rattle.mbe_semantics.specs.Syntax.Template.{Mode, Fault}
-use Rattle.mbe_parser.specs.Faults.Empty.{EmptyAt, here, in_group, in_repetition, after_token, after_variable, following_group}
-use Rattle.mbe_parser.specs.Faults.Empty.{after_repetition, RulesEmptyAt, in_rule, separated, RefusedAt, by_fault, by_empty}
-use Rattle.mbe_parser.specs.Faults.Empty.{OneRefusedAt, by_fault_of, by_empty_of}
+use Rattle.mbe_parser.specs.FaultLocator.RefusedRepetitions.{EmptyAt, here, in_group, in_repetition, after_token}
+use Rattle.mbe_parser.specs.FaultLocator.RefusedRepetitions.{after_variable, after_group}
+use Rattle.mbe_parser.specs.FaultLocator.RefusedRepetitions.{after_repetition, RulesEmptyAt, in_rule, separated}
+use Rattle.mbe_parser.specs.FaultLocator.RefusedRepetitions.{RefusedAt, by_fault, by_empty}
+use Rattle.mbe_parser.specs.FaultLocator.RefusedRepetitions.{OneRefusedAt, by_fault_of, by_empty_of}
 use Rattle.expandm.proofs.PlaceEditions.{ops_read, parts_read, rules_place, one_rule_place}
 
 module _ {A B : SyntaxContext → Edition → Type 0} (more : (c : SyntaxContext) (e : Edition) → A c e → B c e) where
@@ -20,8 +22,8 @@ module _ {A B : SyntaxContext → Edition → Type 0} (more : (c : SyntaxContext
   empty_read (after_token f rest o n e w) = after_token f rest o n e (empty_read w)
   empty_read (after_variable f rest name span specifier n e w) =
       after_variable f rest name span specifier n e (empty_read w)
-  empty_read (following_group f inside rest d body n e b is w) =
-      following_group f inside rest d body n e (ops_read more b) is (empty_read w)
+  empty_read (after_group f inside rest d body n e b is w) =
+      after_group f inside rest d body n e (ops_read more b) is (empty_read w)
   empty_read (after_repetition f inside rest separator repeat body n e b is w) =
       after_repetition f inside rest separator repeat body n e (ops_read more b) is (empty_read w)
 

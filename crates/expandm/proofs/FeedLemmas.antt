@@ -1,9 +1,10 @@
 -- Where the line feeds of a text are.
-use Rattle.std.proofs.Common.{◌≡◌, ◌≢◌, ℕ, zero, suc, ◌+◌, ◌-◌, ◌<◌, ◌≤◌, nat_eq, Bool, true, false, List, [], ◌∷◌, ◌++◌, length, take, get_or, count_by, cond, refl, ap, sym, ◌∙◌, arith, zero-add, subst}
+use Rattle.std.proofs.Common.{◌≡◌, ◌≢◌, ℕ, zero, suc, ◌+◌, ◌-◌, ◌<◌, ◌≤◌, nat_eq, Bool, true, false, List, [], ◌∷◌}
+use Rattle.std.proofs.Common.{◌++◌, length, take, get_or, count_by, cond, refl, ap, sym, ◌∙◌, arith, zero-add, subst}
 use Rattle.std.proofs.lemmas.Grind.{common_steps}
 use Rattle.std.proofs.lemmas.List.{length-take-le, take_more, append-nil}
 use Rattle.std.proofs.lemmas.List.Sums.{sum_by-cons}
-use Rattle.expandm.specs.Places.{is_feed, feeds_from}
+use Rattle.expandm.specs.Locations.{is_feed, feeds_from}
 
 -- a line feed of bytes that begin at that number
 abbrev pub IsFeed : ℕ → List ℕ → ℕ → Type 0
@@ -124,10 +125,10 @@ feeds_counted b (x ∷ xs) =
 feeds_taken : (text : List ℕ) (i x : ℕ) (t : Bool) → i < length text → x ≡ get_or text i 0 → is_feed x ≡ t
     → feeds_from 0 (take (i + 1) text) ≡ feeds_from 0 (take i text) ++ step t i []
 feeds_taken text i x t l e r =
-    let cut : length (take i text) ≡ i = length-take-le i text (omega (arith, l)) in
+    let split_at_column : length (take i text) ≡ i = length-take-le i text (omega (arith, l)) in
     ap (feeds_from 0) (take_more text i 0 l ∙ ap (λ y. take i text ++ y ∷ []) (sym e))
     ∙ feeds_append 0 (take i text) (x ∷ [])
-    ∙ ap (λ m. feeds_from 0 (take i text) ++ feeds_from m (x ∷ [])) (zero-add _ ∙ cut)
+    ∙ ap (λ m. feeds_from 0 (take i text) ++ feeds_from m (x ∷ [])) (zero-add _ ∙ split_at_column)
     ∙ ap (λ fs. feeds_from 0 (take i text) ++ fs) (feeds_cons i x [] ∙ ap (λ b. step b i (feeds_from (i + 1) [])) r
     ∙ ap (step t i) (feeds_none (i + 1)))
 

@@ -5,30 +5,30 @@ use Rattle.mbe_tt.specs.declared.span.Edition.{Edition}
 use Rattle.mbe_tt.specs.declared.span.SyntaxContext.{SyntaxContext}
 use Rattle.mbe_tt.specs.Trees.Tree.{Forest}
 use Rattle.mbe_semantics.specs.Expansion.Macro.{Macro}
-use Rattle.mbe_calls.specs.Fronts.{Form, Rules, Body, Arguments, Defined}
+use Rattle.mbe_rewriter.specs.MacroItems.{DefinitionForm, Rules, Body, Arguments, MacroDefinition}
 use Rattle.mbe.proofs.EditionLemmas.{read_as, read_as_macro}
-use Rattle.mbe_expanding.specs.Scopes.{IsEdition}
-use Rattle.mbe_explaining.specs.Lints.Definitions.{definitions}
-use Rattle.mbe_explaining.specs.Lints.Lint.{Lint}
-use Rattle.mbe_explaining.specs.Lints.Lints.{IsReadIn, IsLinted, AreLinted}
+use Rattle.mbe_session.specs.Scopes.{IsEdition}
+use Rattle.mbe_diagnostics.specs.Lints.Definitions.{definitions}
+use Rattle.mbe_diagnostics.specs.Lints.Lint.{Lint}
+use Rattle.mbe_diagnostics.specs.Lints.Linter.{IsReadIn, IsLinted, AreLinted}
 use Rattle.expandm.proofs.RefusedEditions.{refused_read}
 
 module _ {A B : SyntaxContext → Edition → Type 0} (more : (c : SyntaxContext) (e : Edition) → A c e → B c e) where
-  read_in : (form : Form) (d : Defined) (m : Macro) → IsReadIn A form d m → IsReadIn B form d m
+  read_in : (form : DefinitionForm) (d : MacroDefinition) (m : Macro) → IsReadIn A form d m → IsReadIn B form d m
   read_in Rules d m h = read_as more d.rules m h
   read_in Body d m h = read_as_macro more None d.rules m h
   read_in (Arguments k pattern) d m h = read_as_macro more (Some pattern) d.rules m h
 
-  linted : (d : Defined) (before after : List Lint) → IsLinted A d before after → IsLinted B d before after
+  linted : (d : MacroDefinition) (before after : List Lint) → IsLinted A d before after → IsLinted B d before after
   linted d before after h = record {
     rules = h.rules;
     read = read_in d.form d h.rules h.read;
-    spot = h.spot;
+    location = h.location;
     refused = refused_read more h.refused;
     are = h.are;
   }
 
-  pub all_linted : (ds : List Defined) (before after : List Lint) → AreLinted A ds before after
+  pub all_linted : (ds : List MacroDefinition) (before after : List Lint) → AreLinted A ds before after
       → AreLinted B ds before after
   all_linted [] before after h = h
   all_linted (d ∷ ds) before after h =

@@ -4,12 +4,16 @@ use Rattle.mbe_tt.specs.declared.span.Edition.{Edition}
 use Rattle.mbe_tt.specs.declared.span.SyntaxContext.{SyntaxContext}
 use Rattle.mbe_tt.specs.Trees.Leaf.{Ident}
 use Rattle.mbe_tt.specs.Trees.Tree.{Forest}
-use Rattle.mbe_semantics.specs.declared.kinds.MetaVarKind.{MetaVarKind}
+use Rattle.mbe_semantics.specs.declared.fragment_kinds.MetaVarKind.{MetaVarKind}
 use Rattle.mbe_semantics.specs.Syntax.Op.{Ops}
 use Rattle.mbe_semantics.specs.Syntax.Template as ops
-use Rattle.mbe_semantics.specs.Syntax.Template.{Mode, pattern, template, Fault, Specifies, dated_pat, dated_expr, undated, Template}
+use Rattle.mbe_semantics.specs.Syntax.Template.{Mode, pattern, template, Fault, Specifies, dated_pat, dated_expr}
+use Rattle.mbe_semantics.specs.Syntax.Template.{undated, Template}
 use Rattle.mbe_semantics.specs.Syntax.Definition.{Rule, RuleTrees, AreParts}
-use Rattle.mbe_parser.specs.Faults.Places.{TemplateFaultAt, here, in_group, in_repetition, after_token, after_variable, following_group, after_repetition, RuleFaultAt, in_trees, in_pattern, in_template, RulesFaultAt, in_rule, unseparated, separated, OneRuleFaultAt}
+use Rattle.mbe_parser.specs.FaultLocator.FaultOffsets.{TemplateFaultAt, here, in_group, in_repetition, after_token}
+use Rattle.mbe_parser.specs.FaultLocator.FaultOffsets.{after_variable, after_group, after_repetition, RuleFaultAt}
+use Rattle.mbe_parser.specs.FaultLocator.FaultOffsets.{in_trees, in_pattern, in_template, RulesFaultAt, in_rule}
+use Rattle.mbe_parser.specs.FaultLocator.FaultOffsets.{unseparated, separated, OneRuleFaultAt}
 
 module _ {A B : SyntaxContext → Edition → Type 0} (more : (c : SyntaxContext) (e : Edition) → A c e → B c e) where
   specifies : {i : Ident} {kind : Option MetaVarKind} → Specifies A i kind → Specifies B i kind
@@ -36,8 +40,8 @@ module _ {A B : SyntaxContext → Edition → Type 0} (more : (c : SyntaxContext
   place_read (after_token f rest o n e w) = after_token f rest o n e (place_read w)
   place_read (after_variable f rest name span specifier n e w) =
       after_variable f rest name span specifier n e (place_read w)
-  place_read (following_group f inside rest d body n e b w) =
-      following_group f inside rest d body n e (ops_read b) (place_read w)
+  place_read (after_group f inside rest d body n e b w) =
+      after_group f inside rest d body n e (ops_read b) (place_read w)
   place_read (after_repetition f inside rest separator repeat body n e b w) =
       after_repetition f inside rest separator repeat body n e (ops_read b) (place_read w)
 

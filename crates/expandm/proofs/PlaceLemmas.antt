@@ -1,13 +1,17 @@
 -- Lines by the table of line feeds.
-use Rattle.std.proofs.Common.{◌≡◌, ◌≢◌, ◌⊎◌, ℕ, zero, suc, ◌+◌, ◌-◌, ◌<◌, ◌≤◌, true, false, List, [], ◌∷◌, ◌++◌, length, take, drop, get_or, count_by, refl, ap, sym, ◌∙◌, arith, inl, inr, subst, zero-add, length-append}
+use Rattle.std.proofs.Common.{◌≡◌, ◌≢◌, ◌⊎◌, ℕ, zero, suc, ◌+◌, ◌-◌, ◌<◌, ◌≤◌, true, false, List, [], ◌∷◌, ◌++◌, length}
+use Rattle.std.proofs.Common.{take, drop, get_or, count_by, refl, ap, sym, ◌∙◌, arith, inl, inr, subst, zero-add}
+use Rattle.std.proofs.Common.{length-append}
 use Rattle.std.specs.List.{slice_index, slice_range}
 use Rattle.std.specs.Str.{IsUtf8, IsCharBoundary}
 use Rattle.std.specs.List.Sorted.{IsPartitionPoint, IsPartitionedBy}
 use Rattle.std.proofs.lemmas.Bool.{cases_lt, ltb-true, ltb-false}
 use Rattle.std.proofs.lemmas.List.Sorted.{IsPartitionedBy-ltb, IsNonDecreasingBy-from_default}
-use Rattle.std.proofs.lemmas.List.{get_or-append-add, get_or_append_left, length-take-le, take-append-drop, get_or_default}
-use Rattle.std.proofs.lemmas.Str.{IsCharBoundary-start, IsCharBoundary-end, IsCharBoundary-before_ascii, IsCharBoundary-after_ascii}
-use Rattle.expandm.specs.Places.{is_feed, begins_character, feeds_from, start_of, end_of, AreBefore, IsPlace}
+use Rattle.std.proofs.lemmas.List.{get_or-append-add, get_or_append_left, length-take-le, take-append-drop}
+use Rattle.std.proofs.lemmas.List.{get_or_default}
+use Rattle.std.proofs.lemmas.Str.{IsCharBoundary-start, IsCharBoundary-end, IsCharBoundary-before_ascii}
+use Rattle.std.proofs.lemmas.Str.{IsCharBoundary-after_ascii}
+use Rattle.expandm.specs.Locations.{is_feed, begins_character, feeds_from, start_of, end_of, AreBefore, IsLocation}
 use Rattle.expandm.proofs.FeedLemmas.{feed_at, found_at, feeds_rise, feeds_append, feeds_counted}
 use Rattle.std.proofs.Math.Dec.{ltb}
 
@@ -140,21 +144,21 @@ before_length xs ys at n below above h =
 pub line_counted : (text : List ℕ) (at n : ℕ) → at ≤ length text → AreBefore (Feeds text) at n
     → n ≡ count_by is_feed (take at text)
 line_counted text at n l h =
-    let cut = length-take-le at text l in
+    let split_at_column = length-take-le at text l in
     let split : Feeds text ≡ feeds_from 0 (take at text) ++ feeds_from at (drop at text) =
     ap Feeds (sym (take-append-drop at text)) ∙ feeds_append 0 (take at text) (drop at text)
-    ∙ ap (λ m. feeds_from 0 (take at text) ++ feeds_from m (drop at text)) (zero-add _ ∙ cut) in
+    ∙ ap (λ m. feeds_from 0 (take at text) ++ feeds_from m (drop at text)) (zero-add _ ∙ split_at_column) in
     before_length (feeds_from 0 (take at text)) (feeds_from at (drop at text)) at n
-    (λ k m. omega (arith, (feed_at 0 (take at text) k m).1, cut))
+    (λ k m. omega (arith, (feed_at 0 (take at text) k m).1, split_at_column))
     (λ k m. (feed_at at (drop at text) k m).0)
     (let P : List ℕ → Type 0 = λ fs. AreBefore fs at n in subst P split h)
     ∙ feeds_counted 0 (take at text)
 
 pub place_found : (text fs : List ℕ) (at n : ℕ) → fs ≡ feeds_from 0 text → at ≤ length text → AreBefore fs at n
-    → IsPlace text at (n + 1) (count_by begins_character (slice_range text (start_of fs n) at) + 1)
+    → IsLocation text at (n + 1) (count_by begins_character (slice_range text (start_of fs n) at) + 1)
     (slice_range text (start_of fs n) (end_of fs n (length text)))
 place_found text fs at n e l h = let P : List ℕ → Type 0 = λ gs. AreBefore gs at n
-    → IsPlace text at (n + 1) (count_by begins_character (slice_range text (start_of gs n) at) + 1)
+    → IsLocation text at (n + 1) (count_by begins_character (slice_range text (start_of gs n) at) + 1)
     (slice_range text (start_of gs n) (end_of gs n (length text))) in
     subst P (sym e) (λ b. record {
       start = start_of (Feeds text) n;
@@ -194,11 +198,12 @@ parted text fs at e = let P : List ℕ → Type 0 = λ gs. IsPartitionedBy (λ y
     subst P (sym e) (IsPartitionedBy-ltb (λ y. y) (Feeds text) at (IsNonDecreasingBy-from_default (λ y. y)
     (Feeds text) 0 (feeds_rise 0 text)))
 
-pub placed : (text fs shown : List ℕ) (at n start end columns : ℕ) → fs ≡ feeds_from 0 text → at ≤ length text
+pub original_parts : (text fs shown : List ℕ) (at n start end columns : ℕ) → fs ≡ feeds_from 0 text → at ≤ length text
     → AreBefore fs at n → start ≡ start_of fs n → end ≡ end_of fs n (length text)
     → columns ≡ count_by begins_character (slice_range text start at) → shown ≡ slice_range text start end
-    → IsPlace text at (n + 1) (columns + 1) shown
-placed text fs shown at n start end columns e l h s t c r = rw r (rw c (rw t (rw s (place_found text fs at n e l h))))
+    → IsLocation text at (n + 1) (columns + 1) shown
+original_parts text fs shown at n start end columns e l h s t c r =
+    rw r (rw c (rw t (rw s (place_found text fs at n e l h))))
 
 pub feed_short : (text fs : List ℕ) (k d : ℕ) → fs ≡ feeds_from 0 text → k < length fs → get_or fs k d < length text
 feed_short text fs k d e = let P : List ℕ → Type 0 = λ gs. k < length gs → get_or gs k d < length text in

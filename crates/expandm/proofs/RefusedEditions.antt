@@ -5,14 +5,15 @@ use Rattle.mbe_tt.specs.declared.span.Span.{Span}
 use Rattle.mbe_tt.specs.declared.span.SyntaxContext.{SyntaxContext}
 use Rattle.mbe_tt.specs.Trees.Tree.{Forest}
 use Rattle.mbe_semantics.specs.Expansion.Macro.{Macro}
-use Rattle.mbe_calls.specs.Fronts.{Form}
+use Rattle.mbe_rewriter.specs.MacroItems.{DefinitionForm}
 use Rattle.expandm.proofs.EmptyEditions.{refused_place, one_refused_place}
-use Rattle.mbe_explaining.specs.declared.lints.spot.Spot.{Spot}
-use Rattle.mbe_explaining.specs.Lints.Refused.{RefusedAt, not_refused, in_rules, in_body, in_part}
+use Rattle.mbe_diagnostics.specs.declared.lints.error_location.ErrorLocation.{ErrorLocation}
+use Rattle.mbe_diagnostics.specs.Lints.ErrorLocation.{RefusedAt, not_refused, in_rules, in_body, in_part}
 
 pub refused_read : {A B : SyntaxContext → Edition → Type 0}
     (more : (c : SyntaxContext) (e : Edition) → A c e → B c e) {close : Span} {rules : Forest} {m : Macro}
-    {form : Form} {spot : Option Spot} → RefusedAt A close rules m form spot → RefusedAt B close rules m form spot
+    {form : DefinitionForm} {location : Option ErrorLocation} → RefusedAt A close rules m form location
+    → RefusedAt B close rules m form location
 refused_read more (not_refused form e) = not_refused form e
 refused_read more (in_rules why rule n e w) = in_rules why rule n e (refused_place more w)
 refused_read more (in_body why rule n e w) = in_body why rule n e (refused_place more w)

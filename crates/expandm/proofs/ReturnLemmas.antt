@@ -1,5 +1,7 @@
 -- Carriage returns that are taken out and put in, and what a search finds among the places where they were.
-use Rattle.std.proofs.Common.{◌≡◌, ℕ, zero, suc, ◌+◌, ◌-◌, ◌<◌, ◌≤◌, Bool, true, false, List, [], ◌∷◌, ◌++◌, length, map, take, drop, get_or, count_by, nat_lt, cond, Bor, length-append, refl, ap, sym, ◌∙◌, arith, inl, inr, subst, Some, None, Result, Ok, Err}
+use Rattle.std.proofs.Common.{◌≡◌, ℕ, zero, suc, ◌+◌, ◌-◌, ◌<◌, ◌≤◌, Bool, true, false, List, [], ◌∷◌, ◌++◌, length}
+use Rattle.std.proofs.Common.{map, take, drop, get_or, count_by, nat_lt, cond, Bor, length-append, refl, ap, sym, ◌∙◌}
+use Rattle.std.proofs.Common.{arith, inl, inr, subst, Some, None, Result, Ok, Err}
 use Rattle.std.specs.Prelude.{IfOk}
 use Rattle.std.specs.List.Sorted.{IsPartitionedBy}
 use Rattle.std.proofs.Math.Dec.{ltb}
@@ -11,16 +13,16 @@ use Rattle.std.proofs.lemmas.List.{append_assoc, append-nil, drop_more, take_mor
 use Rattle.std.proofs.lemmas.List.Sums.{sum_by-cons}
 use Rattle.std.specs.Str.Replace.{ReplacesMatches}
 use Rattle.std.specs.Str.Pattern.{FindsText, LacksTextAt}
-use Rattle.mbe_calls.specs.Splicing.{Part}
-use Rattle.expandm.specs.Places.{is_feed, AreBefore}
-use Rattle.expandm.specs.Returns.{Rises, ended_as, goes_with_feed, plain, returns_from, with_returns}
+use Rattle.mbe_rewriter.specs.Splice.{SplicedPart}
+use Rattle.expandm.specs.Locations.{is_feed, AreBefore}
+use Rattle.expandm.specs.LineEndings.{IsAscending, with_endings_of, is_crlf, normalized, returns_from, with_crlf}
 
 abbrev ends : List ℕ
 ends = 13 ∷ 10 ∷ []
 
 -- ---- taken out
 
-goes_is : (byte : ℕ) (rest : List ℕ) → goes_with_feed byte rest ≡ true
+goes_is : (byte : ℕ) (rest : List ℕ) → is_crlf byte rest ≡ true
     → (more : List ℕ) × (byte ∷ rest ≡ 13 ∷ 10 ∷ more)
 goes_is byte [] h = grind (arith, common_steps)
 goes_is byte (next ∷ more) h =
@@ -28,26 +30,26 @@ goes_is byte (next ∷ more) h =
     let second : next ≡ 10 = grind (arith, common_steps) in
     (more, rw first (rw second refl))
 
-lacks_front : (byte : ℕ) (rest : List ℕ) (t : Bool) → goes_with_feed byte rest ≡ t → LacksTextAt ends (byte ∷ rest) 0
+lacks_front : (byte : ℕ) (rest : List ℕ) (t : Bool) → is_crlf byte rest ≡ t → LacksTextAt ends (byte ∷ rest) 0
     → t ≡ false
 lacks_front byte rest false e lacks = refl
 lacks_front byte rest true e lacks = let g = goes_is byte rest e in absurd (lacks g.0 g.1)
 
-plain_kept : (byte : ℕ) (rest : List ℕ) → goes_with_feed byte rest ≡ false → plain (byte ∷ rest) ≡ byte ∷ plain rest
-unfolding plain
+plain_kept : (byte : ℕ) (rest : List ℕ) → is_crlf byte rest ≡ false → normalized (byte ∷ rest) ≡ byte ∷ normalized rest
+unfolding normalized
 plain_kept byte rest h = rw h refl
 
 plain_before : (a : ℕ) (s more : List ℕ) → ((i : ℕ) → i < a → LacksTextAt ends s i) → drop a s ≡ 13 ∷ 10 ∷ more
-    → plain s ≡ take a s ++ 10 ∷ plain more
-unfolding plain
-plain_before zero s more lacks e = ap plain e
+    → normalized s ≡ take a s ++ 10 ∷ normalized more
+unfolding normalized
+plain_before zero s more lacks e = ap normalized e
 plain_before (suc a) [] more lacks e = grind (arith, common_steps)
 plain_before (suc a) (byte ∷ s) more lacks e =
     plain_kept byte s (lacks_front byte s _ refl (lacks 0 (omega arith)))
     ∙ ap (λ x. byte ∷ x) (plain_before a s more (λ i h. lacks (suc i) (omega (arith, h))) e)
 
-plain_none : (s : List ℕ) → ((i : ℕ) → i ≤ length s → LacksTextAt ends s i) → plain s ≡ s
-unfolding plain
+plain_none : (s : List ℕ) → ((i : ℕ) → i ≤ length s → LacksTextAt ends s i) → normalized s ≡ s
+unfolding normalized
 plain_none [] lacks = refl
 plain_none (byte ∷ s) lacks =
     plain_kept byte s (lacks_front byte s _ refl (lacks 0 (omega arith)))
@@ -55,7 +57,8 @@ plain_none (byte ∷ s) lacks =
 
 -- what `replace` leaves
 pub taken_out : (n : ℕ) (s out : List ℕ) (p : Bor (List ℕ)) → p.now ≡ ends
-    → ReplacesMatches (λ (p : Bor (List ℕ)). FindsText p.now) (λ p q. q.now ≡ p.now) (10 ∷ []) n p s out → out ≡ plain s
+    → ReplacesMatches (λ (p : Bor (List ℕ)). FindsText p.now) (λ p q. q.now ≡ p.now) (10 ∷ []) n p s out → out
+    ≡ normalized s
 taken_out zero s out p e h = h.1 ∙ sym (plain_none s (subst (λ x. FindsText x s None) e h.0))
 taken_out (suc n) s out p e (a, b, q, rest, finds, keeps, on, is) =
     let found : FindsText ends s (Some (a, b)) = subst (λ x. FindsText x s (Some (a, b))) e finds in
@@ -69,7 +72,7 @@ taken_out (suc n) s out p e (a, b, q, rest, finds, keeps, on, is) =
 
 -- bytes that aren't gone through yet
 pub one_return : (text found all : List ℕ) (at : ℕ) → at < length text
-    → goes_with_feed (get_or text at 0) (drop (at + 1) text) ≡ true
+    → is_crlf (get_or text at 0) (drop (at + 1) text) ≡ true
     → found ++ returns_from (at - length found) (drop at text) ≡ all → length found ≤ at
     → (found ++ (at - length found) ∷ [])
     ++ returns_from (at + 1 - length (found ++ (at - length found) ∷ [])) (drop (at + 1) text) ≡ all
@@ -85,7 +88,7 @@ one_return text found all at h e is le =
     ∙ ap (λ xs. found ++ xs) (sym front) ∙ is
 
 pub no_return : (text found all : List ℕ) (at : ℕ) → at < length text
-    → goes_with_feed (get_or text at 0) (drop (at + 1) text) ≡ false
+    → is_crlf (get_or text at 0) (drop (at + 1) text) ≡ false
     → found ++ returns_from (at - length found) (drop at text) ≡ all → length found ≤ at
     → found ++ returns_from (at + 1 - length found) (drop (at + 1) text) ≡ all
 unfolding returns_from
@@ -109,7 +112,7 @@ return_at : (at : ℕ) (text : List ℕ) (k : ℕ) → k < length (returns_from 
     → at ≤ get_or (returns_from at text) k 0
 unfolding returns_from
 return_at at [] k h = absurd (omega (arith, h))
-return_at at (byte ∷ text) k h = return_by (goes_with_feed byte text) at text k (return_at at text)
+return_at at (byte ∷ text) k h = return_by (is_crlf byte text) at text k (return_at at text)
     (return_at (at + 1) text) h
   where
     return_by : (t : Bool) (at : ℕ) (text : List ℕ) (k : ℕ)
@@ -126,7 +129,7 @@ pub returns_rise : (at : ℕ) (text : List ℕ) (i j : ℕ) → i ≤ j → j < 
 unfolding returns_from
 returns_rise at [] i j le h = absurd (omega (arith, h))
 returns_rise at (byte ∷ text) i j le h =
-    rise_by (goes_with_feed byte text) at text i j (return_at at text) (returns_rise at text)
+    rise_by (is_crlf byte text) at text i j (return_at at text) (returns_rise at text)
     (returns_rise (at + 1) text) le h
   where
     rise_by : (t : Bool) (at : ℕ) (text : List ℕ) (i j : ℕ)
@@ -179,21 +182,21 @@ lacks_feed byte rest lacks = feed_by (is_feed byte) refl
     feed_by false e = e
     feed_by true e = let ten : byte ≡ 10 = grind (arith, common_steps) in absurd (lacks rest (rw ten refl))
 
-with_kept : (byte : ℕ) (rest : List ℕ) → is_feed byte ≡ false → with_returns (byte ∷ rest) ≡ byte ∷ with_returns rest
-unfolding with_returns
+with_kept : (byte : ℕ) (rest : List ℕ) → is_feed byte ≡ false → with_crlf (byte ∷ rest) ≡ byte ∷ with_crlf rest
+unfolding with_crlf
 with_kept byte rest h = rw h refl
 
 with_before : (a : ℕ) (s more : List ℕ) → ((i : ℕ) → i < a → LacksTextAt (10 ∷ []) s i) → drop a s ≡ 10 ∷ more
-    → with_returns s ≡ take a s ++ 13 ∷ 10 ∷ with_returns more
-unfolding with_returns
-with_before zero s more lacks e = ap with_returns e
+    → with_crlf s ≡ take a s ++ 13 ∷ 10 ∷ with_crlf more
+unfolding with_crlf
+with_before zero s more lacks e = ap with_crlf e
 with_before (suc a) [] more lacks e = grind (arith, common_steps)
 with_before (suc a) (byte ∷ s) more lacks e =
     with_kept byte s (lacks_feed byte s (lacks 0 (omega arith)))
     ∙ ap (λ x. byte ∷ x) (with_before a s more (λ i h. lacks (suc i) (omega (arith, h))) e)
 
-with_none : (s : List ℕ) → ((i : ℕ) → i ≤ length s → LacksTextAt (10 ∷ []) s i) → with_returns s ≡ s
-unfolding with_returns
+with_none : (s : List ℕ) → ((i : ℕ) → i ≤ length s → LacksTextAt (10 ∷ []) s i) → with_crlf s ≡ s
+unfolding with_crlf
 with_none [] lacks = refl
 with_none (byte ∷ s) lacks =
     with_kept byte s (lacks_feed byte s (lacks 0 (omega arith)))
@@ -201,7 +204,7 @@ with_none (byte ∷ s) lacks =
 
 pub put_in : (n : ℕ) (s out : List ℕ) (p : Bor (List ℕ)) → p.now ≡ 10 ∷ []
     → ReplacesMatches (λ (p : Bor (List ℕ)). FindsText p.now) (λ p q. q.now ≡ p.now) (13 ∷ 10 ∷ []) n p s out
-    → out ≡ with_returns s
+    → out ≡ with_crlf s
 put_in zero s out p e h = h.1 ∙ sym (with_none s (subst (λ x. FindsText x s None) e h.0))
 put_in (suc n) s out p e (a, b, q, rest, finds, keeps, on, is) =
     let found : FindsText (10 ∷ []) s (Some (a, b)) = subst (λ x. FindsText x s (Some (a, b))) e finds in
@@ -213,7 +216,7 @@ put_in (suc n) s out p e (a, b, q, rest, finds, keeps, on, is) =
 
 -- ---- the search in the places
 
-pub parted : (fs : List ℕ) (at : ℕ) → Rises fs → IsPartitionedBy (λ y. ltb y at) fs
+pub parted : (fs : List ℕ) (at : ℕ) → IsAscending fs → IsPartitionedBy (λ y. ltb y at) fs
 parted fs at h = IsPartitionedBy-ltb (λ y. y) fs at (IsNonDecreasingBy-from_default (λ y. y) fs 0 h)
 
 -- ---- results
@@ -223,12 +226,13 @@ pub ended_by : {X E : Type 0} (see : X → List ℕ) (r : Result X E) (returned 
     → p.now ≡ 10 ∷ []
     → IfOk r (λ x. (n : ℕ) × ReplacesMatches (λ (p : Bor (List ℕ)). FindsText p.now) (λ p q. q.now ≡ p.now)
     (13 ∷ 10 ∷ []) n p text (see x))
-    → IfOk r (λ x. see x ≡ ended_as returned text)
+    → IfOk r (λ x. see x ≡ with_endings_of returned text)
 ended_by see (Ok x) [] text p some e h = absurd (some refl)
 ended_by see (Ok x) (feed ∷ feeds) text p some e h = put_in h.0 text (see x) p e h.1
 ended_by see (Err x) returned text p some e h = h
 
-pub one_more_placed : {X : Type 0} (see : X → Part) (f : Part → Part) (items found more : List X) (new item : X) (i : ℕ)
+pub one_more_placed : {X : Type 0} (see : X → SplicedPart) (f : SplicedPart
+    → SplicedPart) (items found more : List X) (new item : X) (i : ℕ)
     → i < length items
     → item ≡ get_or items i item → more ≡ found ++ new ∷ [] → map see found ≡ map f (map see (take i items))
     → see new ≡ f (see item)

@@ -1,31 +1,32 @@
 -- Files one after another: what they are, and what they become.
-use Rattle.std.proofs.Common.{◌≡◌, ◌<◌, ◌≤◌, ◌+◌, ◌-◌, ℕ, Bool, List, [], ◌∷◌, ◌++◌, length, map, take, get_or, Option, Some, None, Result, true, false, inl, inr, refl, ap, sym, ◌∙◌, subst, arith}
+use Rattle.std.proofs.Common.{◌≡◌, ◌<◌, ◌≤◌, ◌+◌, ◌-◌, ℕ, Bool, List, [], ◌∷◌, ◌++◌, length, map, take, get_or, Option}
+use Rattle.std.proofs.Common.{Some, None, Result, true, false, inl, inr, refl, ap, sym, ◌∙◌, subst, arith}
 use Rattle.std.specs.Prelude.{IfSome}
 use Rattle.std.specs.List.{slice_get}
 use Rattle.std.proofs.lemmas.Grind.{common_steps}
 use Rattle.std.proofs.lemmas.Option.{slice_get-get_or}
 use Rattle.std.proofs.lemmas.List.{length-map, map-append, take_more}
-use Rattle.mbe_calls.specs.Splicing.{Part}
-use Rattle.mbe_expanding.specs.Calls.{Setting, State}
-use Rattle.mbe_expanding.specs.Scopes.{Scope}
-use Rattle.expandm.specs.declared.places.Position.{Position}
-use Rattle.expandm.specs.declared.reading.Reading.{Reading}
-use Rattle.mbe_grammar.specs.declared.tables.table.RuleTable.{RuleTable}
+use Rattle.mbe_rewriter.specs.Splice.{SplicedPart}
+use Rattle.mbe_session.specs.CallExpansion.{Setting, State}
+use Rattle.mbe_session.specs.Scopes.{Scope}
+use Rattle.expandm.specs.declared.locations.CallPosition.{CallPosition}
+use Rattle.expandm.specs.declared.source_settings.SourceSettings.{SourceSettings}
+use Rattle.mbe_grammar.specs.declared.tables.peg_table.RuleTable.{RuleTable}
 use Rattle.mbe_grammar.specs.Rust.Keywords.{rows, rust_keywords}
-use Rattle.mbe_grammar.specs.Rust.Starts.{rust_starts}
+use Rattle.mbe_grammar.specs.Rust.Starts.{rust_entry_rules}
 use Rattle.expandm.specs.Conditions.{Conditions, IsUnder}
-use Rattle.expandm.specs.Readings.{IsReading, IsRustTable}
-use Rattle.expandm.specs.Expansions as spec
-use Rattle.expandm.specs.Expansions.{DefinesCrates, IsThere, KnowsOthers, RootBecomes, TextsThere, WritesOne}
+use Rattle.expandm.specs.SourceSettings.{AreSourceSettings, IsRustTable}
+use Rattle.expandm.specs.FileExpansion as spec
+use Rattle.expandm.specs.FileExpansion.{DefinesCrates, IsAtPosition, LoadsExterns, RootExpands, ExpansionsAt, WritesOne}
 use Rattle.expandm.specs.Runs.{IsBegun, IsPrinted}
 use Rattle.expandm.specs.Sources as sources
 use Rattle.expandm.specs.Sources.{AreSources, IsSource, Source, Text, source_text}
 use Rattle.mbe_tt.specs.declared.span.Edition.{Edition}
 
 -- what is read by a table of Rust, as the words ask
-pub read_as_asked : (edition : Edition) (c : Conditions) (table : RuleTable) (r : Reading)
-    → rows table.keywords.now ≡ rust_keywords → table.starts ≡ rust_starts → table.edition ≡ edition
-    → r.edition ≡ edition → IsUnder c r.conditions → r.grammar ≡ table → IsReading edition c r
+pub read_as_asked : (edition : Edition) (c : Conditions) (table : RuleTable) (r : SourceSettings)
+    → rows table.keywords.now ≡ rust_keywords → table.starts ≡ rust_entry_rules → table.edition ≡ edition
+    → r.edition ≡ edition → IsUnder c r.conditions → r.grammar ≡ table → AreSourceSettings edition c r
 read_as_asked edition c table r keywords starts dated same under by = record {
   edition_is = same;
   is_rust = subst (IsRustTable edition) (sym by)
@@ -55,7 +56,7 @@ same_text x y p t =
     ap (λ q. let z : Text = record { path = q; text = x.text } in z) p
     ∙ ap (λ u. let z : Text = record { path = y.path; text = u } in z) t
 
-pub one_more_source : {X : Type 0} (see : X → Source) (r : Reading) (found more : List X) (new : X) (number : ℕ)
+pub one_more_source : {X : Type 0} (see : X → Source) (r : SourceSettings) (found more : List X) (new : X) (number : ℕ)
     → AreSources r (map see found) → number ≡ length found → more ≡ found ++ new ∷ []
     → IsSource r number (see new)
     → AreSources r (map see more)
@@ -66,30 +67,32 @@ one_more_source see r found more new number h n e one =
 
 -- ---- texts of calls
 
-pub more_there : {X : Type 0} (see : X → Part) (position : Position) (text : List ℕ) (items : List X) (item : X) (i : ℕ)
+pub more_there : {X : Type 0} (see : X → SplicedPart) (position : CallPosition) (text : List ℕ) (items : List X)
+    (item : X) (i : ℕ)
     (out more : List ℕ)
-    → i < length items → item ≡ get_or items i item → TextsThere position text (map see (take i items)) out
-    → IsThere position text (see item).start true → more ≡ out ++ ((see item).text ++ 10 ∷ [])
-    → TextsThere position text (map see (take (i + 1) items)) more
+    → i < length items → item ≡ get_or items i item → ExpansionsAt position text (map see (take i items)) out
+    → IsAtPosition position text (see item).start true → more ≡ out ++ ((see item).text ++ 10 ∷ [])
+    → ExpansionsAt position text (map see (take (i + 1) items)) more
 more_there see position text items item i out more h is before there e =
-    subst (λ parts. TextsThere position text parts more) (sym (map_taken see items item i h is))
-    (subst (TextsThere position text (map see (take i items) ++ see item ∷ [])) (sym e)
+    subst (λ parts. ExpansionsAt position text parts more) (sym (map_taken see items item i h is))
+    (subst (ExpansionsAt position text (map see (take i items) ++ see item ∷ [])) (sym e)
     (spec.one_there (map see (take i items)) (see item) out before there))
 
-pub none_there : {X : Type 0} (see : X → Part) (position : Position) (text : List ℕ) (items : List X) (item : X) (i : ℕ)
+pub none_there : {X : Type 0} (see : X → SplicedPart) (position : CallPosition) (text : List ℕ) (items : List X)
+    (item : X) (i : ℕ)
     (out : List ℕ)
-    → i < length items → item ≡ get_or items i item → TextsThere position text (map see (take i items)) out
-    → IsThere position text (see item).start false → TextsThere position text (map see (take (i + 1) items)) out
+    → i < length items → item ≡ get_or items i item → ExpansionsAt position text (map see (take i items)) out
+    → IsAtPosition position text (see item).start false → ExpansionsAt position text (map see (take (i + 1) items)) out
 none_there see position text items item i out h is before there =
-    subst (λ parts. TextsThere position text parts out) (sym (map_taken see items item i h is))
+    subst (λ parts. ExpansionsAt position text parts out) (sym (map_taken see items item i h is))
     (spec.one_elsewhere (map see (take i items)) (see item) out before there)
 
-pub nothing_there : (position : Position) (text out : List ℕ) → out ≡ [] → TextsThere position text [] out
-nothing_there position text out e = subst (TextsThere position text []) (sym e) spec.no_part
+pub nothing_there : (position : CallPosition) (text out : List ℕ) → out ≡ [] → ExpansionsAt position text [] out
+nothing_there position text out e = subst (ExpansionsAt position text []) (sym e) spec.no_part
 
 -- ---- runs begin with nothing
 
-pub no_source : {X : Type 0} (see : X → Source) (r : Reading) (found : List X) → found ≡ []
+pub no_source : {X : Type 0} (see : X → Source) (r : SourceSettings) (found : List X) → found ≡ []
     → AreSources r (map see found)
 no_source see r found is = subst (λ xs. AreSources r (map see xs)) (sym is) sources.no_file
 
@@ -103,17 +106,20 @@ is_there (x ∷ xs) n h e = some_is_none (sym (slice_get-get_or (x ∷ xs) n x h
     some_is_none e = grind (arith, common_steps)
 
 printed_by : {T E : Type 0} (edition : Edition) (c : Conditions) (depth : Option ℕ) (fuel : ℕ)
-    (call : Option Position) (follows : Bool) (given : ℕ) (others : List (List ℕ)) (texts : List Text)
+    (call : Option CallPosition) (with_modules : Bool) (root_count : ℕ) (extern_names : List (List ℕ))
+    (texts : List Text)
     (files : List Source)
     (e : Setting) (s t : State) (before after : Option (List ℕ)) (r : Result T E) (found : Option Source)
-    → IsBegun edition c depth fuel follows given others texts files e s → given - 1 < length files
-    → slice_get files (given - 1) ≡ found
+    → IsBegun edition c depth fuel with_modules root_count extern_names texts files e s → root_count - 1 < length files
+    → slice_get files (root_count - 1) ≡ found
     → IfSome found (λ root. WritesOne before after r
-    (λ out. RootBecomes e 1000 call follows files (given - 1) root s out t))
-    → WritesOne before after r (IsPrinted edition c depth fuel call follows given others texts)
-printed_by edition c depth fuel call follows given others texts files e s t before after r None begun within is last =
-    absurd (is_there files (given - 1) within is)
-printed_by edition c depth fuel call follows given others texts files e s t before after r (Some root) begun within is
+    (λ out. RootExpands e 1000 call with_modules files (root_count - 1) root s out t))
+    → WritesOne before after r (IsPrinted edition c depth fuel call with_modules root_count extern_names texts)
+printed_by edition c depth fuel call with_modules root_count extern_names texts files e s t before after r None begun
+    within is last =
+    absurd (is_there files (root_count - 1) within is)
+printed_by edition c depth fuel call with_modules root_count extern_names texts files e s t before after r (Some root)
+    begun within is
     last =
     elim last [
       | inl none ↦ inl none
@@ -127,7 +133,7 @@ printed_by edition c depth fuel call follows given others texts files e s t befo
           begins = begun;
           root = root;
           is_last = is;
-          becomes = one.1;
+          expands = one.1;
         },
         one.2,
       )
@@ -135,44 +141,47 @@ printed_by edition c depth fuel call follows given others texts files e s t befo
 
 -- Of values that are the same, as a call of `write_last` has them.
 pub printed : {T E : Type 0} (edition : Edition) (c : Conditions) (depth : Option ℕ) (fuel : ℕ)
-    (call asked : Option Position) (follows followed : Bool) (given n : ℕ) (others : List (List ℕ))
+    (call request : Option CallPosition) (with_modules followed : Bool) (root_count n : ℕ)
+    (extern_names : List (List ℕ))
     (texts : List Text)
     (files seen : List Source)
     (e : Setting) (s t : State) (before after : Option (List ℕ)) (r : Result T E)
-    → IsBegun edition c depth fuel follows given others texts files e s → 0 < given → given ≤ length texts
-    → asked ≡ call → followed ≡ follows → n ≡ given → seen ≡ files
+    → IsBegun edition c depth fuel with_modules root_count extern_names texts files e s → 0 < root_count
+    → root_count ≤ length texts
+    → request ≡ call → followed ≡ with_modules → n ≡ root_count → seen ≡ files
     → IfSome (slice_get seen (n - 1)) (λ root. WritesOne before after r
-    (λ out. RootBecomes e 1000 asked followed seen (n - 1) root s out t))
-    → WritesOne before after r (IsPrinted edition c depth fuel call follows given others texts)
-printed edition c depth fuel call asked follows followed given n others texts files seen e s t before after r begun
+    (λ out. RootExpands e 1000 request followed seen (n - 1) root s out t))
+    → WritesOne before after r (IsPrinted edition c depth fuel call with_modules root_count extern_names texts)
+printed edition c depth fuel call request with_modules followed root_count n extern_names texts files seen e s t before
+    after r begun
     some few same_call same_follows same_number same_files last =
-    let within : given - 1 < length files =
+    let within : root_count - 1 < length files =
     omega (arith, some, few, ap length begun.texts_are, length-map files source_text) in
-    let Last : Option Position → Bool → List Source → ℕ → Type 0 = λ k f fs m.
+    let Last : Option CallPosition → Bool → List Source → ℕ → Type 0 = λ k f fs m.
     IfSome (slice_get fs (m - 1)) (λ root. WritesOne before after r
-    (λ out. RootBecomes e 1000 k f fs (m - 1) root s out t)) in
-    printed_by edition c depth fuel call follows given others texts files e s t before after r
-    (slice_get files (given - 1)) begun within refl
-    (subst (λ m. Last call follows files m) same_number
-    (subst (λ fs. Last call follows fs n) same_files
+    (λ out. RootExpands e 1000 k f fs (m - 1) root s out t)) in
+    printed_by edition c depth fuel call with_modules root_count extern_names texts files e s t before after r
+    (slice_get files (root_count - 1)) begun within refl
+    (subst (λ m. Last call with_modules files m) same_number
+    (subst (λ fs. Last call with_modules fs n) same_files
     (subst (λ f. Last call f seen n) same_follows
     (subst (λ k. Last k followed seen n) same_call last))))
 
 -- ---- definitions, of values that are the same
 
-pub others_are : (e d : Edition) (follows : Bool) (fs gs : List Source) (n m : ℕ) (s t u : Scope)
-    (xs ys : List (List ℕ)) → e ≡ d → fs ≡ gs → n ≡ m → s ≡ t → xs ≡ ys → KnowsOthers e 1001 follows fs n s xs u
-    → KnowsOthers d 1001 follows gs m t ys u
-others_are e d follows fs gs n m s t u xs ys edition files number scope names h =
-    subst (λ x. KnowsOthers x 1001 follows gs m t ys u) edition
-    (subst (λ x. KnowsOthers e 1001 follows x m t ys u) files
-    (subst (λ x. KnowsOthers e 1001 follows fs x t ys u) number
-    (subst (λ x. KnowsOthers e 1001 follows fs n x ys u) scope
-    (subst (λ x. KnowsOthers e 1001 follows fs n s x u) names h))))
+pub others_are : (e d : Edition) (with_modules : Bool) (fs gs : List Source) (n m : ℕ) (s t u : Scope)
+    (xs ys : List (List ℕ)) → e ≡ d → fs ≡ gs → n ≡ m → s ≡ t → xs ≡ ys → LoadsExterns e 1001 with_modules fs n s xs u
+    → LoadsExterns d 1001 with_modules gs m t ys u
+others_are e d with_modules fs gs n m s t u xs ys edition files number scope names h =
+    subst (λ x. LoadsExterns x 1001 with_modules gs m t ys u) edition
+    (subst (λ x. LoadsExterns e 1001 with_modules x m t ys u) files
+    (subst (λ x. LoadsExterns e 1001 with_modules fs x t ys u) number
+    (subst (λ x. LoadsExterns e 1001 with_modules fs n x ys u) scope
+    (subst (λ x. LoadsExterns e 1001 with_modules fs n s x u) names h))))
 
-pub crates_are : (e d : Edition) (follows : Bool) (fs gs : List Source) (n m : ℕ) (s t : Scope) → e ≡ d → fs ≡ gs
-    → n ≡ m → DefinesCrates e 1001 follows fs s n t → DefinesCrates d 1001 follows gs s m t
-crates_are e d follows fs gs n m s t edition files number h =
-    subst (λ x. DefinesCrates x 1001 follows gs s m t) edition
-    (subst (λ x. DefinesCrates e 1001 follows x s m t) files
-    (subst (λ x. DefinesCrates e 1001 follows fs s x t) number h))
+pub crates_are : (e d : Edition) (with_modules : Bool) (fs gs : List Source) (n m : ℕ) (s t : Scope) → e ≡ d → fs ≡ gs
+    → n ≡ m → DefinesCrates e 1001 with_modules fs s n t → DefinesCrates d 1001 with_modules gs s m t
+crates_are e d with_modules fs gs n m s t edition files number h =
+    subst (λ x. DefinesCrates x 1001 with_modules gs s m t) edition
+    (subst (λ x. DefinesCrates e 1001 with_modules x s m t) files
+    (subst (λ x. DefinesCrates e 1001 with_modules fs s x t) number h))

@@ -1,14 +1,15 @@
 -- Exit statuses.
 use Rattle.std.specs.Prelude.{ℕ, Bool, true, false, if◌then◌else◌}
-use Rattle.mbe_expanding.specs.declared.notes.Level.{Level}
-use Rattle.mbe_expanding.specs.declared.notes.Level.TheVariants as levels
-use Rattle.mbe_expanding.specs.declared.notes.Note.{Note}
+use Rattle.mbe_session.specs.declared.notes.Level.{Level}
+use Rattle.mbe_session.specs.declared.notes.Level.TheVariants as levels
+use Rattle.mbe_session.specs.declared.notes.Note.{Note}
 
--- the status of a run that did or didn't write what it had to, with errors or without
+-- The exit status. `is_written` says whether the run wrote all of its output, `has_errors` whether
+-- it reported an error.
 abbrev pub status_of : Bool → Bool → ℕ
 status_of is_written has_errors = if is_written then (if has_errors then 1 else 0) else 2
 
--- whether a note is of an error
+-- Whether a note is an error.
 abbrev pub is_error_level : Level → Bool
 is_error_level levels.Error = true
 is_error_level levels.Note = false

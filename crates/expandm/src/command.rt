@@ -1,22 +1,26 @@
-// A run of the program: its words, its files, its standard output and error.
-use crate::arguments::{Asked, Options, USAGE, VERSION, read_words};
-use crate::files::SourceFile;
-use crate::linting::lint;
-use crate::messages::message;
-use crate::places::NOWHERE;
-use crate::progress::Progress;
-use crate::reached::{Reached, file_text};
-use crate::saying::{Form, add_lints, add_reports, error_text, form_of};
-use crate::sessions::{DONE, Named, Session, WRONG, print, write};
-use crate::targets::relative;
+// A run of the program: it parses the arguments, reads the files, and writes to standard output, to
+// standard error, and into the folder of `--write`.
+use crate::arguments::RunOptions;
+use crate::command_line::{Invocation, parse_arguments};
+use crate::emitter::{MessageFormat, add_diagnostics, add_lints, choose_format, error_text};
+use crate::file_writer::{write_conflict, write_text};
+use crate::input_files::{InputFiles, file_text};
+use crate::lint_run::lint;
+use crate::locations::NOWHERE;
+use crate::note_lines::message;
+use crate::output_paths::relative;
+use crate::progress::ProgressLine;
+use crate::sessions::{EXIT_FAILED, EXIT_OK, NamedText, Session, print, write};
+use crate::source_files::SourceFile;
 use mbe_cfg::files::paths::folder_of;
-use mbe_expanding::notes::Note;
+use mbe_session::notes::Note;
 use std::alloc::{AllocError, Global};
+use std::env;
 use std::io::{self, Read};
 use std::rt::{Env, Files};
-use std::{env, fs};
 
-/// Runs on the words after the program's name, and returns the exit status. It is known whether standard error is a terminal.
+/// Runs on the arguments of the program, and returns the exit status. `is_terminal` says whether
+/// standard error is a terminal.
 pub fn run_command<R: Env + Files + Input + Print + Eprint + AllocGlobal>(
     rt: &R,
     is_terminal: bool,
@@ -25,7 +29,7 @@ pub fn run_command<R: Env + Files + Input + Print + Eprint + AllocGlobal>(
         Ok(status) => status,
         Err(error) => {
             let _ = eprintln!(rt; "error: {error}");
-            WRONG
+            EXIT_FAILED
         }
     }
 }
@@ -34,41 +38,29 @@ fn run<R: Env + Files + Input + Print + Eprint + AllocGlobal>(
     rt: &R,
     is_terminal: bool,
 ) -> io::Result<u8> {
-    let mut words = Vec::new(rt.alloc());
-    for word in env::args(rt)?.skip(1) {
-        words.push(word)?;
+    let mut argv = Vec::new(rt.alloc());
+    for argument in env::args(rt)? {
+        argv.push(argument)?;
     }
-    match read_words(rt.alloc(), words.as_slice())? {
-        Asked::Run(options) => {
+    match parse_arguments(rt.alloc(), argv.as_slice())? {
+        Invocation::Run(options) => {
             let is_explained = options.explain.is_some() || options.is_lint;
             let is_colourless = is_colourless(rt);
-            let form = form_of(options.is_json, is_explained, is_terminal, is_colourless);
-            run_files(rt, &options, form, Progress::new(&options, is_terminal))
+            let form = choose_format(options.is_json, is_explained, is_terminal, is_colourless);
+            run_files(rt, &options, form, ProgressLine::new(&options, is_terminal))
         }
-        Asked::Help => {
-            println!(rt; "{USAGE}")?;
-            Ok(DONE)
+        Invocation::Text(text) => {
+            print!(rt; "{text}")?;
+            Ok(EXIT_OK)
         }
-        Asked::Version => {
-            println!(rt; "{VERSION}")?;
-            Ok(DONE)
-        }
-        Asked::Wrong(word) => {
-            eprintln!(rt; "error: unexpected argument `{word}`\n\n{USAGE}")?;
-            Ok(WRONG)
-        }
-        Asked::Missing(word) => {
-            eprintln!(rt; "error: a value is missing after `{word}`\n\n{USAGE}")?;
-            Ok(WRONG)
-        }
-        Asked::NoFile => {
-            eprintln!(rt; "error: no file is named\n\n{USAGE}")?;
-            Ok(WRONG)
+        Invocation::Refused(message) => {
+            eprintln!(rt; "{message}")?;
+            Ok(EXIT_FAILED)
         }
     }
 }
 
-// Whether `NO_COLOR` is set, and not empty.
+// Whether `NO_COLOR` is set to a text that isn't empty.
 fn is_colourless<R: Env + AllocGlobal>(rt: &R) -> bool {
     match env::var(rt, "NO_COLOR") {
         Ok(value) => !value.is_empty(),
@@ -76,14 +68,18 @@ fn is_colourless<R: Env + AllocGlobal>(rt: &R) -> bool {
     }
 }
 
-// Reports an error that is of no file's text.
-fn say_error<R: Eprint + AllocGlobal>(rt: &R, form: Option<Form>, message: &str) -> io::Result<()> {
+// Writes an error that belongs to no file.
+fn emit_error<R: Eprint + AllocGlobal>(
+    rt: &R,
+    form: Option<MessageFormat>,
+    message: &str,
+) -> io::Result<()> {
     let text = error_text(rt.alloc(), form, message)?;
     eprint!(rt; "{text}")
 }
 
-// The text of the file of that name, if it is shorter than 2^32 bytes.
-fn text_of<R: Files + Input + AllocGlobal>(rt: &R, name: &str) -> io::Result<String> {
+// Reads the file of that name, or standard input for `-`. A text of 2^32 bytes or more is an error.
+fn read_input<R: Files + Input + AllocGlobal>(rt: &R, name: &str) -> io::Result<String> {
     if name != "-" {
         return file_text(rt, name);
     }
@@ -94,47 +90,49 @@ fn text_of<R: Files + Input + AllocGlobal>(rt: &R, name: &str) -> io::Result<Str
     Ok(text)
 }
 
-// The files that the words name, and those of their modules; nothing, if one that is named can't be read.
-fn reached<R: Files + Input + Eprint + AllocGlobal>(
+// Reads the files that the arguments name, and the files of their modules. `None`, with an error
+// written, if a file that is named can't be read.
+fn input_files<R: Files + Input + Eprint + AllocGlobal>(
     rt: &R,
-    options: &Options<'_>,
-    form: Option<Form>,
-    progress: Progress,
-) -> io::Result<Option<Reached>> {
-    let mut reached = Reached::new(rt.alloc());
+    options: &RunOptions<'_>,
+    form: Option<MessageFormat>,
+    progress: ProgressLine,
+) -> io::Result<Option<InputFiles>> {
+    let mut input_files = InputFiles::new(rt.alloc());
     for name in &options.names {
-        match text_of(rt, *name) {
-            Ok(text) => reached.add_root(rt.alloc(), options, *name, text)?,
+        match read_input(rt, *name) {
+            Ok(text) => input_files.add_root(rt.alloc(), options, *name, text)?,
             Err(error) => {
                 let message = format!(in rt.alloc(); "couldn't read `{name}`: {error}")?;
-                say_error(rt, form, message.as_str())?;
+                emit_error(rt, form, message.as_str())?;
                 return Ok(None);
             }
         }
     }
-    if !add_externs(rt, options, form, &mut reached)? {
+    if !add_externs(rt, options, form, &mut input_files)? {
         return Ok(None);
     }
-    reached.follow(rt, options, progress)?;
+    input_files.load_modules(rt, options, progress)?;
     progress.clear(rt)?;
-    Ok(Some(reached))
+    Ok(Some(input_files))
 }
 
-// Adds the roots of the other crates; definitions alone don't need these. It returns whether all can be read.
+// Adds the roots of the external crates, which a run with `--lint` doesn't need. Returns whether
+// all can be read; else it has written an error.
 fn add_externs<R: Files + Eprint + AllocGlobal>(
     rt: &R,
-    options: &Options<'_>,
-    form: Option<Form>,
-    reached: &mut Reached,
+    options: &RunOptions<'_>,
+    form: Option<MessageFormat>,
+    input_files: &mut InputFiles,
 ) -> io::Result<bool> {
     if options.is_lint {
         return Ok(true);
     }
     for one in &options.externs {
-        if let Err(error) = reached.add_outside(rt, options, one.path) {
+        if let Err(error) = input_files.add_extern_root(rt, options, one.path) {
             let (name, path) = (one.name, one.path);
             let message = format!(in rt.alloc(); "couldn't read `{path}` for `{name}`: {error}")?;
-            say_error(rt, form, message.as_str())?;
+            emit_error(rt, form, message.as_str())?;
             return Ok(false);
         }
     }
@@ -143,14 +141,14 @@ fn add_externs<R: Files + Eprint + AllocGlobal>(
 
 fn run_files<R: Files + Input + Print + Eprint + AllocGlobal>(
     rt: &R,
-    options: &Options<'_>,
-    form: Option<Form>,
-    progress: Progress,
+    options: &RunOptions<'_>,
+    form: Option<MessageFormat>,
+    progress: ProgressLine,
 ) -> io::Result<u8> {
-    let Some(reached) = reached(rt, options, form, progress)? else {
-        return Ok(WRONG);
+    let Some(input_files) = input_files(rt, options, form, progress)? else {
+        return Ok(EXIT_FAILED);
     };
-    let texts = reached.texts.as_slice();
+    let texts = input_files.texts.as_slice();
     if options.is_lint {
         return lint_files(rt, options, form, texts);
     }
@@ -159,54 +157,57 @@ fn run_files<R: Files + Input + Print + Eprint + AllocGlobal>(
             let out = &mut io::writer(rt);
             let (session, written) = print(rt.alloc(), options, texts, out)?;
             written?;
-            ended(rt, form, &session, true)
+            finish(rt, form, &session, true)
         }
-        Some(folder) => write_files(rt, options, form, progress, &reached, folder),
+        Some(folder) => write_files(rt, options, form, progress, &input_files, folder),
     }
 }
 
-// Reports the notes of a run that did or didn't write what it had to, and returns its status.
-fn ended<R: Eprint + AllocGlobal>(
+// Reports the notes of a run, and returns its exit status. `is_written` says whether the run wrote
+// all of its output.
+fn finish<R: Eprint + AllocGlobal>(
     rt: &R,
-    form: Option<Form>,
+    form: Option<MessageFormat>,
     session: &Session<'_>,
     is_written: bool,
 ) -> io::Result<u8> {
-    report(rt, form, &session.files, &session.notes)?;
-    report(rt, form, &session.files, &session.expander.notes)?;
+    emit_notes(rt, form, &session.files, &session.notes)?;
+    emit_notes(rt, form, &session.files, &session.expander.notes)?;
     Ok(session.status(is_written))
 }
 
-// Reports what is said of the definitions of the files.
+// Reports the lints of the files' definitions, and returns the exit status.
 fn lint_files<R: Eprint + AllocGlobal>(
     rt: &R,
-    options: &Options<'_>,
-    form: Option<Form>,
-    texts: &[Named],
+    options: &RunOptions<'_>,
+    form: Option<MessageFormat>,
+    texts: &[NamedText],
 ) -> io::Result<u8> {
     let linted = lint(rt.alloc(), options, texts)?;
-    report(rt, form, &linted.files, &linted.notes)?;
-    let form = form.unwrap_or(Form::Text);
+    emit_notes(rt, form, &linted.files, &linted.notes)?;
+    let form = form.unwrap_or(MessageFormat::Text);
     let mut text = String::new(rt.alloc());
     add_lints(rt.alloc(), form, &linted.files, &linted.lints, &mut text)?;
     eprint!(rt; "{text}")?;
     Ok(linted.status())
 }
 
-// The name of a file without the folders that it is in.
-fn last_name(name: &str) -> &str {
+// Returns the last component of a path.
+fn file_name(name: &str) -> &str {
     name.rsplit_once('/').map_or(name, |(_, last)| last)
 }
 
-// Where a file is written, from a folder on: one that the words name under its own name without the folders that it is in; one of a
-// module where it is from the folder of the named file on. An error's text if it isn't below that.
+// Returns where a file is written, relative to the folder of `--write`. A file that the arguments
+// name, whose `root` is `None`, goes to its own name. A module's file keeps its path relative to
+// the folder of its root. The inner error is the text of a message: the module's file isn't below
+// that folder.
 fn target(
     alloc: Global,
     path: &str,
     root: Option<&str>,
 ) -> Result<Result<String, String>, AllocError> {
     let Some(root) = root else {
-        return Ok(Ok(String::from_str(alloc, last_name(path))?));
+        return Ok(Ok(String::from_str(alloc, file_name(path))?));
     };
     match relative(alloc, folder_of(root), path)? {
         Some(target) => Ok(Ok(target)),
@@ -223,21 +224,22 @@ fn is_among(targets: &[Option<String>], target: &str) -> bool {
     })
 }
 
-// Where the files are written, from that folder on, those of other crates nowhere; an error's text if one has no place, or two
-// have the same.
+// Returns where each file is written, relative to the folder; `None` for the files of external
+// crates. The inner error is the text of a message: a file has no such path, or two files have the
+// same.
 fn targets(
     alloc: Global,
-    reached: &Reached,
+    input_files: &InputFiles,
     folder: &str,
-    given: usize,
+    root_count: usize,
 ) -> Result<Result<Vec<Option<String>>, String>, AllocError> {
     let mut found: Vec<Option<String>> = Vec::new(alloc);
-    for number in 0..reached.texts.len() {
-        if !reached.is_own(number, given) {
+    for number in 0..input_files.texts.len() {
+        if !input_files.is_local(number, root_count) {
             found.push(None)?;
             continue;
         }
-        let (path, root) = reached.path(number).unwrap_or(("", None));
+        let (path, root) = input_files.path(number).unwrap_or(("", None));
         match target(alloc, path, root)? {
             Err(message) => return Ok(Err(message)),
             Ok(target) => {
@@ -253,38 +255,43 @@ fn targets(
     Ok(Ok(found))
 }
 
-// Writes a text there, in that folder. What folders there are on the way to it is made.
-fn write_text<R: Files + AllocGlobal>(
+// Returns what `targets` returns. The inner error may also say that a file there can't be
+// overwritten.
+fn safe_targets<R: Files + AllocGlobal>(
     rt: &R,
+    input_files: &InputFiles,
     folder: &str,
-    target: &str,
-    text: &str,
-) -> io::Result<()> {
-    let path = format!(in rt.alloc(); "{folder}/{target}")?;
-    if target.contains('/') {
-        fs::create_dir_all(rt, folder_of(path.as_str()))?;
+    root_count: usize,
+) -> io::Result<Result<Vec<Option<String>>, String>> {
+    let targets = match targets(rt.alloc(), input_files, folder, root_count)? {
+        Ok(targets) => targets,
+        Err(message) => return Ok(Err(message)),
+    };
+    match write_conflict(rt, folder, targets.as_slice(), input_files.texts.as_slice()) {
+        Ok(None) => Ok(Ok(targets)),
+        Ok(Some(message)) => Ok(Err(message)),
+        Err(error) => Ok(Err(format!(in rt.alloc(); "couldn't write into `{folder}`: {error}")?)),
     }
-    fs::write(rt, path.as_str(), text)
 }
 
-// Writes what each of the files becomes into that folder.
+// Writes the expansion of each file into the folder.
 fn write_files<R: Files + Eprint + AllocGlobal>(
     rt: &R,
-    options: &Options<'_>,
-    form: Option<Form>,
-    progress: Progress,
-    reached: &Reached,
+    options: &RunOptions<'_>,
+    form: Option<MessageFormat>,
+    progress: ProgressLine,
+    input_files: &InputFiles,
     folder: &str,
 ) -> io::Result<u8> {
-    let targets = match targets(rt.alloc(), reached, folder, options.names.len())? {
+    let targets = match safe_targets(rt, input_files, folder, options.names.len())? {
         Ok(targets) => targets,
         Err(message) => {
-            say_error(rt, form, message.as_str())?;
-            return Ok(WRONG);
+            emit_error(rt, form, message.as_str())?;
+            return Ok(EXIT_FAILED);
         }
     };
-    progress.show(rt, "files to expand", reached.texts.len())?;
-    let (session, written) = write(rt.alloc(), options, reached.texts.as_slice())?;
+    progress.show(rt, "files to expand", input_files.texts.len())?;
+    let (session, written) = write(rt.alloc(), options, input_files.texts.as_slice())?;
     progress.clear(rt)?;
     for (target, text) in targets.iter().zip(written.iter()) {
         let Some(target) = target else {
@@ -292,37 +299,37 @@ fn write_files<R: Files + Eprint + AllocGlobal>(
         };
         if let Err(error) = write_text(rt, folder, target.as_str(), text.as_str()) {
             let message = format!(in rt.alloc(); "couldn't write `{folder}/{target}`: {error}")?;
-            say_error(rt, form, message.as_str())?;
-            return ended(rt, form, &session, false);
+            emit_error(rt, form, message.as_str())?;
+            return finish(rt, form, &session, false);
         }
     }
-    ended(rt, form, &session, true)
+    finish(rt, form, &session, true)
 }
 
-// Writes the notes to standard error, in that form.
-fn report<R: Eprint + AllocGlobal>(
+// Writes the notes to standard error, in the form that is given.
+fn emit_notes<R: Eprint + AllocGlobal>(
     rt: &R,
-    form: Option<Form>,
+    form: Option<MessageFormat>,
     files: &[SourceFile<'_>],
     notes: &[Note],
 ) -> io::Result<()> {
     let Some(form) = form else {
-        return report_in_lines(rt, files, notes);
+        return emit_note_lines(rt, files, notes);
     };
     let mut text = String::new(rt.alloc());
-    add_reports(rt.alloc(), form, files, notes, &mut text)?;
+    add_diagnostics(rt.alloc(), form, files, notes, &mut text)?;
     eprint!(rt; "{text}")
 }
 
-// Writes the notes to standard error, each with its place and its message in one line.
-fn report_in_lines<R: Eprint + AllocGlobal>(
+// Writes the notes to standard error in the short form: position, message, line and caret.
+fn emit_note_lines<R: Eprint + AllocGlobal>(
     rt: &R,
     files: &[SourceFile<'_>],
     notes: &[Note],
 ) -> io::Result<()> {
     for note in notes {
         let (name, place) = match files.get(note.span.file as usize) {
-            Some(file) => (file.name, file.lines.place_of(note.span.start as usize)),
+            Some(file) => (file.name, file.lines.location_of(note.span.start as usize)),
             None => ("", NOWHERE),
         };
         let text = message(rt.alloc(), note, name, place)?;

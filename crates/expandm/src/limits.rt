@@ -1,8 +1,8 @@
-// The limit of depth that a file sets itself.
+// The limit of nested expansions that a file sets itself.
 use mbe_tt::tt::{Leaf, TokenTreesView};
 use std::alloc::Allocator;
 
-/// What `#![recursion_limit = "N"]` says, where it is among a file's trees.
+/// Returns `N` of the first `#![recursion_limit = "N"]` among a file's trees.
 pub fn recursion_limit<A: Allocator>(tokens: TokenTreesView<'_, A>) -> Option<u32> {
     let mut iter = tokens.iter();
     for _ in 0..tokens.flat_len() {
@@ -15,7 +15,7 @@ pub fn recursion_limit<A: Allocator>(tokens: TokenTreesView<'_, A>) -> Option<u3
     None
 }
 
-// What the attribute at the front says.
+// Returns the limit, if such an attribute is at the front.
 fn limit_at<A: Allocator>(tokens: TokenTreesView<'_, A>) -> Option<u32> {
     let mut iter = tokens.iter();
     iter.expect_char('#').ok()?;

@@ -1,30 +1,35 @@
-// Lines of a text. rustc takes a carriage return and a line feed for a line feed alone before it looks for tokens; so do these.
+// Lines of a text, and the mapping from the text without carriage returns back to the original.
+//
+// rustc reads a carriage return and a line feed as one line feed before it lexes. `Lines` does the
+// same: it keeps the text with each `\r\n` as `\n`, and where the carriage returns were. Spans are
+// bytes of that text; a replacement is mapped back to the original before it is spliced.
 ghost use Rattle.std.specs.Prelude.{◌≡◌, ◌≤◌, ◌<◌, ◌+◌, IfOk, drop, length, count_by, map, min};
 ghost use Rattle.std.specs.List.{slice_index};
 ghost use Rattle.std.specs.String.{string_bytes};
-ghost use Rattle.mbe_calls.specs.Replacements.{part_of};
-ghost use Rattle.expandm.specs.Places.{AreBefore, IsPlace, begins_character};
-ghost use Rattle.expandm.specs.Places.{end_of, feeds_from, start_of};
-ghost use Rattle.expandm.specs.Returns.{Rises, ended_as, goes_with_feed};
-ghost use Rattle.expandm.specs.Returns.{place_in_text, placed_part, plain, returns};
+ghost use Rattle.mbe_rewriter.specs.ReplacementViews.{part_of};
+ghost use Rattle.expandm.specs.Locations.{AreBefore, IsLocation, begins_character};
+ghost use Rattle.expandm.specs.Locations.{end_of, feeds_from, start_of};
+ghost use Rattle.expandm.specs.LineEndings.{IsAscending, with_endings_of, is_crlf};
+ghost use Rattle.expandm.specs.LineEndings.{original_offset, original_part, normalized, returns};
 
-use crate::places::Place;
-use mbe_calls::splicing::Replacement;
+use crate::locations::Location;
+use mbe_rewriter::splice::Replacement;
 use std::alloc::{AllocError, Allocator, Global};
 
 /// A text whose lines end with a line feed alone.
 #[derive(Drop)]
 pub struct Lines<A: Allocator = Global> {
     pub text: String<A>,
-    // The line feeds that had a carriage return before them, by bytes of `text`, in order.
+    // The line feeds that had a carriage return before them, as offsets of bytes in `text`,
+    // ascending.
     returns: Vec<usize, A>,
-    // All line feeds, by bytes of `text`.
+    // All line feeds, as offsets of bytes in `text`, ascending.
     feeds: Vec<usize, A>,
     ghost table: { feeds.items ≡ feeds_from 0 (string_bytes text) },
-    ghost rising: { Rises returns.items },
+    ghost ascending: { IsAscending returns.items },
 }
 
-// Where the line feeds of a text are.
+// Returns the offset of each line feed.
 #[tactic(auto, using(crate::proofs::FeedLemmas::one_more, crate::proofs::FeedLemmas::none_more, crate::proofs::FeedLemmas::feeds_none))]
 fn feeds_of<A: Allocator>(alloc: A, text: &str) -> Result<Vec<usize, A>, AllocError>
     ensures { IfOk result (λ v. v.items ≡ feeds_from 0 text.now) }
@@ -38,8 +43,8 @@ fn feeds_of<A: Allocator>(alloc: A, text: &str) -> Result<Vec<usize, A>, AllocEr
     Ok(feeds)
 }
 
-// How many characters begin in these bytes.
-fn characters(bytes: &[u8]) -> usize
+// Counts the characters that begin in these bytes.
+fn count_chars(bytes: &[u8]) -> usize
     ensures { result ≡ count_by begins_character bytes.now }
 {
     bytes
@@ -48,15 +53,16 @@ fn characters(bytes: &[u8]) -> usize
         .count()
 }
 
-// Whether a carriage return is there, right before a line feed.
+// Whether the byte at `at` is a carriage return with a line feed right after it.
 fn is_before_feed(bytes: &[u8], at: usize) -> bool
     requires { at < length bytes.now }
-    ensures { result ≡ goes_with_feed (slice_index bytes.now at) (drop (at + 1) bytes.now) }
+    ensures { result ≡ is_crlf (slice_index bytes.now at) (drop (at + 1) bytes.now) }
 {
     bytes[at] == b'\r' && bytes.get(at + 1) == Some(&b'\n')
 }
 
-// Where the line feeds that have a carriage return before them are, once these are taken out.
+// Returns the offsets of the line feeds that have a carriage return before them. The offsets are
+// those after the carriage returns are removed.
 #[tactic(auto, using(crate::proofs::ReturnLemmas::one_return, crate::proofs::ReturnLemmas::no_return, crate::proofs::ReturnLemmas::all_returns))]
 fn returns_of<A: Allocator>(alloc: A, text: &str) -> Result<Vec<usize, A>, AllocError>
     ensures { IfOk result (λ v. v.items ≡ returns text.now) }
@@ -71,9 +77,9 @@ fn returns_of<A: Allocator>(alloc: A, text: &str) -> Result<Vec<usize, A>, Alloc
 }
 
 impl<A: Allocator + Copy> Lines<A> {
-    /// The lines of that text.
+    /// Splits a text into lines. `AllocError` if out of memory.
     pub fn of(alloc: A, text: &str) -> Result<Lines<A>, AllocError>
-        ensures text { IfOk result (λ lines. string_bytes lines.text ≡ plain text.now) }
+        ensures text { IfOk result (λ lines. string_bytes lines.text ≡ normalized text.now) }
         ensures returns { IfOk result (λ lines. lines.returns.items ≡ returns text.now) }
     {
         let returns = returns_of(alloc, text)?;
@@ -86,9 +92,10 @@ impl<A: Allocator + Copy> Lines<A> {
         })
     }
 
-    /// Where a byte of the lines is in the text that they are of. A line's end is before its carriage return.
+    /// Maps an offset in `text` to the offset in the original. The end of a line maps to before its
+    /// carriage return.
     pub fn place(&self, at: usize) -> usize
-        ensures { result ≡ place_in_text self.now.returns.items at }
+        ensures { result ≡ original_offset self.now.returns.items at }
     {
         let before = self
             .returns
@@ -97,9 +104,10 @@ impl<A: Allocator + Copy> Lines<A> {
         at.saturating_add(before)
     }
 
-    // A text whose lines end as those of the text that the lines are of.
-    fn ended(&self, alloc: A, text: &str) -> Result<String<A>, AllocError>
-        ensures { IfOk result (λ s. string_bytes s ≡ ended_as self.now.returns.items text.now) }
+    // Returns a text with the line endings of the original.
+    fn restore_endings(&self, alloc: A, text: &str) -> Result<String<A>, AllocError>
+        ensures { IfOk result (λ s. string_bytes s
+            ≡ with_endings_of self.now.returns.items text.now) }
     {
         if self.returns.is_empty() {
             String::from_str(alloc, text)
@@ -108,40 +116,41 @@ impl<A: Allocator + Copy> Lines<A> {
         }
     }
 
-    // What replaces the same part of the text that the lines are of.
-    fn placed_one(
+    // Maps a replacement to one of the original.
+    fn original_one(
         &self,
         alloc: A,
         replacement: &Replacement<A>,
     ) -> Result<Replacement<A>, AllocError>
         ensures { IfOk result (λ r. part_of r
-            ≡ placed_part self.now.returns.items (part_of replacement.now)) }
+            ≡ original_part self.now.returns.items (part_of replacement.now)) }
     {
         Ok(Replacement {
             file: replacement.file,
             start: self.place(replacement.start),
             end: self.place(replacement.end),
-            text: self.ended(alloc, replacement.text.as_str())?,
+            text: self.restore_endings(alloc, replacement.text.as_str())?,
         })
     }
 
-    /// What replaces the same parts of the text that the lines are of. Lines of that end as those of the text.
-    pub fn placed(
+    /// Maps replacements in `text` to replacements in the original. Their texts get the line
+    /// endings of the original.
+    pub fn original_parts(
         &self,
         alloc: A,
         replacements: &[Replacement<A>],
     ) -> Result<Vec<Replacement<A>, A>, AllocError>
         ensures { IfOk result (λ v. map part_of v.items
-            ≡ map (placed_part self.now.returns.items) (map part_of replacements.now)) }
+            ≡ map (original_part self.now.returns.items) (map part_of replacements.now)) }
     {
-        let mut placed = Vec::new(alloc);
+        let mut original_parts = Vec::new(alloc);
         for replacement in replacements {
-            placed.push(self.placed_one(alloc, replacement)?)?;
+            original_parts.push(self.original_one(alloc, replacement)?)?;
         }
-        Ok(placed)
+        Ok(original_parts)
     }
 
-    // How many line feeds precede a byte.
+    // Counts the line feeds before a byte.
     fn before(&self, at: usize) -> usize
         ensures { AreBefore self.now.feeds.items at result }
     {
@@ -150,7 +159,7 @@ impl<A: Allocator + Copy> Lines<A> {
             .partition_point(|feed: &usize| -> bool { *feed < at })
     }
 
-    // Where the line begins that has so many line feeds before it.
+    // Returns where the line begins that has `before` line feeds before it.
     fn start(&self, before: usize) -> usize
         requires { before ≤ length self.now.feeds.items }
         ensures { result ≡ start_of self.now.feeds.items before }
@@ -161,7 +170,7 @@ impl<A: Allocator + Copy> Lines<A> {
         }
     }
 
-    // Where that line ends.
+    // Returns where the line ends that has `before` line feeds before it.
     fn end(&self, before: usize) -> usize
         ensures { let text = string_bytes self.now.text in
             result ≡ end_of self.now.feeds.items before (length text) }
@@ -169,19 +178,20 @@ impl<A: Allocator + Copy> Lines<A> {
         self.feeds.get(before).copied().unwrap_or(self.text.len())
     }
 
-    /// Where a byte of the text is; its end, if the byte is beyond.
-    pub fn place_of(&self, offset: usize) -> Place<'_>
+    /// Returns the line and the column of a byte of `text`. A byte beyond the end counts as the
+    /// end.
+    pub fn location_of(&self, offset: usize) -> Location<'_>
         ensures { let text = string_bytes self.now.text in
-            IsPlace text (min offset (length text)) result.line result.column result.text.now }
+            IsLocation text (min offset (length text)) result.line result.column result.text.now }
     {
         let text = self.text.as_str();
         let at = offset.min(text.len());
         let before = self.before(at);
         let start = self.start(before);
         let end = self.end(before);
-        Place {
+        Location {
             line: before + 1,
-            column: characters(&text.as_bytes()[start..at]) + 1,
+            column: count_chars(&text.as_bytes()[start..at]) + 1,
             text: &text[start..end],
         }
     }

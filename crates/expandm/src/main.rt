@@ -1,25 +1,30 @@
-// The program `expandm`, which expands the calls of macros that Rust files define: what its words ask for, a run from files to what is
-// printed, and what is said of them.
+// The program `expandm`: it expands the macro calls of Rust files, or lints their definitions.
+//
+// `arguments` parses the command line. `command` runs it: `input_files` reads the files, `sessions`
+// defines the macros and expands, `emitter` and `note_lines` write the diagnostics, and
+// `file_writer` writes files for `--write`.
 #![tactic(auto)]
 
 mod arguments;
 mod command;
-mod crates;
-mod expansions;
-mod files;
+mod command_line;
+mod crate_expander;
+mod dollar_crate;
+mod emitter;
+mod file_expansion;
+mod file_writer;
+mod input_files;
 mod limits;
 mod lines;
-mod linting;
-mod messages;
-mod modules;
-mod naming;
-mod places;
+mod lint_run;
+mod locations;
+mod module_files;
+mod note_lines;
+mod output_paths;
 mod progress;
-mod reached;
-mod reading;
-mod saying;
 mod sessions;
-mod targets;
+mod source_files;
+mod source_settings;
 
 use crate::command::run_command;
 use std::io::IsTerminal;

@@ -1,22 +1,24 @@
-// The line of progress on standard error: it is written over itself, and cleared at the end.
-use crate::arguments::Options;
+// The progress line on standard error. Each text overwrites the last, and the line is cleared at
+// the end.
+use crate::arguments::RunOptions;
 use std::io;
 
-/// Whether a run shows how far it is.
+/// Whether a run shows its progress.
 #[derive(Clone, Copy, Drop)]
-pub struct Progress {
+pub struct ProgressLine {
     is_shown: bool,
 }
 
-impl Progress {
-    /// It does where files are written and standard error is a terminal, so that nothing else is on the line.
-    pub fn new(options: &Options<'_>, is_terminal: bool) -> Progress {
-        Progress {
+impl ProgressLine {
+    /// Progress is shown if `--write` is given, standard error is a terminal, and diagnostics are
+    /// not in JSON. Nothing else is then on the line.
+    pub fn new(options: &RunOptions<'_>, is_terminal: bool) -> ProgressLine {
+        ProgressLine {
             is_shown: is_terminal && options.write.is_some() && !options.is_json,
         }
     }
 
-    /// Shows what is done now, and of how many files.
+    /// Shows what the run is doing, and the number of files.
     pub fn show<R: Eprint>(self, rt: &R, doing: &str, files: usize) -> io::Result<()> {
         if !self.is_shown {
             return Ok(());

@@ -1,12 +1,13 @@
 -- A call of checked rules has an answer: the rules are tried one after the other, as the program does.
-use Rattle.std.specs.Prelude.{◌≡◌, ◌≢◌, ◌<◌, ◌≤◌, ◌+◌, ◌-◌, ◌^◌, ◌⊎◌, ℕ, zero, suc, Bool, true, false, min, List, [], ◌∷◌, length, take, slice_get, Option, Some, None, is_some, IfSome, refl}
+use Rattle.std.specs.Prelude.{◌≡◌, ◌≢◌, ◌<◌, ◌≤◌, ◌+◌, ◌-◌, ◌^◌, ◌⊎◌, ℕ, zero, suc, Bool, true, false, min, List, []}
+use Rattle.std.specs.Prelude.{◌∷◌, length, take, slice_get, Option, Some, None, is_some, IfSome, refl}
 use Rattle.std.proofs.Common.{ap, sym, subst, ◌∙◌, arith, inl, inr}
 use Rattle.std.proofs.lemmas.Bool.{cases_lt, cases_Bool, true≢false}
 use Rattle.std.proofs.lemmas.Option.{none-some}
 use Rattle.mbe_tt.specs.declared.span.Span.{Span}
 use Rattle.mbe_tt.specs.Trees.Tree.{Forest}
 use Rattle.mbe_tt.specs.Trees.Top.{Top}
-use Rattle.mbe_tt.specs.Fragments.Grammar.{Grammar, IsLawful}
+use Rattle.mbe_tt.specs.Grammars.Grammar.{Grammar, IsLawful}
 use Rattle.mbe_semantics.specs.declared.macro_call_style.MacroCallStyle.{MacroCallStyle}
 use Rattle.mbe_semantics.specs.Syntax.Op.{Ops}
 use Rattle.mbe_semantics.specs.Syntax.Definition.{Rule}
@@ -14,29 +15,31 @@ use Rattle.mbe_semantics.specs.Syntax.Nullable.{Checked}
 use Rattle.mbe_semantics.specs.Readings.Item.{Items}
 use Rattle.mbe_semantics.specs.Readings.Input.{input_of}
 use Rattle.mbe_semantics.specs.Readings.Ambiguity.{Fits}
-use Rattle.mbe_semantics.specs.Readings.Verdict.{Verdict, one_reading, many_readings, ambiguous, stuck, IsVerdict, stop_of, unmatched}
-use Rattle.mbe_semantics.specs.Matching.Outline.{Outline}
+use Rattle.mbe_semantics.specs.Readings.Verdict.{Verdict, one_reading, many_readings, ambiguous, stuck, IsVerdict}
+use Rattle.mbe_semantics.specs.Readings.Verdict.{stop_of, unmatched}
+use Rattle.mbe_semantics.specs.Matching.ThreadModel.{ThreadModel}
 use Rattle.mbe_semantics.specs.Bindings.Account.{Commands, run}
 use Rattle.mbe_semantics.specs.Bindings.Environment.{Environment, environment_of, binding_total}
-use Rattle.mbe_semantics.specs.Writing.Substitution.{faults}
+use Rattle.mbe_semantics.specs.Transcription.Substitution.{faults}
 use Rattle.mbe_semantics.specs.Expansion.Error.{ExpandError, no_matching_rule}
 use Rattle.mbe_semantics.specs.Expansion.Expansion.{Applies, FirstThatApplies}
 use Rattle.mbe_semantics.specs.Expansion.Macro.{arm_of, empty_tree}
 use Rattle.mbe_semantics.specs.Expansion.Recovery.{IsStyledAt, HasStyle}
 use Rattle.mbe_laws.proofs.Matching.RunLemmas.{has_one_verdict}
 use Rattle.mbe_matcher.specs.Failures.{Notes, Reports}
-use Rattle.mbe_semantics.specs.Matching.Dots.{dots}
-use Rattle.mbe_semantics.specs.Matching.Settled.{first_width}
-use Rattle.mbe_matcher.specs.TwoEnds.{EndsFollow, follow_start, follow_next, first_moves, AreKeptNotes}
-use Rattle.mbe_matcher.proofs.KeptEnds.{kept_pass}
-use Rattle.mbe_matcher.proofs.StopPlaces.{goes_on}
-use Rattle.mbe_transcriber.specs.Faults.{first_fault}
+use Rattle.mbe_semantics.specs.Matching.States.{state_count}
+use Rattle.mbe_semantics.specs.Matching.Frontier.{first_width}
+use Rattle.mbe_matcher.specs.FirstAndLast.{EndsFollow, follow_start, follow_next, first_moves, AreModelNotes}
+use Rattle.mbe_matcher.proofs.KeptEnds.{model_pass}
+use Rattle.mbe_matcher.proofs.StopOffsets.{continues}
+use Rattle.mbe_transcriber.specs.TemplateFaults.{first_fault}
 use Rattle.mbe.specs.declared.expander.Nearness.{Nearness}
-use Rattle.mbe.specs.Recovering.{spans_of, IsUnfit, IsFaulty, FailsWith}
-use Rattle.mbe.specs.Choice.{AreChecked, is_nearer, IsNearness}
+use Rattle.mbe.specs.ClosestRule.{spans_of, IsMatchFailed, IsFaulty, FailsWith}
+use Rattle.mbe.specs.RuleChoice.{AreChecked, is_nearer, IsNearness}
 use Rattle.mbe.specs.OneAnswer.{IsAnswer, HasSomeSpan, HasAnswer}
 use Rattle.mbe.proofs.ChoiceLemmas.{NoneApplies, first_at, none_contained, none_more, contains_first}
-use Rattle.mbe.proofs.ClosestLemmas.{IsSoFar, so_far_start, so_far_skipped, so_far_first, so_far_kept, so_far_nearer, nearest, closest, no_style, at_place}
+use Rattle.mbe.proofs.ClosestLemmas.{IsSoFar, so_far_start, so_far_skipped, so_far_first, so_far_kept, so_far_nearer}
+use Rattle.mbe.proofs.ClosestLemmas.{nearest, closest, no_style, at_place}
 use Rattle.mbe.proofs.TriedLemmas.{unfit, faulty}
 use Rattle.mbe.proofs.AnswerOnce.{same_style}
 use Rattle.mbe.proofs.FaultsAgree.{first_some}
@@ -79,9 +82,9 @@ module _ (g : Grammar) (lawful : IsLawful g) (call_site : Span) (input : Top) wh
   -- ---- what a match notes
 
   module _ (pattern : Ops) (checked : Checked pattern) (v : Verdict) (right : IsVerdict g pattern input.1 v) where
-    kept_notes : (k q : ℕ) (os ps : List Outline) (before : Notes)
+    kept_notes : (k q : ℕ) (os ps : List ThreadModel) (before : Notes)
         → EndsFollow (input_of g input.1) pattern q os ps before → stop_of input.1 v ≤ q + k → q ≤ stop_of input.1 v
-        → (notes : Notes) × AreKeptNotes (input_of g input.1) pattern (stop_of input.1 v) notes
+        → (notes : Notes) × AreModelNotes (input_of g input.1) pattern (stop_of input.1 v) notes
     kept_notes zero q os ps before f far near =
         let same : q ≡ stop_of input.1 v = omega (arith, far, near) in
         (_, (os, ps, before, subst (λ p. EndsFollow (input_of g input.1) pattern p os ps before) same f, refl))
@@ -91,12 +94,12 @@ module _ (g : Grammar) (lawful : IsLawful g) (call_site : Span) (input : Top) wh
         (omega (arith, far, some)) within)
       where
         go : (q < stop_of input.1 v) ⊎ (stop_of input.1 v ≤ q)
-            → ((w : ℕ) → first_width (first_moves (input_of g input.1) (dots pattern) q os) ≡ Some w
+            → ((w : ℕ) → first_width (first_moves (input_of g input.1) (state_count pattern) q os) ≡ Some w
             → q + w ≤ stop_of input.1 v → 0 < w
-            → (notes : Notes) × AreKeptNotes (input_of g input.1) pattern (stop_of input.1 v) notes)
-            → (notes : Notes) × AreKeptNotes (input_of g input.1) pattern (stop_of input.1 v) notes
+            → (notes : Notes) × AreModelNotes (input_of g input.1) pattern (stop_of input.1 v) notes)
+            → (notes : Notes) × AreModelNotes (input_of g input.1) pattern (stop_of input.1 v) notes
         go (inl l) more =
-            let s = goes_on g pattern input.1 lawful checked v right q os ps before f l in
+            let s = continues g pattern input.1 lawful checked v right q os ps before f l in
             more s.width s.is s.within s.some
         go (inr l) more =
             let same : q ≡ stop_of input.1 v = omega (arith, l, near) in
@@ -109,7 +112,8 @@ module _ (g : Grammar) (lawful : IsLawful g) (call_site : Span) (input : Top) wh
           _,
           record {
             notes = notes;
-            noted = (kept_pass g pattern input.1 lawful checked v right (stop_of input.1 v) (omega arith) notes).1 kept;
+            error_at =
+                (model_pass g pattern input.1 lawful checked v right (stop_of input.1 v) (omega arith) notes).1 kept;
             error = refl;
             bindings = refl;
           },
@@ -126,7 +130,7 @@ module _ (g : Grammar) (lawful : IsLawful g) (call_site : Span) (input : Top) wh
   unfit_fails r checked v right many =
       let (err, bound, reports) = reports_exist r.reads checked v right in
       let env : Environment = run bound [] in
-      let u : IsUnfit g call_site input r err env =
+      let u : IsMatchFailed g call_site input r err env =
       record { verdict = v; judged = right; unfit = many; commands = bound; reported = reports; bound = refl } in
       let near : Nearness = record { unmatched = unmatched input.1 v; bound = min (binding_total env) (2 ^ 64 - 1) } in
       let both = unfit g call_site input r v right near refl err env many u refl in
@@ -173,8 +177,8 @@ module _ (g : Grammar) (lawful : IsLawful g) (call_site : Span) (input : Top) wh
         × FailsWith g call_site input r err env
 
     -- none of the first so many applies, and of these the nearest is known
-    abbrev Tried : ℕ → Type 0
-    Tried k = NoneApplies g style input.1 (take k rs) × (best : Option (ℕ × Nearness))
+    abbrev RuleOutcome : ℕ → Type 0
+    RuleOutcome k = NoneApplies g style input.1 (take k rs) × (best : Option (ℕ × Nearness))
         × IsSoFar g call_site input style rs k best × IfSome best IsKept
 
     own_style : (r : Rule) → r.style ≡ style → Applies g style input.1 r → Applies g r.style input.1 r
@@ -183,7 +187,7 @@ module _ (g : Grammar) (lawful : IsLawful g) (call_site : Span) (input : Top) wh
     nearer : (k : ℕ) (r : Rule) (here : slice_get rs k ≡ Some r) (own : r.style ≡ style)
         → NoneApplies g style input.1 (take k rs) → Fails r
         → (best : Option (ℕ × Nearness)) → IsSoFar g call_site input style rs k best → IfSome best IsKept
-        → Tried (k + 1)
+        → RuleOutcome (k + 1)
     nearer k r here own none (fails, near, is_near, err, env, why) None far kept = (
       none_more g style input.1 rs k r none here (λ a. fails (own_style r own a)),
       Some (k, near),
@@ -193,7 +197,7 @@ module _ (g : Grammar) (lawful : IsLawful g) (call_site : Span) (input : Top) wh
     nearer k r here own none (fails, near, is_near, err, env, why) (Some (n, b)) far kept =
         go (cases_Bool (is_nearer near b))
       where
-        go : (is_nearer near b ≡ true) ⊎ (is_nearer near b ≡ false) → Tried (k + 1)
+        go : (is_nearer near b ≡ true) ⊎ (is_nearer near b ≡ false) → RuleOutcome (k + 1)
         go (inl t) = (
           none_more g style input.1 rs k r none here (λ a. fails (own_style r own a)),
           Some (k, near),
@@ -207,10 +211,10 @@ module _ (g : Grammar) (lawful : IsLawful g) (call_site : Span) (input : Top) wh
           kept,
         )
 
-    step : (k : ℕ) (r : Rule) → slice_get rs k ≡ Some r → Tried k → Found ⊎ Tried (k + 1)
+    step : (k : ℕ) (r : Rule) → slice_get rs k ≡ Some r → RuleOutcome k → Found ⊎ RuleOutcome (k + 1)
     step k r here (none, best, far, kept) = go (same_style r.style style) (outcome r (all k r here))
       where
-        go : (r.style ≡ style) ⊎ (r.style ≢ style) → Applies g r.style input.1 r ⊎ Fails r → Found ⊎ Tried (k + 1)
+        go : (r.style ≡ style) ⊎ (r.style ≢ style) → Applies g r.style input.1 r ⊎ Fails r → Found ⊎ RuleOutcome (k + 1)
         go (inr other) h = inr (
           none_more g style input.1 rs k r none here (λ a. other a.styled),
           best,
@@ -223,15 +227,15 @@ module _ (g : Grammar) (lawful : IsLawful g) (call_site : Span) (input : Top) wh
             inl (k, r, b, first_at g style input.1 rs k r b none here)
         go (inl own) (inr fails) = inr (nearer k r here own none fails best far kept)
 
-    search_to : (k : ℕ) → k ≤ length rs → Found ⊎ Tried k
+    search_to : (k : ℕ) → k ≤ length rs → Found ⊎ RuleOutcome k
     search_to zero l = inr (tt, None, so_far_start g call_site input style rs, tt)
     search_to (suc k) l =
         let (r, here) = rule_at rs k (omega (arith, l)) in
         go r here (search_to k (omega (arith, l)))
       where
-        go : (r : Rule) → slice_get rs k ≡ Some r → Found ⊎ Tried k → Found ⊎ Tried (suc k)
+        go : (r : Rule) → slice_get rs k ≡ Some r → Found ⊎ RuleOutcome k → Found ⊎ RuleOutcome (suc k)
         go r here (inl found) = inl found
-        go r here (inr tried) = subst (λ m. Found ⊎ Tried m) (omega arith) (step k r here tried)
+        go r here (inr tried) = subst (λ m. Found ⊎ RuleOutcome m) (omega arith) (step k r here tried)
 
     module _ (Marks : Span → Span → Type 0) (some : HasSomeSpan Marks) where
       abbrev Answer : Type 0
@@ -255,7 +259,7 @@ module _ (g : Grammar) (lawful : IsLawful g) (call_site : Span) (input : Top) wh
             },
           )
 
-      recovered : Tried (length rs) → Answer
+      recovered : RuleOutcome (length rs) → Answer
       recovered (none, None, far, kept) =
           let nobody : HasStyle rs style → ⊥ = no_style g call_site input style rs (length rs) (omega arith) far in (
             empty_tree call_site,
@@ -286,7 +290,7 @@ module _ (g : Grammar) (lawful : IsLawful g) (call_site : Span) (input : Top) wh
                 no_rule = λ other. absurd (other (r, at_place rs n r at.0, at.1));
               };
               recovers = λ e x h. record {
-                place = n;
+                rule_index = n;
                 rule = r;
                 nearest = near_all;
                 named = refl;
@@ -295,7 +299,7 @@ module _ (g : Grammar) (lawful : IsLawful g) (call_site : Span) (input : Top) wh
             },
           )
 
-      answered : Found ⊎ Tried (length rs) → Answer
+      answered : Found ⊎ RuleOutcome (length rs) → Answer
       answered (inl found) = expanded found
       answered (inr tried) = recovered tried
 

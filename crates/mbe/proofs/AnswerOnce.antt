@@ -1,12 +1,13 @@
 -- A call has one answer: of the rules that apply the first, and else the closest, with one error and one tree.
-use Rattle.std.specs.Prelude.{◌≡◌, ◌≢◌, ◌⊎◌, ◌-◌, ◌^◌, ◌==◌, ℕ, zero, suc, Bool, true, false, min, List, [], ◌∷◌, slice_get, Contains, Option, Some, None, refl}
+use Rattle.std.specs.Prelude.{◌≡◌, ◌≢◌, ◌⊎◌, ◌-◌, ◌^◌, ◌==◌, ℕ, zero, suc, Bool, true, false, min, List, [], ◌∷◌}
+use Rattle.std.specs.Prelude.{slice_get, Contains, Option, Some, None, refl}
 use Rattle.std.proofs.Common.{ap, sym, subst, ◌∙◌, arith, inl, inr}
 use Rattle.std.proofs.lemmas.Bool.{true≢false}
 use Rattle.std.proofs.lemmas.Option.{same_Some}
 use Rattle.mbe_tt.specs.declared.span.Span.{Span}
 use Rattle.mbe_tt.specs.Trees.Tree.{Forest, flat_len}
 use Rattle.mbe_tt.specs.Trees.Top.{Top}
-use Rattle.mbe_tt.specs.Fragments.Grammar.{Grammar, IsLawful}
+use Rattle.mbe_tt.specs.Grammars.Grammar.{Grammar, IsLawful}
 use Rattle.mbe_semantics.specs.declared.macro_call_style.MacroCallStyle.{MacroCallStyle}
 use Rattle.mbe_semantics.specs.declared.macro_call_style.MacroCallStyle.TheVariants.{FnLike, Attr, Derive}
 use Rattle.mbe_semantics.specs.Syntax.Definition.{Rule}
@@ -17,15 +18,16 @@ use Rattle.mbe_semantics.specs.Bindings.Environment.{Environment, environment_of
 use Rattle.mbe_semantics.specs.Expansion.Error.{ExpandError}
 use Rattle.mbe_semantics.specs.Expansion.Expansion.{Applies, IsExpansion}
 use Rattle.mbe_semantics.specs.Expansion.Macro.{arm_of}
-use Rattle.mbe_semantics.specs.Expansion.Recovery.{HasStyle, GoesBefore}
+use Rattle.mbe_semantics.specs.Expansion.Recovery.{HasStyle, IsCloser}
 use Rattle.mbe_semantics.specs.Laws.Laws.{HasOneAnswer}
 use Rattle.mbe_semantics.proofs.InputLemmas.{lawful_inputs}
 use Rattle.mbe_laws.proofs.Matching.RunLemmas.{one_verdict}
 use Rattle.mbe_laws.proofs.Expansion.ExpansionLemmas.{one_expansion}
 use Rattle.mbe_matcher.specs.Failures.{Notes, AreNotes, Reports, error_of_notes, commands_of_notes}
-use Rattle.mbe_transcriber.specs.Faults.{first_fault}
-use Rattle.mbe_transcriber.specs.Beside.{IsWhatIsLeft}
-use Rattle.mbe.specs.Recovering.{spans_of, IsUnfit, IsFaulty, FailsWith, ComesNear, IsNearest, IsRecovered, IsRecovery}
+use Rattle.mbe_transcriber.specs.TemplateFaults.{first_fault}
+use Rattle.mbe_transcriber.specs.PartialExpansion.{IsPartialExpansion}
+use Rattle.mbe.specs.ClosestRule.{spans_of, IsMatchFailed, IsFaulty, FailsWith, ComesNear, IsNearest, IsRecovered}
+use Rattle.mbe.specs.ClosestRule.{IsRecovery}
 use Rattle.mbe.specs.OneAnswer.{OneAnswer}
 use Rattle.mbe.proofs.ChoiceLemmas.{contains_first}
 use Rattle.mbe.proofs.TriedLemmas.{fits_alone}
@@ -84,15 +86,15 @@ module _ (g : Grammar) (lawful : IsLawful g) (call_site : Span) (input : Top) wh
       let at : stop_of input.1 v ≡ stop_of input.1 w = ap (stop_of input.1) same in
       let notes : a.notes ≡ b.notes = notes_once (input_of g input.1) (flat_len input.1)
       (lawful_inputs g input.1 lawful) r.reads (stop_of input.1 w) a.notes b.notes
-      (subst (λ q. AreNotes (input_of g input.1) r.reads q a.notes) at a.noted) b.noted in (
+      (subst (λ q. AreNotes (input_of g input.1) r.reads q a.notes) at a.error_at) b.error_at in (
         a.error ∙ ap (λ q. error_of_notes g input.1 (spans_of input.0) (q == flat_len input.1) a.notes) at
             ∙ ap (error_of_notes g input.1 (spans_of input.0) (stop_of input.1 w == flat_len input.1)) notes
             ∙ sym b.error,
         a.bindings ∙ ap (λ (n : Notes). commands_of_notes g input.1 n.last) notes ∙ sym b.bindings,
       )
 
-  unfit_same : (r : Rule) (err other : ExpandError) (env more : Environment) → IsUnfit g call_site input r err env
-      → IsUnfit g call_site input r other more
+  unfit_same : (r : Rule) (err other : ExpandError) (env more : Environment) → IsMatchFailed g call_site input r err env
+      → IsMatchFailed g call_site input r other more
       → (err ≡ other) × (env ≡ more)
   unfit_same r err other env more u v =
       let same : u.verdict ≡ v.verdict = one_verdict g r.reads input.1 u.verdict v.verdict u.judged v.judged in
@@ -132,7 +134,7 @@ module _ (g : Grammar) (lawful : IsLawful g) (call_site : Span) (input : Top) wh
 
   before_both : (left less bound held : ℕ → ℕ) (n m : ℕ) → left n ≡ less n → left m ≡ less m → bound n ≡ held n
       → bound m ≡ held m
-      → GoesBefore left bound n m → GoesBefore less held m n → n ≡ m
+      → IsCloser left bound n m → IsCloser less held m n → n ≡ m
   before_both left less bound held n m a b c d (inl l) (inl k) = absurd (omega (arith, a, b, l, k))
   before_both left less bound held n m a b c d (inl l) (inr (e, k)) = absurd (omega (arith, a, b, l, e))
   before_both left less bound held n m a b c d (inr (e, l)) (inl k) = absurd (omega (arith, a, b, e, k))
@@ -159,17 +161,17 @@ module _ (g : Grammar) (lawful : IsLawful g) (call_site : Span) (input : Top) wh
     recovered_same r out other err reported a b =
         let same = fails_same r a.error b.error a.env b.env a.fails b.fails in (
           left_same g Marks call_site fn b.env r.writes out other
-              (subst (λ e. IsWhatIsLeft g Marks call_site e r.writes out) same.1 a.left) b.left,
+              (subst (λ e. IsPartialExpansion g Marks call_site e r.writes out) same.1 a.left) b.left,
           a.reported ∙ ap Some same.0 ∙ sym b.reported,
         )
 
-    recovery_same : (rs : List Rule) (style : MacroCallStyle) (out other : Forest) (index place : Option ℕ)
+    recovery_same : (rs : List Rule) (style : MacroCallStyle) (out other : Forest) (index rule_index : Option ℕ)
         (err reported : Option ExpandError)
         → IsRecovery g call_site input Marks rs style out index err
-        → IsRecovery g call_site input Marks rs style other place reported
-        → (out ≡ other) × (index ≡ place) × (err ≡ reported)
-    recovery_same rs style out other index place err reported a b =
-        let same = nearest_same style rs a.place b.place a.rule b.rule a.nearest b.nearest in
+        → IsRecovery g call_site input Marks rs style other rule_index reported
+        → (out ≡ other) × (index ≡ rule_index) × (err ≡ reported)
+    recovery_same rs style out other index rule_index err reported a b =
+        let same = nearest_same style rs a.rule_index b.rule_index a.rule b.rule a.nearest b.nearest in
         let whole = recovered_same b.rule out other err reported
         (subst (λ r. IsRecovered g call_site input Marks r out err) same.1 a.recovered) b.recovered in
         (whole.0, a.named ∙ ap arm_of same.0 ∙ sym b.named, whole.1)
@@ -183,24 +185,24 @@ applying : (g : Grammar) (style : MacroCallStyle) (argument : Forest) (Marks : S
 applying g style argument Marks call_site rs n out (r, a, first, w) = (r, contains_first g style argument first, a)
 
 pub one_answer : (Marks : Span → Span → Type 0) → OneAnswer Marks
-one_answer Marks fn g rs style input call_site out other index place None None lawful a b =
+one_answer Marks fn g rs style input call_site out other index rule_index None None lawful a b =
     let (n, x, i) = a.expands.sound refl in
     let (m, y, j) = b.expands.sound refl in
     let same = one_expansion Marks fn g style input.1 call_site rs n m out other x y in
     (same.1, i ∙ ap arm_of same.0 ∙ sym j, refl)
-one_answer Marks fn g rs style input call_site out other index place None (Some e) lawful a b =
+one_answer Marks fn g rs style input call_site out other index rule_index None (Some e) lawful a b =
     let (n, x, i) = a.expands.sound refl in
     let (r, c, y) = applying g style input.1 Marks call_site rs n out x in
     absurd (true≢false (b.expands.complete r c y))
-one_answer Marks fn g rs style input call_site out other index place (Some e) None lawful a b =
+one_answer Marks fn g rs style input call_site out other index rule_index (Some e) None lawful a b =
     let (n, x, i) = b.expands.sound refl in
     let (r, c, y) = applying g style input.1 Marks call_site rs n other x in
     absurd (true≢false (a.expands.complete r c y))
-one_answer Marks fn g rs style input call_site out other index place (Some e) (Some f) lawful a b =
+one_answer Marks fn g rs style input call_site out other index rule_index (Some e) (Some f) lawful a b =
     go (has_style rs style)
   where
-    go : HasStyle rs style ⊎ (HasStyle rs style → ⊥) → (out ≡ other) × (index ≡ place) × (Some e ≡ Some f)
-    go (inl h) = recovery_same g lawful call_site input Marks fn rs style out other index place (Some e) (Some f)
+    go : HasStyle rs style ⊎ (HasStyle rs style → ⊥) → (out ≡ other) × (index ≡ rule_index) × (Some e ≡ Some f)
+    go (inl h) = recovery_same g lawful call_site input Marks fn rs style out other index rule_index (Some e) (Some f)
         (a.recovers e refl h) (b.recovers f refl h)
     go (inr h) =
         let (t, n, r) = a.expands.no_rule h in

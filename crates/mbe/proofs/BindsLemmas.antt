@@ -2,10 +2,10 @@
 use Rattle.std.specs.Prelude.{◌≡◌, ℕ, None}
 use Rattle.std.proofs.Common.{sym, ◌∙◌}
 use Rattle.mbe_tt.specs.Trees.Tree.{Forest}
-use Rattle.mbe_tt.specs.Fragments.Grammar.{Grammar}
+use Rattle.mbe_tt.specs.Grammars.Grammar.{Grammar}
 use Rattle.mbe_semantics.specs.Syntax.Definition.{Rule}
 use Rattle.mbe_semantics.specs.Readings.Verdict.{Verdict, one_reading, many_readings, ambiguous, stuck, IsVerdict}
-use Rattle.mbe.specs.Explaining.{RuleBinds}
+use Rattle.mbe.specs.RuleExplanation.{RuleBinds}
 use Rattle.mbe.proofs.TriedLemmas.{fits_alone}
 
 many≢one : many_readings ≡ one_reading → ⊥

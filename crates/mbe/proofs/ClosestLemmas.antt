@@ -1,22 +1,26 @@
 -- The closest of the rules that were tried so far.
-use Rattle.std.specs.Prelude.{◌≡◌, ◌<◌, ◌≤◌, ◌+◌, ◌⊎◌, ℕ, zero, suc, true, false, ◌&&◌, nat_lt, nat_eq, if◌then◌else◌, List, [], ◌∷◌, slice_get, slice_index_or, length, Contains, Option, Some, None, option_map, Result, Ok, Err, IfOk, IfSome, refl}
+use Rattle.std.specs.Prelude.{◌≡◌, ◌<◌, ◌≤◌, ◌+◌, ◌⊎◌, ℕ, zero, suc, true, false, ◌&&◌, nat_lt, nat_eq, if◌then◌else◌}
+use Rattle.std.specs.Prelude.{List, [], ◌∷◌, slice_get, slice_index_or, length, Contains, Option, Some, None}
+use Rattle.std.specs.Prelude.{option_map, Result, Ok, Err, IfOk, IfSome, refl}
 use Rattle.std.specs.List.{list_any}
 use Rattle.std.proofs.Common.{ap, sym, subst, ◌∙◌, arith, inl, inr}
-use Rattle.std.proofs.lemmas.Bool.{cases_lt, cases_Bool, ltb-true, ltb-false, eqb-true, eqb-false, eq-eqb, ne_eqb, or_parts, and_cases, and_parts, or_cases}
+use Rattle.std.proofs.lemmas.Bool.{cases_lt, cases_Bool, ltb-true, ltb-false, eqb-true, eqb-false, eq-eqb, ne_eqb}
+use Rattle.std.proofs.lemmas.Bool.{or_parts, and_cases, and_parts, or_cases}
 use Rattle.std.proofs.lemmas.Option.{none-some, same_Some}
 use Rattle.mbe_tt.specs.declared.span.Span.{Span}
 use Rattle.mbe_tt.specs.Trees.Top.{Top}
-use Rattle.mbe_tt.specs.Fragments.Grammar.{Grammar}
+use Rattle.mbe_tt.specs.Grammars.Grammar.{Grammar}
 use Rattle.mbe_semantics.specs.declared.macro_call_style.MacroCallStyle.{MacroCallStyle}
 use Rattle.mbe_semantics.specs.Syntax.Definition.{Rule}
 use Rattle.mbe_semantics.specs.Syntax.Nullable.{Checked, is_refused}
-use Rattle.mbe_semantics.specs.Expansion.Macro.{Macro, TellsRefusal, IsChecked}
-use Rattle.mbe_semantics.specs.Expansion.Recovery.{HasStyle, IsStyledAt, GoesBefore, IsClosest}
+use Rattle.mbe_semantics.specs.Expansion.Macro.{Macro, ReportsRefusal, IsChecked}
+use Rattle.mbe_semantics.specs.Expansion.Recovery.{HasStyle, IsStyledAt, IsCloser, IsClosest}
 use Rattle.mbe_parser.specs.RuleViews.{rule_of}
 use Rattle.mbe.specs.declared.expander.Candidate.{Candidate}
 use Rattle.mbe.specs.declared.expander.Nearness.{Nearness}
-use Rattle.mbe.specs.Recovering.{ComesNear, IsNearest}
-use Rattle.mbe.specs.Choice.{AreChecked, candidate_seen, is_nearer, nearer_of, IsNearness, IsRemains, IsCandidate}
+use Rattle.mbe.specs.ClosestRule.{ComesNear, IsNearest}
+use Rattle.mbe.specs.RuleChoice.{AreChecked, candidate_seen, is_nearer, nearer_of, IsNearness, IsRuleFailure}
+use Rattle.mbe.specs.RuleChoice.{IsCandidate}
 use Rattle.mbe.proofs.TriedLemmas.{bound_as_fit}
 
 -- a number of each place, with another one at one place
@@ -67,7 +71,7 @@ module _ (g : Grammar) (call_site : Span) (input : Top) (style : MacroCallStyle)
     pub its_bound : bound n ≡ near.bound
     pub near_all : (m : ℕ) (r : Rule) → m < k → IsStyledAt rs style m r
         → ComesNear g call_site input r (left m) (bound m)
-    pub first : (m : ℕ) (r : Rule) → m < k → IsStyledAt rs style m r → GoesBefore left bound n m
+    pub first : (m : ℕ) (r : Rule) → m < k → IsStyledAt rs style m r → IsCloser left bound n m
 
   -- it is known, if some of them is of the style
   abbrev pub IsSoFar : ℕ → Option (ℕ × Nearness) → Type 0
@@ -101,7 +105,7 @@ module _ (g : Grammar) (call_site : Span) (input : Top) (style : MacroCallStyle)
       its_bound = h.its_bound;
       near_all = one_more (λ m s. ComesNear g call_site input s (h.left m) (h.bound m)) h.near_all
           (λ e. absurd (other e));
-      first = one_more (λ m s. GoesBefore h.left h.bound n m) h.first (λ e. absurd (other e));
+      first = one_more (λ m s. IsCloser h.left h.bound n m) h.first (λ e. absurd (other e));
     }
 
     module _ (near : Nearness) (is_near : IsNearness g call_site input r near) where
@@ -114,7 +118,7 @@ module _ (g : Grammar) (call_site : Span) (input : Top) (style : MacroCallStyle)
         its_bound = refl;
         near_all = one_more (λ m s. ComesNear g call_site input s near.unmatched near.bound)
             (λ m s l a. absurd (h m s l a)) (λ e. is_near);
-        first = one_more (λ m s. GoesBefore (λ i. near.unmatched) (λ i. near.bound) k m) (λ m s l a. absurd (h m s l a))
+        first = one_more (λ m s. IsCloser (λ i. near.unmatched) (λ i. near.bound) k m) (λ m s l a. absurd (h m s l a))
             (λ e. inr (refl, inr (refl, omega arith)));
       }
 
@@ -133,7 +137,7 @@ module _ (g : Grammar) (call_site : Span) (input : Top) (style : MacroCallStyle)
         -- the order by the numbers as they were put
         order : (i m a b c d : ℕ) → put h.left k near.unmatched i ≡ a → put h.left k near.unmatched m ≡ b
             → put h.bound k near.bound i ≡ c → put h.bound k near.bound m ≡ d
-            → Before a b c d i m → GoesBefore (put h.left k near.unmatched) (put h.bound k near.bound) i m
+            → Before a b c d i m → IsCloser (put h.left k near.unmatched) (put h.bound k near.bound) i m
         order i m a b c d e f p q x = rw (e, f, p, q) x
 
         was_left : put h.left k near.unmatched n ≡ best.unmatched
@@ -191,7 +195,7 @@ module _ (g : Grammar) (call_site : Span) (input : Top) (style : MacroCallStyle)
           its_left = was_left;
           its_bound = was_bound;
           near_all = all_near;
-          first = one_more (λ m s. GoesBefore (put h.left k near.unmatched) (put h.bound k near.bound) n m)
+          first = one_more (λ m s. IsCloser (put h.left k near.unmatched) (put h.bound k near.bound) n m)
               (λ m s l a. order n m best.unmatched (h.left m) best.bound (h.bound m) was_left
               (put_before h.left k near.unmatched m l) was_bound (put_before h.bound k near.bound m l)
               (known m s l a))
@@ -231,7 +235,7 @@ module _ (g : Grammar) (call_site : Span) (input : Top) (style : MacroCallStyle)
           its_left = put_here h.left k near.unmatched;
           its_bound = put_here h.bound k near.bound;
           near_all = all_near;
-          first = one_more (λ m s. GoesBefore (put h.left k near.unmatched) (put h.bound k near.bound) k m)
+          first = one_more (λ m s. IsCloser (put h.left k near.unmatched) (put h.bound k near.bound) k m)
               (λ m s l a. order k m near.unmatched (h.left m) near.bound (h.bound m) (put_here h.left k near.unmatched)
               (put_before h.left k near.unmatched m l) (put_here h.bound k near.bound)
               (put_before h.bound k near.bound m l) (nearer_goes closer m (h.left m) (h.bound m) (known m s l a)))
@@ -298,12 +302,12 @@ kept_tried P (Some best) next h p = go (cases_Bool (is_nearer next.nearness best
 -- a rule that was tried, as a candidate
 pub candidate : {A : Type 0} (g : Grammar) (Marks : Span → Span → Type 0) (call_site : Span) (input : Top)
     (style : MacroCallStyle) (rs : List Rule) (k : ℕ) (r : Rule)
-    → slice_get rs k ≡ Some r → (c : Candidate A) → r.style ≡ style → IsRemains g Marks call_site input r c.remains
+    → slice_get rs k ≡ Some r → (c : Candidate A) → r.style ≡ style → IsRuleFailure g Marks call_site input r c.failure
     → rule_of c.rule.now ≡ r → c.idx ≡ k
     → IsCandidate g Marks call_site input style rs c
 candidate g Marks call_site input style rs k r here c own left same at = record {
   styled = (ap (slice_get rs) at ∙ here ∙ ap Some (sym same), ap (λ (x : Rule). x.style) same ∙ own);
-  remains = subst (λ x. IsRemains g Marks call_site input x c.remains) (sym same) left;
+  failure = subst (λ x. IsRuleFailure g Marks call_site input x c.failure) (sym same) left;
 }
 
 -- ---- checked rules
@@ -314,7 +318,7 @@ none_refused (x ∷ xs) h zero r e = subst (λ (y : Rule). Checked y.reads) (sam
 none_refused (x ∷ xs) h (suc n) r e = none_refused xs (or_parts _ _ h).1 n r e
 
 -- a macro whose error says no refusal has checked rules alone
-pub all_checked : (m : Macro) → TellsRefusal m → IsChecked m → AreChecked m.rules
+pub all_checked : (m : Macro) → ReportsRefusal m → IsChecked m → AreChecked m.rules
 all_checked m tells (inl other) = go (cases_Bool (list_any (λ (r : Rule). is_refused r.reads) m.rules))
   where
     go : (list_any (λ (r : Rule). is_refused r.reads) m.rules ≡ true)

@@ -4,12 +4,17 @@ use Rattle.mbe_tt.specs.declared.span.Edition.{Edition}
 use Rattle.mbe_tt.specs.declared.span.SyntaxContext.{SyntaxContext}
 use Rattle.mbe_tt.specs.Trees.Tree.{Forest}
 use Rattle.mbe_tt.specs.Trees.Leaf.{Ident}
-use Rattle.mbe_semantics.specs.declared.kinds.MetaVarKind.{MetaVarKind}
+use Rattle.mbe_semantics.specs.declared.fragment_kinds.MetaVarKind.{MetaVarKind}
 use Rattle.mbe_semantics.specs.Syntax.Op.{Ops}
-use Rattle.mbe_semantics.specs.Syntax.Template.{Mode, Fault, Specifies, dated_pat, dated_expr, undated, Template, nothing, token, variable, grouped, repeated, TemplateFault, here, in_group, in_repetition, after_token, after_variable, following_group, after_repetition}
-use Rattle.mbe_semantics.specs.Syntax.Definition.{Rule, RuleTrees, AreParts, PartsFault, in_pattern, in_template, Rules, ended, no_rule, faulty_rule, unseparated, separated, IsMacroOfArguments, one_rule, faulty}
+use Rattle.mbe_semantics.specs.Syntax.Template.{Mode, Fault, Specifies, dated_pat, dated_expr, undated, Template}
+use Rattle.mbe_semantics.specs.Syntax.Template.{nothing, token, variable, grouped, repeated, TemplateFault, here}
+use Rattle.mbe_semantics.specs.Syntax.Template.{in_group, in_repetition, after_token, after_variable, following_group}
+use Rattle.mbe_semantics.specs.Syntax.Template.{after_repetition}
+use Rattle.mbe_semantics.specs.Syntax.Definition.{Rule, RuleTrees, AreParts, PartsFault, in_pattern, in_template, Rules}
+use Rattle.mbe_semantics.specs.Syntax.Definition.{ended, no_rule, faulty_rule, unseparated, separated}
+use Rattle.mbe_semantics.specs.Syntax.Definition.{IsMacroOfArguments, one_rule, faulty}
 use Rattle.mbe_semantics.specs.Expansion.Macro.{Macro}
-use Rattle.mbe_semantics.specs.Expansion.ReadAs.{IsReadAs, IsReadAsMacro}
+use Rattle.mbe_semantics.specs.Expansion.ParsedMacro.{IsParsedRules, IsParsedMacro}
 
 module _ {A B : SyntaxContext → Edition → Type 0} (more : (c : SyntaxContext) (e : Edition) → A c e → B c e) where
   specifies : {i : Ident} {kind : Option MetaVarKind} → Specifies A i kind → Specifies B i kind
@@ -54,7 +59,7 @@ module _ {A B : SyntaxContext → Edition → Type 0} (more : (c : SyntaxContext
   rules_read (unseparated f o r e p b) = unseparated f o r e (parts_read p) b
   rules_read (separated f rest o r rs fault e p b t) = separated f rest o r rs fault e (parts_read p) b (rules_read t)
 
-  pub read_as : (f : Forest) (m : Macro) → IsReadAs A f m → IsReadAs B f m
+  pub read_as : (f : Forest) (m : Macro) → IsParsedRules A f m → IsParsedRules B f m
   read_as f m (first, read, refusal) = (first, rules_read read, refusal)
 
   arguments_read : {arguments body : Forest} {rs : List Rule} {fault : Option Fault}
@@ -63,7 +68,7 @@ module _ {A B : SyntaxContext → Edition → Type 0} (more : (c : SyntaxContext
   arguments_read (one_rule r p) = one_rule r (parts_read p)
   arguments_read (faulty fault p) = faulty fault (parts_fault p)
 
-  pub read_as_macro : (arguments : Option Forest) (body : Forest) (m : Macro) → IsReadAsMacro A arguments body m
-      → IsReadAsMacro B arguments body m
+  pub read_as_macro : (arguments : Option Forest) (body : Forest) (m : Macro) → IsParsedMacro A arguments body m
+      → IsParsedMacro B arguments body m
   read_as_macro None body m (first, read, refusal) = (first, rules_read read, refusal)
   read_as_macro (Some arguments) body m h = arguments_read h

@@ -3,25 +3,29 @@ use Rattle.std.proofs.Common.{◌≡◌, ℕ, zero, suc, Bool, true, false, List
 use Rattle.mbe_tt.specs.declared.span.Span.{Span}
 use Rattle.mbe_tt.specs.declared.tt.Punct.{Punct}
 use Rattle.mbe_tt.specs.Trees.Tree.{Forest}
-use Rattle.mbe_tt.specs.Fragments.Grammar.{Grammar}
+use Rattle.mbe_tt.specs.Grammars.Grammar.{Grammar}
 use Rattle.mbe_semantics.specs.declared.macro_call_style.MacroCallStyle.{MacroCallStyle}
 use Rattle.mbe_semantics.specs.Syntax.Op as ops
-use Rattle.mbe_semantics.specs.Syntax.Op.{Name, Token, Expression, ignore, count, index, len, concat, Op, Ops, no_ops, op}
+use Rattle.mbe_semantics.specs.Syntax.Op.{Name, Token, Expression, ignore, count, index, len, concat, Op, Ops, no_ops}
+use Rattle.mbe_semantics.specs.Syntax.Op.{op}
 use Rattle.mbe_semantics.specs.Syntax.Definition.{Rule}
 use Rattle.mbe_semantics.specs.Fragments.Kinds.{Style, plain, stripped, as_expression, as_path}
 use Rattle.mbe_semantics.specs.Bindings.Environment.{Value, fragment, missing, Environment, environment_of, value_of}
-use Rattle.mbe_semantics.specs.Writing.Rounds.{Path, followed, Extent, finite, endless, kept_rounds, level}
-use Rattle.mbe_semantics.specs.Writing.Concat.{concat_text}
-use Rattle.mbe_semantics.specs.Writing.Written.{IsParenthesized, IsWrittenAs}
-use Rattle.mbe_semantics.specs.Writing.Substitution.{faults, AreRounds, AreKeptRounds, separator_trees, AreMarkedPuncts, IsMarked, IsVariable, IsConcat, IsExpression, Writes, Substitutes, IsSubstitution}
+use Rattle.mbe_semantics.specs.Transcription.Rounds.{Path, followed, Extent, finite, endless, kept_rounds, level}
+use Rattle.mbe_semantics.specs.Transcription.Concat.{concat_text}
+use Rattle.mbe_semantics.specs.Transcription.FragmentTrees.{IsParenthesized, IsFragmentOutput}
+use Rattle.mbe_semantics.specs.Transcription.Substitution.{faults, AreRounds, AreKeptRounds, separator_trees}
+use Rattle.mbe_semantics.specs.Transcription.Substitution.{AreMarkedPuncts, IsMarked, IsVariable, IsConcat}
+use Rattle.mbe_semantics.specs.Transcription.Substitution.{IsExpression, Writes, Substitutes, IsSubstitution}
 use Rattle.mbe_semantics.specs.Expansion.Error.{ExpandError}
 use Rattle.mbe_semantics.specs.Expansion.Expansion.{IsExpansion}
 use Rattle.mbe_semantics.specs.Expansion.Macro.{Expands}
 use Rattle.mbe_tt.specs.Trees.Top.{Top}
-use Rattle.mbe_transcriber.specs.Faults.{variable_fault, joined}
-use Rattle.mbe_variables.specs.Lost.{extent_fault}
-use Rattle.mbe_transcriber.specs.Beside.{unless, name_left, AreRoundsLeft, AreAllRoundsLeft, LeavesExpression, Leaves, LeaveAll, IsWhatIsLeft}
-use Rattle.mbe.specs.Recovering.{Recovers}
+use Rattle.mbe_transcriber.specs.TemplateFaults.{variable_fault, joined}
+use Rattle.mbe_variables.specs.LookupErrors.{extent_fault}
+use Rattle.mbe_transcriber.specs.PartialExpansion.{unless, concat_name, AreRoundsEmitted, AreAllRoundsEmitted}
+use Rattle.mbe_transcriber.specs.PartialExpansion.{EmitsExpression, Emits, EmitAll, IsPartialExpansion}
+use Rattle.mbe.specs.ClosestRule.{Recovers}
 
 -- rounds are written so where each round is
 rounds_written : (separator : Forest) (round other : ℕ → Forest → Type 0)
@@ -45,8 +49,8 @@ module _ (g : Grammar) {A B : Span → Span → Type 0} (more : (s t : Span) →
   parenthesized false span f out h = h
   parenthesized true span f out (marked, m, e) = (marked, more span marked m, e)
 
-  fragment_written : (style : Style) (span : Span) (f out : Forest) → IsWrittenAs A call_site style span f out
-      → IsWrittenAs B call_site style span f out
+  fragment_written : (style : Style) (span : Span) (f out : Forest) → IsFragmentOutput A call_site style span f out
+      → IsFragmentOutput B call_site style span f out
   fragment_written plain span f out h = h
   fragment_written stripped span f out h = h
   fragment_written as_path span f out h = h
@@ -132,32 +136,33 @@ module _ (g : Grammar) {A B : Span → Span → Type 0} (more : (s t : Span) →
 
   rounds_left : (separator : Forest) (faulty : ℕ → Bool) (round other : ℕ → Forest → Type 0)
       → ((i : ℕ) (out : Forest) → round i out → other i out)
-      → (n : ℕ) (out : Forest) → AreRoundsLeft separator faulty round n out → AreRoundsLeft separator faulty other n out
+      → (n : ℕ) (out : Forest) → AreRoundsEmitted separator faulty round n out
+      → AreRoundsEmitted separator faulty other n out
   rounds_left separator faulty round other each zero out h = h
   rounds_left separator faulty round other each (suc n) out (before, last, earlier, here, e) =
       (before, last, rounds_left separator faulty round other each n before earlier, each n last here, e)
 
   all_rounds_left : (separator : Forest) (faulty : ℕ → ℕ → Bool) (round other : ℕ → ℕ → Forest → Type 0)
       → ((i n : ℕ) (out : Forest) → round i n out → other i n out)
-      → (e : Extent) (out : Forest) → AreAllRoundsLeft separator faulty round e out
-      → AreAllRoundsLeft separator faulty other e out
+      → (e : Extent) (out : Forest) → AreAllRoundsEmitted separator faulty round e out
+      → AreAllRoundsEmitted separator faulty other e out
   all_rounds_left separator faulty round other each endless out h = h
   all_rounds_left separator faulty round other each (finite n) out h =
       rounds_left separator (λ i. faulty i n) (λ i. round i n) (λ i. other i n) (λ i. each i n) n out h
 
   module _ (env : Environment) where
-    expression_left : (path : Path) (e : Expression) (out : Forest) → LeavesExpression g A call_site env path e out
-        → LeavesExpression g B call_site env path e out
+    expression_left : (path : Path) (e : Expression) (out : Forest) → EmitsExpression g A call_site env path e out
+        → EmitsExpression g B call_site env path e out
     expression_left path (count name depth) out h = h
     expression_left path (concat elements span) out h =
-        concat_written env span (Some (name_left (joined env path elements))) out h
+        concat_written env span (Some (concat_name (joined env path elements))) out h
     expression_left path (ignore name span) out h = h
     expression_left path (index depth) out h = h
     expression_left path (len depth) out h = h
 
     mutual
-      op_left : (path : Path) (o : Op) (out : Forest) → Leaves g A call_site env path o out
-          → Leaves g B call_site env path o out
+      op_left : (path : Path) (o : Op) (out : Forest) → Emits g A call_site env path o out
+          → Emits g B call_site env path o out
       op_left path (ops.token t) out h = token_written env t out h
       op_left path (ops.group d body) out (opening, close, inside, a, b, h, e) =
           (opening, close, inside, more d.opening opening a, more d.close close b, ops_left path body inside h, e)
@@ -168,26 +173,26 @@ module _ (g : Grammar) {A B : Span → Span → Type 0} (more : (s t : Span) →
           (variable_written env name span (value_of env name) (followed env path name)) out h
       op_left path (ops.repetition body separator repeat) out h =
           unless_left (extent_fault repeat (kept_rounds repeat env path body))
-          (AreAllRoundsLeft (separator_trees separator) (λ i n. faults env (level i n path) body)
-          (λ i n. LeaveAll g A call_site env (level i n path) body)
+          (AreAllRoundsEmitted (separator_trees separator) (λ i n. faults env (level i n path) body)
+          (λ i n. EmitAll g A call_site env (level i n path) body)
           (kept_rounds repeat env path body))
-          (AreAllRoundsLeft (separator_trees separator) (λ i n. faults env (level i n path) body)
-          (λ i n. LeaveAll g B call_site env (level i n path) body)
+          (AreAllRoundsEmitted (separator_trees separator) (λ i n. faults env (level i n path) body)
+          (λ i n. EmitAll g B call_site env (level i n path) body)
           (kept_rounds repeat env path body))
           (all_rounds_left (separator_trees separator) (λ i n. faults env (level i n path) body)
-          (λ i n. LeaveAll g A call_site env (level i n path) body)
-          (λ i n. LeaveAll g B call_site env (level i n path) body) (λ i n. ops_left (level i n path) body)
+          (λ i n. EmitAll g A call_site env (level i n path) body)
+          (λ i n. EmitAll g B call_site env (level i n path) body) (λ i n. ops_left (level i n path) body)
           (kept_rounds repeat env path body)) out h
       op_left path (ops.expression e) out h = expression_left path e out h
 
-      ops_left : (path : Path) (os : Ops) (out : Forest) → LeaveAll g A call_site env path os out
-          → LeaveAll g B call_site env path os out
+      ops_left : (path : Path) (os : Ops) (out : Forest) → EmitAll g A call_site env path os out
+          → EmitAll g B call_site env path os out
       ops_left path no_ops out h = h
       ops_left path (op o os) out (first, rest, a, b, e) =
           (first, rest, op_left path o first a, ops_left path os rest b, e)
 
-    what_is_left : (os : Ops) (out : Forest) → IsWhatIsLeft g A call_site env os out
-        → IsWhatIsLeft g B call_site env os out
+    what_is_left : (os : Ops) (out : Forest) → IsPartialExpansion g A call_site env os out
+        → IsPartialExpansion g B call_site env os out
     what_is_left os out (inside, h, e) = (inside, ops_left [] os inside h, e)
 
   pub recovered_so : (rules : List Rule) (style : MacroCallStyle) (input : Top) (out : Forest) (i : Option ℕ)
@@ -196,7 +201,7 @@ module _ (g : Grammar) {A B : Span → Span → Type 0} (more : (s t : Span) →
   recovered_so rules style input out i err h = λ e is own.
       let r = h e is own in
       record {
-        place = r.place;
+        rule_index = r.rule_index;
         rule = r.rule;
         nearest = r.nearest;
         named = r.named;

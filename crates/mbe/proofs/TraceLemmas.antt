@@ -2,13 +2,13 @@
 use Rattle.std.specs.Prelude.{ℕ, refl}
 use Rattle.mbe_tt.specs.declared.span.Span.{Span}
 use Rattle.mbe_tt.specs.Trees.Tree.{Forest}
-use Rattle.mbe_tt.specs.Fragments.Grammar.{Grammar}
+use Rattle.mbe_tt.specs.Grammars.Grammar.{Grammar}
 use Rattle.mbe_semantics.specs.declared.macro_call_style.MacroCallStyle.{MacroCallStyle}
 use Rattle.mbe_semantics.specs.Bindings.Environment.{environment_of}
 use Rattle.mbe_semantics.specs.Expansion.Expansion.{IsExpansion}
 use Rattle.mbe_laws.proofs.Writing.SpanLemmas.{spans_have_sources, written_in_place}
 use Rattle.mbe_laws.proofs.Writing.LawLemmas.{writes_all_rounds}
-use Rattle.mbe.specs.Traced.{Traced, AnswersAreTraced}
+use Rattle.mbe.specs.SpanSources.{Traced, AnswersAreTraced}
 
 module _ (Marks : Span → Span → Type 0) where
   traced : (g : Grammar) (style : MacroCallStyle) (argument : Forest) (call_site : Span) (n : ℕ) (out : Forest) (rs : _)
@@ -19,7 +19,7 @@ module _ (Marks : Span → Span → Type 0) where
     variables = λ path name kind span x part f s w.
         let k = written_in_place Marks g call_site (e.0).reads argument (e.1).items path name kind span x part
         (e.1).fits.1.0 f s w in
-        record { position = k.0; rest = k.1; found = k.2; written = k.3; spans = k.4 };
+        record { offset = k.0; rest = k.1; found = k.2; written = k.3; spans = k.4 };
     spans = λ span k. spans_have_sources Marks g style argument call_site rs n out e span k;
     stars = λ path body separator k part f l faultless w.
         (writes_all_rounds Marks g call_site (environment_of (e.1).items) path body separator k part f l faultless).1 w;

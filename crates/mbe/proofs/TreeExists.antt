@@ -1,6 +1,7 @@
 -- With a marker that returns a span for each, a template without a fault writes some tree, and every template leaves
 -- one.
-use Rattle.std.specs.Prelude.{◌≡◌, ℕ, zero, suc, Bool, true, false, not, is_some, is_none, if◌then◌else◌, List, [], ◌∷◌, Option, Some, None, refl}
+use Rattle.std.specs.Prelude.{◌≡◌, ℕ, zero, suc, Bool, true, false, not, is_some, is_none, if◌then◌else◌, List, [], ◌∷◌}
+use Rattle.std.specs.Prelude.{Option, Some, None, refl}
 use Rattle.std.proofs.Common.{ap, sym, ◌∙◌}
 use Rattle.std.proofs.lemmas.Bool.{true≢false, or_parts}
 use Rattle.mbe_tt.specs.declared.span.Span.{Span}
@@ -8,21 +9,31 @@ use Rattle.mbe_tt.specs.declared.tt.Punct.{Punct}
 use Rattle.mbe_tt.specs.declared.tt.DelimiterKind.TheVariants.{Invisible}
 use Rattle.mbe_tt.specs.Trees.Leaf.{literal, punct, ident}
 use Rattle.mbe_tt.specs.Trees.Tree.{Forest, none, leaf, group, append, alone, strip_invisible}
-use Rattle.mbe_tt.specs.Fragments.Grammar.{Grammar}
-use Rattle.mbe_semantics.specs.declared.kinds.RepeatKind.{RepeatKind}
-use Rattle.mbe_semantics.specs.declared.kinds.RepeatKind.TheVariants.{ZeroOrMore, OneOrMore, ZeroOrOne}
+use Rattle.mbe_tt.specs.Grammars.Grammar.{Grammar}
+use Rattle.mbe_semantics.specs.declared.fragment_kinds.RepeatKind.{RepeatKind}
+use Rattle.mbe_semantics.specs.declared.fragment_kinds.RepeatKind.TheVariants.{ZeroOrMore, OneOrMore, ZeroOrOne}
 use Rattle.mbe_semantics.specs.Syntax.Op as ops
-use Rattle.mbe_semantics.specs.Syntax.Op.{Name, Token, Expression, ignore, count, index, len, concat, Op, Ops, no_ops, op}
+use Rattle.mbe_semantics.specs.Syntax.Op.{Name, Token, Expression, ignore, count, index, len, concat, Op, Ops, no_ops}
+use Rattle.mbe_semantics.specs.Syntax.Op.{op}
 use Rattle.mbe_semantics.specs.Fragments.Kinds.{Style, plain, stripped, as_expression, as_path}
 use Rattle.mbe_semantics.specs.Bindings.Missing.{default_trees}
 use Rattle.mbe_semantics.specs.Bindings.Environment.{Value, fragment, list, empty, missing, Environment, value_of}
-use Rattle.mbe_semantics.specs.Writing.Rounds.{Path, Extent, finite, endless, kept, rounds_of, kept_rounds, followed, level, level_at}
-use Rattle.mbe_semantics.specs.Writing.Concat.{concat_text}
-use Rattle.mbe_semantics.specs.Writing.Written.{path_trees, needs_parentheses, in_parentheses, IsParenthesized, IsWrittenAs}
-use Rattle.mbe_semantics.specs.Writing.Substitution.{is_simple, expression_faults, extent_faults, any_below, any_round, op_faults, faults, rawness, separator_trees, unbound_variable, integer, index_of, rounds_in, total_of, AreRounds, AreKeptRounds, AreMarkedPuncts, IsMarked, IsVariable, IsConcat, IsExpression, Writes, Substitutes, IsSubstitution}
-use Rattle.mbe_transcriber.specs.Faults.{bound_fault, count_fault, variable_fault, joined}
-use Rattle.mbe_variables.specs.Lost.{extent_fault}
-use Rattle.mbe_transcriber.specs.Beside.{unless, parting, name_left, AreRoundsLeft, AreAllRoundsLeft, LeavesExpression, Leaves, LeaveAll, IsWhatIsLeft}
+use Rattle.mbe_semantics.specs.Transcription.Rounds.{Path, Extent, finite, endless, kept, rounds_of, kept_rounds}
+use Rattle.mbe_semantics.specs.Transcription.Rounds.{followed, level, level_at}
+use Rattle.mbe_semantics.specs.Transcription.Concat.{concat_text}
+use Rattle.mbe_semantics.specs.Transcription.FragmentTrees.{path_trees, needs_parentheses, in_parentheses}
+use Rattle.mbe_semantics.specs.Transcription.FragmentTrees.{IsParenthesized, IsFragmentOutput}
+use Rattle.mbe_semantics.specs.Transcription.Substitution.{is_simple, expression_faults, extent_faults, any_below}
+use Rattle.mbe_semantics.specs.Transcription.Substitution.{any_round, op_faults, faults, rawness, separator_trees}
+use Rattle.mbe_semantics.specs.Transcription.Substitution.{unbound_variable, integer, index_of, rounds_in, total_of}
+use Rattle.mbe_semantics.specs.Transcription.Substitution.{AreRounds, AreKeptRounds, AreMarkedPuncts, IsMarked}
+use Rattle.mbe_semantics.specs.Transcription.Substitution.{IsVariable, IsConcat, IsExpression, Writes, Substitutes}
+use Rattle.mbe_semantics.specs.Transcription.Substitution.{IsSubstitution}
+use Rattle.mbe_transcriber.specs.TemplateFaults.{bound_fault, count_fault, variable_fault, joined}
+use Rattle.mbe_variables.specs.LookupErrors.{extent_fault}
+use Rattle.mbe_transcriber.specs.PartialExpansion.{unless, separator_before, concat_name, AreRoundsEmitted}
+use Rattle.mbe_transcriber.specs.PartialExpansion.{AreAllRoundsEmitted, EmitsExpression, Emits, EmitAll}
+use Rattle.mbe_transcriber.specs.PartialExpansion.{IsPartialExpansion}
 use Rattle.mbe.specs.OneAnswer.{HasSomeSpan}
 use Rattle.mbe.proofs.FaultsAgree.{variable_some}
 
@@ -36,16 +47,16 @@ exists_unless None P h = h refl
 -- ---- rounds
 
 rounds_left : (separator : Forest) (faulty : ℕ → Bool) (round : ℕ → Forest → Type 0) → ((i : ℕ) → Exists (round i))
-    → (n : ℕ) → Exists (AreRoundsLeft separator faulty round n)
+    → (n : ℕ) → Exists (AreRoundsEmitted separator faulty round n)
 rounds_left separator faulty round each zero = (none, refl)
 rounds_left separator faulty round each (suc n) =
     let (before, earlier) = rounds_left separator faulty round each n in
     let (last, here) = each n in
-    (append before (append (parting separator faulty n) last), (before, last, earlier, here, refl))
+    (append before (append (separator_before separator faulty n) last), (before, last, earlier, here, refl))
 
 all_rounds_left : (separator : Forest) (faulty : ℕ → ℕ → Bool) (round : ℕ → ℕ → Forest → Type 0)
     → ((i n : ℕ) → Exists (round i n)) → (e : Extent)
-    → Exists (AreAllRoundsLeft separator faulty round e)
+    → Exists (AreAllRoundsEmitted separator faulty round e)
 all_rounds_left separator faulty round each endless = (none, refl)
 all_rounds_left separator faulty round each (finite n) =
     rounds_left separator (λ i. faulty i n) (λ i. round i n) (λ i. each i n) n
@@ -81,7 +92,7 @@ module _ (g : Grammar) (Marks : Span → Span → Type 0) (call_site : Span) (so
   parenthesized false span f = (f, refl)
   parenthesized true span f = let (t, m) = some span in (in_parentheses t f, (t, m, refl))
 
-  written : (style : Style) (span : Span) (f : Forest) → Exists (IsWrittenAs Marks call_site style span f)
+  written : (style : Style) (span : Span) (f : Forest) → Exists (IsFragmentOutput Marks call_site style span f)
   written plain span f = (alone f, refl)
   written stripped span f = (alone (strip_invisible f), refl)
   written as_path span f = (path_trees call_site f, refl)
@@ -133,17 +144,18 @@ module _ (g : Grammar) (Marks : Span → Span → Type 0) (call_site : Span) (so
 
     -- ---- beside a fault
 
-    expression_left : (path : Path) (e : Expression) → Exists (LeavesExpression g Marks call_site env path e)
+    expression_left : (path : Path) (e : Expression) → Exists (EmitsExpression g Marks call_site env path e)
     expression_left path (count name depth) =
         exists_unless (bound_fault name (count_fault name depth path) (value_of env name)) _
         (λ n. (integer (total_of depth (followed env path name)) call_site, refl))
-    expression_left path (concat elements span) = concat_written span (Some (name_left (joined env path elements))) refl
+    expression_left path (concat elements span) =
+        concat_written span (Some (concat_name (joined env path elements))) refl
     expression_left path (ignore name span) = (none, refl)
     expression_left path (index depth) = (integer (index_of (level_at path depth)) call_site, refl)
     expression_left path (len depth) = (integer (rounds_in (level_at path depth)) call_site, refl)
 
     mutual
-      op_left : (o : Op) (path : Path) → Exists (Leaves g Marks call_site env path o)
+      op_left : (o : Op) (path : Path) → Exists (Emits g Marks call_site env path o)
       op_left (ops.token t) path = token_written t
       op_left (ops.group d body) path =
           let (opening, a) = some d.opening in
@@ -161,18 +173,18 @@ module _ (g : Grammar) (Marks : Span → Span → Type 0) (call_site : Span) (so
       op_left (ops.repetition body separator repeat) path =
           exists_unless (extent_fault repeat (kept_rounds repeat env path body)) _
           (λ n. all_rounds_left (separator_trees separator) (λ i n. faults env (level i n path) body)
-          (λ i n. LeaveAll g Marks call_site env (level i n path) body)
+          (λ i n. EmitAll g Marks call_site env (level i n path) body)
           (λ i n. ops_left body (level i n path)) (kept_rounds repeat env path body))
       op_left (ops.expression e) path = expression_left path e
 
-      ops_left : (os : Ops) (path : Path) → Exists (LeaveAll g Marks call_site env path os)
+      ops_left : (os : Ops) (path : Path) → Exists (EmitAll g Marks call_site env path os)
       ops_left no_ops path = (none, refl)
       ops_left (op o os) path =
           let (first, a) = op_left o path in
           let (rest, b) = ops_left os path in
           (append first rest, (first, rest, a, b, refl))
 
-    pub left_exists : (writes : Ops) → Exists (IsWhatIsLeft g Marks call_site env writes)
+    pub left_exists : (writes : Ops) → Exists (IsPartialExpansion g Marks call_site env writes)
     left_exists writes =
         let (inside, h) = ops_left writes [] in
         (group (record { opening = call_site; close = call_site; kind = Invisible }) inside none, (inside, h, refl))

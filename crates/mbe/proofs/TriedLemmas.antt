@@ -5,26 +5,27 @@ use Rattle.std.proofs.lemmas.Bool.{true≢false}
 use Rattle.mbe_tt.specs.declared.span.Span.{Span}
 use Rattle.mbe_tt.specs.declared.span.DelimSpan.{DelimSpan}
 use Rattle.mbe_tt.specs.Trees.Tree.{Forest, tree_count}
-use Rattle.mbe_tt.proofs.Places.PlaceLemmas.{rest_at-zero}
+use Rattle.mbe_tt.proofs.Offsets.OffsetLemmas.{rest_at-zero}
 use Rattle.mbe_tt.specs.Trees.Top.{Top}
-use Rattle.mbe_tt.specs.Fragments.Grammar.{Grammar, IsLawful}
+use Rattle.mbe_tt.specs.Grammars.Grammar.{Grammar, IsLawful}
 use Rattle.mbe_semantics.specs.Syntax.Definition.{Rule}
 use Rattle.mbe_semantics.specs.Syntax.Nullable.{Checked}
 use Rattle.mbe_semantics.specs.Readings.Item.{Items}
 use Rattle.mbe_semantics.specs.Readings.Ambiguity.{Fits}
-use Rattle.mbe_semantics.specs.Readings.Verdict.{Verdict, one_reading, many_readings, ambiguous, stuck, IsVerdict, unmatched}
+use Rattle.mbe_semantics.specs.Readings.Verdict.{Verdict, one_reading, many_readings, ambiguous, stuck, IsVerdict}
+use Rattle.mbe_semantics.specs.Readings.Verdict.{unmatched}
 use Rattle.mbe_semantics.specs.Bindings.Account.{Log, Handle, Account, IsAccount, run, no_commands}
 use Rattle.mbe_semantics.specs.Bindings.Environment.{Environment, environment_of, binding_total}
-use Rattle.mbe_semantics.specs.Writing.Substitution.{faults, IsSubstitution}
+use Rattle.mbe_semantics.specs.Transcription.Substitution.{faults, IsSubstitution}
 use Rattle.mbe_semantics.specs.Expansion.Error.{ExpandError}
 use Rattle.mbe_semantics.specs.Expansion.Expansion.{Applies}
 use Rattle.mbe_matcher.specs.Failures.{Reports}
-use Rattle.mbe_matcher.specs.Fronts.{begins_otherwise, failing_first}
+use Rattle.mbe_matcher.specs.Fronts.{starts_with_wrong_token, first_match_error}
 use Rattle.mbe_matcher.proofs.Starts.{otherwise_stuck, otherwise_fails, otherwise_reports}
 use Rattle.mbe_matcher.specs.Reports.{IsReported}
 use Rattle.mbe.specs.declared.expander.Nearness.{Nearness}
-use Rattle.mbe.specs.Recovering.{spans_of, IsUnfit, IsFaulty, ComesNear}
-use Rattle.mbe.specs.Choice.{IsNearness}
+use Rattle.mbe.specs.ClosestRule.{spans_of, IsMatchFailed, IsFaulty, ComesNear}
+use Rattle.mbe.specs.RuleChoice.{IsNearness}
 
 -- a pattern that fits has one reading by every right verdict
 pub fits_alone : (g : Grammar) (r : Rule) (argument : Forest) (v : Verdict) → IsVerdict g r.reads argument v
@@ -41,7 +42,7 @@ module _ (g : Grammar) (call_site : Span) (input : Top) (r : Rule) where
       → argument ≡ input.1 → (around : DelimSpan) → around ≡ spans_of input.0
       → (log : Log) (h : Handle) (err : ExpandError) → IsReported g r.reads argument around log v err h
       → (env : Environment) → ((a : Account) → IsAccount log h a → env ≡ run a.current [])
-      → IsUnfit g call_site input r err env
+      → IsMatchFailed g call_site input r err env
   unfit_of v right many argument same around spans log h err (commands, (a, account, holds), reported) env built =
       record {
         verdict = v;
@@ -55,7 +56,7 @@ module _ (g : Grammar) (call_site : Span) (input : Top) (r : Rule) where
 
   module _ (v : Verdict) (right : IsVerdict g r.reads input.1 v) (near : Nearness)
       (left : near.unmatched ≡ unmatched input.1 v) where
-    pub unfit : (err : ExpandError) (env : Environment) → v ≢ one_reading → IsUnfit g call_site input r err env
+    pub unfit : (err : ExpandError) (env : Environment) → v ≢ one_reading → IsMatchFailed g call_site input r err env
         → near.bound ≡ min (binding_total env) (2 ^ 64 - 1)
         → (Applies g r.style input.1 r → ⊥) × IsNearness g call_site input r near
     unfit err env many u count = (
@@ -80,7 +81,7 @@ module _ (g : Grammar) (call_site : Span) (input : Top) (r : Rule) where
   bound_as_fit left bound near is fits = go near.bindings
     where
       go : (err : ExpandError) × (env : Environment)
-          × (IsUnfit g call_site input r err env ⊎ IsFaulty g call_site input r err env)
+          × (IsMatchFailed g call_site input r err env ⊎ IsFaulty g call_site input r err env)
           × (bound ≡ min (binding_total env) (2 ^ 64 - 1))
           → bound ≡ min (binding_total (environment_of is)) (2 ^ 64 - 1)
       go (err, env, inl u, count) = absurd (u.unfit (fits_alone g r input.1 u.verdict u.judged is fits))
@@ -103,11 +104,11 @@ module _ (g : Grammar) (call_site : Span) (input : Top) (r : Rule) where
   )
 
   -- a rule that begins otherwise than the argument comes to nothing: no tree is matched, and nothing is bound
-  module _ (law : IsLawful g) (checked : Checked r.reads) (other : begins_otherwise r.reads input.1 ≡ true) where
-    pub unlike : (err : ExpandError) (env : Environment) →
+  module _ (law : IsLawful g) (checked : Checked r.reads) (other : starts_with_wrong_token r.reads input.1 ≡ true) where
+    pub recover_other_start : (err : ExpandError) (env : Environment) →
         Reports g r.reads input.1 (spans_of input.0) (stuck 0) err no_commands → env ≡ []
-        → IsUnfit g call_site input r err env
-    unlike err env reported bound = record {
+        → IsMatchFailed g call_site input r err env
+    recover_other_start err env reported bound = record {
       verdict = stuck 0;
       judged = otherwise_stuck g r.reads input.1 law checked other;
       unfit = λ one. cc;
@@ -116,7 +117,7 @@ module _ (g : Grammar) (call_site : Span) (input : Top) (r : Rule) where
       bound = bound;
     }
 
-    reported_by : (e : Option ExpandError) → failing_first g r.reads input.1 (spans_of input.0) ≡ e →
+    reported_by : (e : Option ExpandError) → first_match_error g r.reads input.1 (spans_of input.0) ≡ e →
         (err : ExpandError) × Reports g r.reads input.1 (spans_of input.0) (stuck 0) err no_commands
     reported_by None n = absurd (otherwise_fails g r.reads input.1 (spans_of input.0) other n)
     reported_by (Some err) n = (err, otherwise_reports g r.reads input.1 (spans_of input.0) law checked other err n)
@@ -124,7 +125,7 @@ module _ (g : Grammar) (call_site : Span) (input : Top) (r : Rule) where
     pub unlike_tried : (near : Nearness) → near.unmatched ≡ tree_count input.1 → near.bound ≡ 0 →
         (Applies g r.style input.1 r → ⊥) × IsNearness g call_site input r near
     unlike_tried near left none =
-        let it = reported_by (failing_first g r.reads input.1 (spans_of input.0)) refl in
+        let it = reported_by (first_match_error g r.reads input.1 (spans_of input.0)) refl in
         unfit (stuck 0) (otherwise_stuck g r.reads input.1 law checked other) near
         (left ∙ ap tree_count (sym (rest_at-zero input.1))) it.0 [] (λ one. cc)
-        (unlike it.0 [] it.1 refl) none
+        (recover_other_start it.0 [] it.1 refl) none

@@ -1,5 +1,5 @@
--- What a checked macro is: the macro that it was made of.
-use Rattle.mbe.specs.declared.checked.CheckedMacro.{CheckedMacro}
+-- How contracts see a checked macro: as the macro that it was made of.
+use Rattle.mbe.specs.declared.checked_macro.CheckedMacro.{CheckedMacro}
 use Rattle.mbe_semantics.specs.Expansion.Macro.{Macro}
 use Rattle.mbe.specs.MacroViews.{macro_of}
 

@@ -1,4 +1,4 @@
--- What a macro that was read is: its rules, and the fault that it reports.
+-- How contracts see a parsed macro: its rules, and the error that it reports.
 use Rattle.std.specs.Prelude.{option_map}
 use Rattle.mbe.specs.declared.macros.DeclarativeMacro.{DeclarativeMacro}
 use Rattle.mbe_semantics.specs.Expansion.Macro.{Macro}

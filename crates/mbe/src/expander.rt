@@ -1,26 +1,28 @@
-// The choice of the rule.
+// The choice of the rule. The rules of the call's style are tried in order, and the first one that
+// applies expands the call. If none applies, the closest one gives the error and a tree beside it.
 ghost use Rattle.std.specs.Prelude.{◌≡◌, ◌-◌, ◌^◌, min, IfOk, Some, None, IsSome, true};
 ghost use Rattle.mbe_tt.specs.Trees.Top.{top_group};
 ghost use Rattle.mbe_tt.specs.Views.View.{group_of};
 ghost use Rattle.mbe_tt.specs.Trees.Tree.{tree_count};
 ghost use Rattle.mbe_semantics.specs.Expansion.Macro.{Expands, arm_of, empty_tree};
 ghost use Rattle.mbe_semantics.specs.Expansion.Error.{no_matching_rule};
-ghost use Rattle.mbe_semantics.specs.Laws.Marking.{MayMark};
+ghost use Rattle.mbe_semantics.specs.Laws.Callbacks.{MayMark};
 ghost use Rattle.mbe_semantics.specs.Syntax.Nullable.{Checked};
 ghost use Rattle.mbe_ops.specs.Errors.ErrorViews.{error_of, errors_of};
 ghost use Rattle.mbe_ops.specs.Views.{template_of};
-ghost use Rattle.mbe_matcher.specs.Fronts.{begins_otherwise};
+ghost use Rattle.mbe_matcher.specs.Fronts.{starts_with_wrong_token};
 ghost use Rattle.mbe_parser.specs.RuleViews.{rule_of, rules_seen};
 ghost use Rattle.mbe_semantics.specs.Bindings.Environment.{binding_total};
-ghost use Rattle.mbe_bindings.specs.BindingViews.{bound_by};
-ghost use Rattle.mbe_transcriber.specs.Beside.{IsWhatIsLeft};
-ghost use Rattle.mbe.specs.Choice.{AreChecked, IsTried, IsChosen, IsRemains, is_nearer, nearer_of};
-ghost use Rattle.mbe.specs.Recovering.{IsRecovered, Recovers};
+ghost use Rattle.mbe_bindings.specs.BindingViews.{env_of};
+ghost use Rattle.mbe_transcriber.specs.PartialExpansion.{IsPartialExpansion};
+ghost use Rattle.mbe.specs.RuleChoice.{AreChecked, IsRuleOutcome, IsChosen, IsRuleFailure};
+ghost use Rattle.mbe.specs.RuleChoice.{is_nearer, nearer_of};
+ghost use Rattle.mbe.specs.ClosestRule.{IsRecovered, Recovers};
 
 use mbe_bindings::bindings::Bindings;
 use mbe_log::log::BindingLog;
-use mbe_matcher::matching::{Match, match_argument};
-use mbe_matcher::start::{begins_otherwise, error_at_start};
+use mbe_matcher::matcher::{Match, match_argument};
+use mbe_matcher::prefilter::{error_at_start, starts_with_wrong_token};
 use mbe_ops::errors::error::{ExpandError, ExpandErrorKind};
 use mbe_ops::errors::value_result::{ExpandResult, MatchedArmIndex, ValueResult};
 use mbe_parser::rules::Rule;
@@ -31,9 +33,9 @@ use mbe_tt::span::{DelimSpan, Span};
 use mbe_tt::tt::{SubtreeView, TopSubtree};
 use std::alloc::{AllocError, Allocator};
 
-// One call: what the rules are tried on, and how.
+// A call: the argument and everything else that the rules are tried with.
 #[derive(Drop)]
-struct Call<'a, A: Allocator, G, M> {
+struct CallContext<'a, A: Allocator, G, M> {
     alloc: A,
     grammar: &'a G,
     input: SubtreeView<'a, A>,
@@ -42,19 +44,19 @@ struct Call<'a, A: Allocator, G, M> {
     site: Span,
 }
 
-// What is left of a rule that doesn't apply, for the case that none does.
+// Why a rule doesn't apply, with what the answer needs if no rule does.
 #[derive(Drop)]
-enum Remains<'a, A: Allocator> {
-    // The match failed: what it reports as bound, and its first error.
-    Unfit(Bindings<'a, A>, ExpandError<A>),
-    // The substitution faulted: what was written, and its first fault.
+enum RuleFailure<'a, A: Allocator> {
+    // The match failed. Holds the bindings that it reports, and its first error.
+    MatchFailed(Bindings<'a, A>, ExpandError<A>),
+    // The substitution has a fault. Holds the tree that was written, and the first fault.
     Faulty(TopSubtree<A>, ExpandError<A>),
-    // The pattern begins with a token with which the argument doesn't begin. Of these rules only the
-    // closest one's error is made.
-    Unlike,
+    // The pattern begins with another token than the argument. The error is made later, and only
+    // for the closest rule.
+    OtherStart,
 }
 
-// How near a rule came: how many trees were left, and how much was bound.
+// How near a rule came: the number of unmatched trees, and the number of bindings.
 #[derive(Clone, Copy, Drop)]
 struct Nearness {
     unmatched: usize,
@@ -62,7 +64,7 @@ struct Nearness {
 }
 
 impl Nearness {
-    // Fewer trees are left, or as many and more is bound.
+    // Returns whether fewer trees are unmatched, or as many and more is bound.
     fn is_nearer(self, than: Nearness) -> bool
         ensures { result ≡ is_nearer self than }
     {
@@ -71,31 +73,32 @@ impl Nearness {
     }
 }
 
-// A rule of the style that doesn't apply, and its index.
+// A rule of the style that doesn't apply, with its index.
 #[derive(Drop)]
 struct Candidate<'a, A: Allocator> {
     idx: usize,
     rule: &'a Rule<A>,
     nearness: Nearness,
-    remains: Remains<'a, A>,
+    failure: RuleFailure<'a, A>,
 }
 
-// What one rule of the style comes to.
+// The outcome of trying one rule of the style.
 #[derive(Drop)]
-enum Tried<'a, A: Allocator> {
+enum RuleOutcome<'a, A: Allocator> {
     Applies(TopSubtree<A>),
-    Fails(Nearness, Remains<'a, A>),
+    Fails(Nearness, RuleFailure<'a, A>),
 }
 
-// What all rules come to in a call.
+// The outcome of trying all rules.
 #[derive(Drop)]
-enum Choice<'a, A: Allocator> {
+enum RuleChoice<'a, A: Allocator> {
     NoRule,
     Expanded(TopSubtree<A>, MatchedArmIndex),
     Closest(Candidate<'a, A>),
 }
 
-// The first rule that applies, else the closest one of the style.
+// Expands a call by the first rule that applies. If none applies, the closest rule of the style
+// gives the answer.
 pub(crate) fn expand_rules<A: Allocator + Copy, G: FragmentGrammar, M: Fn(Span) -> Span + Copy>(
     alloc: A,
     grammar: &G,
@@ -114,7 +117,7 @@ pub(crate) fn expand_rules<A: Allocator + Copy, G: FragmentGrammar, M: Fn(Span) 
         (group_of input.entry) (M.post marker) (rules_seen rules.now) style
         (top_group r.value.0) r.value.1 (errors_of r.err)) }
 {
-    let call = Call {
+    let call = CallContext {
         alloc,
         grammar,
         input,
@@ -124,20 +127,20 @@ pub(crate) fn expand_rules<A: Allocator + Copy, G: FragmentGrammar, M: Fn(Span) 
     };
     let choice = choose(&call, rules)?;
     match choice {
-        Choice::Expanded(tree, index) => Ok(ValueResult {
+        RuleChoice::Expanded(tree, index) => Ok(ValueResult {
             value: (tree, index),
             err: None,
         }),
-        Choice::Closest(candidate) => recovered(&call, candidate),
-        Choice::NoRule => no_rule(alloc, site),
+        RuleChoice::Closest(candidate) => recovered(&call, candidate),
+        RuleChoice::NoRule => no_rule(alloc, site),
     }
 }
 
-// Which rule a call goes by.
+// Tries the rules in order and returns the outcome.
 fn choose<'a, A: Allocator + Copy, G: FragmentGrammar, M: Fn(Span) -> Span + Copy>(
-    call: &Call<'a, A, G, M>,
+    call: &CallContext<'a, A, G, M>,
     rules: &'a [Rule<A>],
-) -> Result<Choice<'a, A>, AllocError>
+) -> Result<RuleChoice<'a, A>, AllocError>
     requires checked { AreChecked (rules_seen rules.now) }
     requires may_mark { MayMark (M.pre call.now.marker) }
     ensures { IfOk result (IsChosen (G.grammar call.now.grammar.now) (M.post call.now.marker)
@@ -149,38 +152,38 @@ fn choose<'a, A: Allocator + Copy, G: FragmentGrammar, M: Fn(Span) -> Span + Cop
         if rule.style != call.style {
             continue;
         }
-        let tried = try_rule(call, rule, trees)?;
-        match tried {
-            Tried::Applies(tree) => {
+        let outcome = try_rule(call, rule, trees)?;
+        match outcome {
+            RuleOutcome::Applies(tree) => {
                 let index = arm_index(idx);
-                return Ok(Choice::Expanded(tree, index));
+                return Ok(RuleChoice::Expanded(tree, index));
             }
-            Tried::Fails(nearness, remains) => {
+            RuleOutcome::Fails(nearness, failure) => {
                 let next = Candidate {
                     idx,
                     rule,
                     nearness,
-                    remains,
+                    failure,
                 };
-                consider(&mut nearest, next);
+                keep_nearer(&mut nearest, next);
             }
         }
     }
     match nearest {
-        Some(candidate) => Ok(Choice::Closest(candidate)),
-        None => Ok(Choice::NoRule),
+        Some(candidate) => Ok(RuleChoice::Closest(candidate)),
+        None => Ok(RuleChoice::NoRule),
     }
 }
 
-// A rule's index, where it fits 32 bits.
+// Returns the index of a rule, if it fits 32 bits.
 fn arm_index(idx: usize) -> MatchedArmIndex
     ensures { result ≡ arm_of idx }
 {
     u32::try_from(idx).ok()
 }
 
-// The best so far, and the next one, if it is nearer.
-fn consider<'a, A: Allocator>(nearest: &mut Option<Candidate<'a, A>>, next: Candidate<'a, A>)
+// Keeps the next candidate if it is nearer than the best so far.
+fn keep_nearer<'a, A: Allocator>(nearest: &mut Option<Candidate<'a, A>>, next: Candidate<'a, A>)
     ensures { nearest.new ≡ Some (nearer_of nearest.old next.entry) }
 {
     if let Some(best) = &*nearest
@@ -191,36 +194,36 @@ fn consider<'a, A: Allocator>(nearest: &mut Option<Candidate<'a, A>>, next: Cand
     *nearest = Some(next);
 }
 
-// What a rule comes to, in a call of so many trees.
+// Tries one rule on an argument of so many trees.
 fn try_rule<'a, A: Allocator + Copy, G: FragmentGrammar, M: Fn(Span) -> Span + Copy>(
-    call: &Call<'a, A, G, M>,
+    call: &CallContext<'a, A, G, M>,
     rule: &'a Rule<A>,
     trees: usize,
-) -> Result<Tried<'a, A>, AllocError>
+) -> Result<RuleOutcome<'a, A>, AllocError>
     requires checked { Checked (template_of rule.now.lhs) }
     requires trees { trees ≡ tree_count (group_of call.now.input).1 }
     requires may_mark { MayMark (M.pre call.now.marker) }
-    ensures { IfOk result (IsTried (G.grammar call.now.grammar.now) (M.post call.now.marker)
+    ensures { IfOk result (IsRuleOutcome (G.grammar call.now.grammar.now) (M.post call.now.marker)
         call.now.site (group_of call.now.input) (rule_of rule.now)) }
 {
-    if begins_otherwise(&rule.lhs, call.input.iter().remaining()) {
+    if starts_with_wrong_token(&rule.lhs, call.input.iter().remaining()) {
         let nearness = Nearness {
             unmatched: trees,
             bound: 0,
         };
-        return Ok(Tried::Fails(nearness, Remains::Unlike));
+        return Ok(RuleOutcome::Fails(nearness, RuleFailure::OtherStart));
     }
     match_rule(call, rule)
 }
 
-// What the match of a rule comes to, and what it writes.
+// Matches one rule, and writes its template if the rule matches.
 fn match_rule<'a, A: Allocator + Copy, G: FragmentGrammar, M: Fn(Span) -> Span + Copy>(
-    call: &Call<'a, A, G, M>,
+    call: &CallContext<'a, A, G, M>,
     rule: &'a Rule<A>,
-) -> Result<Tried<'a, A>, AllocError>
+) -> Result<RuleOutcome<'a, A>, AllocError>
     requires checked { Checked (template_of rule.now.lhs) }
     requires may_mark { MayMark (M.pre call.now.marker) }
-    ensures { IfOk result (IsTried (G.grammar call.now.grammar.now) (M.post call.now.marker)
+    ensures { IfOk result (IsRuleOutcome (G.grammar call.now.grammar.now) (M.post call.now.marker)
         call.now.site (group_of call.now.input) (rule_of rule.now)) }
 {
     let mut log = BindingLog::new(call.alloc);
@@ -243,7 +246,7 @@ fn match_rule<'a, A: Allocator + Copy, G: FragmentGrammar, M: Fn(Span) -> Span +
     let bindings = Bindings::build(&log, &bindings)?;
     let nearness = nearness_of(unmatched, &bindings);
     if let Some(err) = err {
-        return Ok(Tried::Fails(nearness, Remains::Unfit(bindings, err)));
+        return Ok(RuleOutcome::Fails(nearness, RuleFailure::MatchFailed(bindings, err)));
     }
     let written = transcribe(
         call.alloc,
@@ -255,15 +258,15 @@ fn match_rule<'a, A: Allocator + Copy, G: FragmentGrammar, M: Fn(Span) -> Span +
     )?;
     let ValueResult { value, err } = written;
     match err {
-        Some(fault) => Ok(Tried::Fails(nearness, Remains::Faulty(value, fault))),
-        None => Ok(Tried::Applies(value)),
+        Some(fault) => Ok(RuleOutcome::Fails(nearness, RuleFailure::Faulty(value, fault))),
+        None => Ok(RuleOutcome::Applies(value)),
     }
 }
 
-// How near a match came that left so many trees and bound this.
+// Returns how near a match came that left so many trees and has these bindings.
 fn nearness_of<A: Allocator>(unmatched: usize, bindings: &Bindings<'_, A>) -> Nearness
     ensures left { result.unmatched ≡ unmatched }
-    ensures bound { result.bound ≡ min (binding_total (bound_by bindings.now)) (2 ^ 64 - 1) }
+    ensures bound { result.bound ≡ min (binding_total (env_of bindings.now)) (2 ^ 64 - 1) }
 {
     Nearness {
         unmatched,
@@ -271,14 +274,14 @@ fn nearness_of<A: Allocator>(unmatched: usize, bindings: &Bindings<'_, A>) -> Ne
     }
 }
 
-// What the closest rule gives, with its error.
+// Returns the answer of the closest rule, with its error.
 fn recovered<A: Allocator + Copy, G: FragmentGrammar, M: Fn(Span) -> Span + Copy>(
-    call: &Call<'_, A, G, M>,
+    call: &CallContext<'_, A, G, M>,
     candidate: Candidate<'_, A>,
 ) -> Result<ExpandResult<(TopSubtree<A>, MatchedArmIndex), A>, AllocError>
     requires may_mark { MayMark (M.pre call.now.marker) }
-    requires remains { IsRemains (G.grammar call.now.grammar.now) (M.post call.now.marker)
-        call.now.site (group_of call.now.input) (rule_of candidate.rule.now) candidate.remains }
+    requires failure { IsRuleFailure (G.grammar call.now.grammar.now) (M.post call.now.marker)
+        call.now.site (group_of call.now.input) (rule_of candidate.rule.now) candidate.failure }
     ensures index { IfOk result (λ r. r.value.1 ≡ arm_of candidate.entry.idx) }
     ensures recovered { IfOk result (λ r. IsRecovered (G.grammar call.now.grammar.now)
         call.now.site (group_of call.now.input) (M.post call.now.marker)
@@ -288,28 +291,29 @@ fn recovered<A: Allocator + Copy, G: FragmentGrammar, M: Fn(Span) -> Span + Copy
         idx,
         rule,
         nearness: _,
-        remains,
+        failure,
     } = candidate;
     let index = arm_index(idx);
-    match remains {
-        Remains::Faulty(tree, err) => Ok(ValueResult {
+    match failure {
+        RuleFailure::Faulty(tree, err) => Ok(ValueResult {
             value: (tree, index),
             err: Some(err),
         }),
-        Remains::Unfit(bound, err) => beside_error(call, rule, index, &bound, err),
-        Remains::Unlike => unlike(call, rule, index),
+        RuleFailure::MatchFailed(bound, err) => expand_with_error(call, rule, index, &bound, err),
+        RuleFailure::OtherStart => recover_other_start(call, rule, index),
     }
 }
 
-// What is given of a rule that begins otherwise than the argument: nothing is bound.
-fn unlike<A: Allocator + Copy, G: FragmentGrammar, M: Fn(Span) -> Span + Copy>(
-    call: &Call<'_, A, G, M>,
+// Returns the answer of a rule that begins with another token than the argument. Nothing is bound.
+fn recover_other_start<A: Allocator + Copy, G: FragmentGrammar, M: Fn(Span) -> Span + Copy>(
+    call: &CallContext<'_, A, G, M>,
     rule: &Rule<A>,
     index: MatchedArmIndex,
 ) -> Result<ExpandResult<(TopSubtree<A>, MatchedArmIndex), A>, AllocError>
     requires may_mark { MayMark (M.pre call.now.marker) }
     requires checked { Checked (template_of rule.now.lhs) }
-    requires otherwise { begins_otherwise (template_of rule.now.lhs) (group_of call.now.input).1
+    requires otherwise { starts_with_wrong_token (template_of rule.now.lhs)
+        (group_of call.now.input).1
         ≡ true }
     ensures index { IfOk result (λ r. r.value.1 ≡ index) }
     ensures recovered { IfOk result (λ r. IsRecovered (G.grammar call.now.grammar.now)
@@ -320,12 +324,13 @@ fn unlike<A: Allocator + Copy, G: FragmentGrammar, M: Fn(Span) -> Span + Copy>(
     let spans = call.input.top_subtree().delimiter.delim_span();
     let err = error_at_start(call.alloc, call.grammar, &rule.lhs, argument, spans)?;
     let bound = Bindings::new(call.alloc);
-    beside_error(call, rule, index, &bound, err)
+    expand_with_error(call, rule, index, &bound, err)
 }
 
-// What is written of a rule under what is bound, beside the error of its match.
-fn beside_error<A: Allocator + Copy, G: FragmentGrammar, M: Fn(Span) -> Span + Copy>(
-    call: &Call<'_, A, G, M>,
+// Writes the template of a rule under these bindings, and returns the tree beside the error of the
+// match.
+fn expand_with_error<A: Allocator + Copy, G: FragmentGrammar, M: Fn(Span) -> Span + Copy>(
+    call: &CallContext<'_, A, G, M>,
     rule: &Rule<A>,
     index: MatchedArmIndex,
     bindings: &Bindings<'_, A>,
@@ -334,8 +339,8 @@ fn beside_error<A: Allocator + Copy, G: FragmentGrammar, M: Fn(Span) -> Span + C
     requires { MayMark (M.pre call.now.marker) }
     ensures index { IfOk result (λ r. r.value.1 ≡ index) }
     ensures err { IfOk result (λ r. errors_of r.err ≡ Some (error_of err)) }
-    ensures left { IfOk result (λ r. IsWhatIsLeft (G.grammar call.now.grammar.now)
-        (M.post call.now.marker) call.now.site (bound_by bindings.now)
+    ensures left { IfOk result (λ r. IsPartialExpansion (G.grammar call.now.grammar.now)
+        (M.post call.now.marker) call.now.site (env_of bindings.now)
         (template_of rule.now.rhs) (top_group r.value.0)) }
 {
     let written = transcribe(
@@ -353,7 +358,7 @@ fn beside_error<A: Allocator + Copy, G: FragmentGrammar, M: Fn(Span) -> Span + C
     })
 }
 
-// No rule is of the style.
+// Returns the answer for a call whose style no rule has.
 fn no_rule<A: Allocator + Copy>(
     alloc: A,
     call_site: Span,

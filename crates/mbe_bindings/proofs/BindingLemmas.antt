@@ -1,5 +1,6 @@
 -- The map of a match, as an environment.
-use Rattle.std.proofs.Common.{◌≡◌, ◌<◌, ◌≤◌, ℕ, zero, suc, Bool, true, false, List, [], ◌∷◌, ◌++◌, length, map, Vec, Option, Some, None, if◌then◌else◌, option_map, refl, sym, ap, ◌∙◌, rules, arith}
+use Rattle.std.proofs.Common.{◌≡◌, ◌<◌, ◌≤◌, ℕ, zero, suc, Bool, true, false, List, [], ◌∷◌, ◌++◌, length, map, Vec}
+use Rattle.std.proofs.Common.{Option, Some, None, if◌then◌else◌, option_map, refl, sym, ap, ◌∙◌, rules, arith}
 use Rattle.std.specs.Str.{bytes_eq}
 use Rattle.std.specs.Option.{option_copied}
 use Rattle.std.proofs.Common.{Bor}
@@ -8,14 +9,15 @@ use Rattle.std.specs.Map.{lookup}
 use Rattle.std.specs.Cmp.Lexicographic.{nat_list_eq_equiv}
 use Rattle.std.proofs.lemmas.Slice.Eq.{bytes_eq-Decides}
 use Rattle.indexmap.specs.IndexMap.{insert_entry}
-use Rattle.mbe_semantics.specs.declared.kinds.MetaVarKind.{MetaVarKind}
+use Rattle.mbe_semantics.specs.declared.fragment_kinds.MetaVarKind.{MetaVarKind}
 use Rattle.mbe_log.specs.declared.fragment.Fragment.{Fragment}
 use Rattle.mbe_bindings.specs.declared.bindings.Binding.{Binding, Fragment as binds, Nested, Empty, Missing, the_lemmas}
 use Rattle.mbe_semantics.specs.Syntax.Op.{Name}
-use Rattle.mbe_semantics.specs.Bindings.Environment.{Environment, Value, fragment, list, empty, missing, no_values, value, add_value, value_of, set_value}
+use Rattle.mbe_semantics.specs.Bindings.Environment.{Environment, Value, fragment, list, empty, missing, no_values}
+use Rattle.mbe_semantics.specs.Bindings.Environment.{value, add_value, value_of, set_value}
 use Rattle.mbe_semantics.specs.Bindings.Account.{filled, grown_in}
 use Rattle.mbe_log.specs.FragmentViews.{fragment_seen}
-use Rattle.mbe_bindings.specs.Growing.{grown_value}
+use Rattle.mbe_bindings.specs.ListGrowth.{grown_value}
 use Rattle.mbe_bindings.specs.BindingViews.{value_seen, all_values}
 
 -- ---- one level of a binding

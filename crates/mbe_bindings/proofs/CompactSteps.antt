@@ -1,10 +1,12 @@
 -- The loops over the lists of a compacted log.
-use Rattle.std.specs.Prelude.{◌≡◌, ◌≢◌, ◌≤◌, ◌<◌, ◌+◌, ℕ, zero, suc, List, [], ◌∷◌, ◌++◌, length, map, take, slice_get, Option, Some, None, option_to_list, refl}
+use Rattle.std.specs.Prelude.{◌≡◌, ◌≢◌, ◌≤◌, ◌<◌, ◌+◌, ℕ, zero, suc, List, [], ◌∷◌, ◌++◌, length, map, take, slice_get}
+use Rattle.std.specs.Prelude.{Option, Some, None, option_to_list, refl}
 use Rattle.std.proofs.Common.{arith, sym, ap, subst, ◌∙◌, ◌⊎◌, inl, inr}
-use Rattle.mbe_semantics.specs.declared.log.Part.{Part}
+use Rattle.mbe_semantics.specs.declared.list_prefix.ListPrefix.{ListPrefix}
 use Rattle.mbe_log.specs.Chain.{Chain, chain_len}
-use Rattle.mbe_bindings.specs.Compacting.{Table, kept_of}
-use Rattle.mbe_bindings.specs.KeptLists.{cut_list, cut_at, IsListKept, IsCutKept, kept_lists, AreCutKept, IsNumbered, Stay}
+use Rattle.mbe_bindings.specs.LogCompaction.{Table, kept_of}
+use Rattle.mbe_bindings.specs.KeptLists.{cut_list, cut_at, IsListKept, IsCutKept, kept_lists, AreCutKept, IsNumbered}
+use Rattle.mbe_bindings.specs.KeptLists.{AreUnmoved}
 use Rattle.mbe_log.proofs.ChainLemmas.{in_range}
 use Rattle.mbe_log.proofs.LogLemmas.{same_or_not}
 
@@ -25,7 +27,7 @@ one_further P xs n y h s p j x l e = go (same_or_not j n)
 
 -- the lists that are kept among the first so many
 abbrev pub AreCutSoFar : {T : Type 0} → Table → Table → (T → Type 0) → List (Chain T) → ℕ → Type 0
-AreCutSoFar {T} all t P ls n = (i : ℕ) (k : Part) → i < n → slice_get t i ≡ Some (Some k)
+AreCutSoFar {T} all t P ls n = (i : ℕ) (k : ListPrefix) → i < n → slice_get t i ≡ Some (Some k)
     → (l : Chain T) × (slice_get ls i ≡ Some l) × IsCutKept all P k.first l
 
 pub list_cut : {T : Type 0} (t : Table) (P : T → Type 0) (ls : List (Chain T)) (n : ℕ) → AreCutSoFar t t P ls n
@@ -42,8 +44,10 @@ pub all_cut : {T : Type 0} (t : Table) (P : T → Type 0) (ls : List (Chain T)) 
     → AreCutSoFar t t P ls n → AreCutKept t P ls
 all_cut t P ls n long h i k s = h i k (let u = in_range t i (Some k) s in omega (arith, u, long)) s
 
-pub one_stays : {T : Type 0} (t : Table) (ls : List (Chain T)) (n : ℕ) (l : Chain T) (k : Part) → Stay t ls n
-    → slice_get ls n ≡ Some l → slice_get t n ≡ Some (Some k) → k.list ≡ n → k.first ≡ chain_len l → Stay t ls (n + 1)
+pub one_stays : {T : Type 0} (t : Table) (ls : List (Chain T)) (n : ℕ) (l : Chain T) (k : ListPrefix)
+    → AreUnmoved t ls n
+    → slice_get ls n ≡ Some l → slice_get t n ≡ Some (Some k) → k.list ≡ n → k.first ≡ chain_len l
+    → AreUnmoved t ls (n + 1)
 one_stays t ls n l k h s e a b i less = go (same_or_not i n)
   where
     whole : k ≡ record { list = n; first = chain_len l }
@@ -70,7 +74,7 @@ numbered_none n [] w = (tt, refl)
 numbered_none n (None ∷ t) w = numbered_none n t w
 numbered_none n (Some k ∷ t) w = let a = numbered_none (suc n) t w.1 in ((w.0, a.0), ap suc a.1)
 
-pub numbered_some : (n : ℕ) (t : Table) (k : Part) → IsNumbered n t → k.list ≡ n + kept_count t
+pub numbered_some : (n : ℕ) (t : Table) (k : ListPrefix) → IsNumbered n t → k.list ≡ n + kept_count t
     → IsNumbered n (t ++ Some k ∷ []) × (kept_count (t ++ Some k ∷ []) ≡ kept_count t + 1)
 numbered_some n [] k w e = (((let u = e in omega (arith, u)), tt), omega arith)
 numbered_some n (None ∷ t) k w e = numbered_some n t k w e
@@ -109,7 +113,7 @@ pub kept_further : {T : Type 0} (all : Table) (f : T → T) (t : Table) (ls : Li
 kept_further {T} all f t ls n = ap (λ j. kept_lists all f (take j t) ls) (let e : n + 1 ≡ suc n = omega arith in e)
     ∙ go t ls n
   where
-    nothing : (n : ℕ) → take {A = Option Part} n [] ≡ []
+    nothing : (n : ℕ) → take {A = Option ListPrefix} n [] ≡ []
     nothing zero = refl
     nothing (suc n) = refl
 
@@ -117,7 +121,7 @@ kept_further {T} all f t ls n = ap (λ j. kept_lists all f (take j t) ls) (let e
     nowhere [] = refl
     nowhere (o ∷ t) = refl
 
-    no_list : (o : Option Part) → cut_at {T = T} all f o None ≡ None
+    no_list : (o : Option ListPrefix) → cut_at {T = T} all f o None ≡ None
     no_list None = refl
     no_list (Some k) = refl
 

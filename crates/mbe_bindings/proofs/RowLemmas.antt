@@ -1,5 +1,6 @@
 -- Rounds whose commands bind a name each, no two the same one.
-use Rattle.std.specs.Prelude.{◌≡◌, ◌+◌, ℕ, zero, suc, List, [], ◌∷◌, ◌++◌, map, take, drop, slice_get, Some, None, true, false, if◌then◌else◌, refl}
+use Rattle.std.specs.Prelude.{◌≡◌, ◌+◌, ℕ, zero, suc, List, [], ◌∷◌, ◌++◌, map, take, drop, slice_get, Some, None, true}
+use Rattle.std.specs.Prelude.{false, if◌then◌else◌, refl}
 use Rattle.std.proofs.Common.{arith, sym, ap, subst, ◌∙◌, append_assoc}
 use Rattle.std.proofs.lemmas.List.{append-nil, map-append}
 use Rattle.std.proofs.lemmas.Map.Keys.{IsDistinct-head, IsDistinct-tail, IsDistinct-cons}
@@ -7,21 +8,23 @@ use Rattle.std.specs.Str.{bytes_eq}
 use Rattle.std.specs.List.{IsDistinct, AllByRecursion}
 use Rattle.std.specs.Cmp.Lexicographic.{nat_list_eq_equiv}
 use Rattle.indexmap.specs.IndexMap.{set_value_at}
-use Rattle.mbe_semantics.specs.declared.log.Part.{Part}
+use Rattle.mbe_semantics.specs.declared.list_prefix.ListPrefix.{ListPrefix}
 use Rattle.mbe_log.specs.declared.log.Command as code
 use Rattle.mbe_bindings.specs.declared.bindings.Binding.{Binding}
 use Rattle.mbe_log.specs.Chain.{Chain}
-use Rattle.mbe_bindings.specs.Flat.{Flat}
-use Rattle.mbe_log.specs.Entries.{entry_seen, log_of}
+use Rattle.mbe_bindings.specs.FlatEntries.{Flat}
+use Rattle.mbe_log.specs.LogEntries.{entry_seen, log_of}
 use Rattle.mbe_log.specs.FragmentViews.{fragment_seen}
 use Rattle.mbe_bindings.specs.BindingViews.{value_seen}
-use Rattle.mbe_bindings.specs.Growing.{grown_value}
-use Rattle.mbe_bindings.specs.Rows.{names_of, entry_name, entry_row, entry_rows, BindsThat, BindApart}
-use Rattle.mbe_bindings.specs.Building.{BindsRound}
+use Rattle.mbe_bindings.specs.ListGrowth.{grown_value}
+use Rattle.mbe_bindings.specs.PlainCommands.{names_of, entry_name, entry_row, entry_rows, BindsNameAt}
+use Rattle.mbe_bindings.specs.PlainCommands.{BindDistinctNames}
+use Rattle.mbe_bindings.specs.Replay.{BindsRound}
 use Rattle.mbe_log.specs.Sound.{GivesCommand}
 use Rattle.mbe_semantics.specs.Syntax.Op.{Name}
 use Rattle.mbe_semantics.specs.Bindings.Environment.{Environment, Value, fragment, empty, missing, value_of, set_value}
-use Rattle.mbe_semantics.specs.Bindings.Account.{Command, Commands, no_commands, command, Log, Gives, add_round_in, grown_in, nothing_taken, run, run_command}
+use Rattle.mbe_semantics.specs.Bindings.Account.{Command, Commands, no_commands, command, Log, Gives, add_round_in}
+use Rattle.mbe_semantics.specs.Bindings.Account.{grown_in, empty_fragment, run, run_command}
 use Rattle.mbe_bindings.proofs.BindingLemmas.{values_of, grown-some}
 use Rattle.mbe_log.proofs.SeenLemmas.{take-none}
 use Rattle.mbe_bindings.proofs.BuildLemmas.{command_head, end_of, flat_gives}
@@ -100,7 +103,7 @@ module _ {A : Type 0} (own : List (code.Command A)) (names : List Name) (start k
   abbrev pub BindSoFar : Type 0
   BindSoFar = map entry_name (take k own) ≡ map Some (take k (drop start names))
 
-  pub bind-step : (x : code.Command A) → slice_get own k ≡ Some x → BindsThat x names (start + k) → BindSoFar
+  pub bind-step : (x : code.Command A) → slice_get own k ≡ Some x → BindsNameAt x names (start + k) → BindSoFar
       → map entry_name (take (k + 1) own) ≡ map Some (take (k + 1) (drop start names))
   bind-step x h b so_far =
       let j : suc k ≡ k + 1 = omega arith in
@@ -110,7 +113,7 @@ module _ {A : Type 0} (own : List (code.Command A)) (names : List Name) (start k
       ∙ sym (map-append Some (take k (drop start names)) (b.0 ∷ []))
       ∙ ap (map Some) (sym (take-next (drop start names) k b.0 (get-drop names start k b.0 b.2))))
 
-  pub bind-end : IsDistinct bytes_eq names → BindSoFar → BindApart (take k own)
+  pub bind-end : IsDistinct bytes_eq names → BindSoFar → BindDistinctNames (take k own)
   bind-end d so_far =
       (take k (drop start names), so_far, distinct-take k (drop start names) (distinct-drop start names d))
 
@@ -131,10 +134,10 @@ binds-as (code.TheVariants.Fragment n x) name h =
     )
 binds-as (code.TheVariants.Optional n) name h =
     let e : n ≡ name = cc in (
-      fragment nothing_taken,
+      fragment empty_fragment,
       (
-        ap (λ m. (m, fragment nothing_taken) ∷ []) e,
-        λ log c g env. ap (λ d. run_command d env) g ∙ ap (λ m. set_value env m (fragment nothing_taken)) e,
+        ap (λ m. (m, fragment empty_fragment) ∷ []) e,
+        λ log c g env. ap (λ d. run_command d env) g ∙ ap (λ m. set_value env m (fragment empty_fragment)) e,
       ),
     )
 binds-as (code.TheVariants.Empty n) name h =
@@ -190,8 +193,9 @@ run-apart log (x ∷ xs) (name ∷ names) ds cs e d g =
     ∙ ap (λ t. run ds [] ++ (t ++ entry_rows xs)) (sym b.1.0)
 
 -- a round whose commands bind a name each
-pub bound_rows : {A : Type 0} (C : List (Chain (code.Command A))) (R : List (Chain Part)) (part : Part) (number : ℕ)
-    (before after : Environment) (xs : List (code.Command A)) → Flat C part xs → BindApart xs
+pub bound_rows : {A : Type 0} (C : List (Chain (code.Command A))) (R : List (Chain ListPrefix)) (part : ListPrefix)
+    (number : ℕ)
+    (before after : Environment) (xs : List (code.Command A)) → Flat C part xs → BindDistinctNames xs
     → after ≡ add_round_in number (entry_rows xs) before → BindsRound C R part number before after
 bound_rows C R part number before after xs flat apart s cs p =
     s ∙ ap (λ e. add_round_in number e before) (sym (run-apart (log_of C R) xs apart.0 no_commands cs apart.1 apart.2

@@ -1,24 +1,29 @@
 -- Building, step by step.
-use Rattle.std.specs.Prelude.{◌≡◌, ◌<◌, ◌≤◌, ◌+◌, ◌-◌, ℕ, suc, List, [], ◌∷◌, length, map, drop, slice_get, Option, Some, None, Result, Ok, Err, OnOk, refl, if◌then◌else◌, Bool, true, false, not}
+use Rattle.std.specs.Prelude.{◌≡◌, ◌<◌, ◌≤◌, ◌+◌, ◌-◌, ℕ, suc, List, [], ◌∷◌, length, map, drop, slice_get, Option}
+use Rattle.std.specs.Prelude.{Some, None, Result, Ok, Err, OnOk, refl, if◌then◌else◌, Bool, true, false, not}
 use Rattle.std.proofs.Common.{arith, sym, ap, subst, ◌∙◌, get_or}
 use Rattle.std.specs.Str.{bytes_eq}
-use Rattle.mbe_semantics.specs.declared.log.Part.{Part}
+use Rattle.mbe_semantics.specs.declared.list_prefix.ListPrefix.{ListPrefix}
 use Rattle.mbe_log.specs.declared.log.Command as code
 use Rattle.mbe_log.specs.Chain.{Chain}
-use Rattle.mbe_bindings.specs.Flat.{Flat, own_of, entry_at, ArePlaces}
-use Rattle.mbe_log.specs.Entries.{entry_seen, log_of}
+use Rattle.mbe_bindings.specs.FlatEntries.{Flat, own_of, entry_at, AreSlots}
+use Rattle.mbe_log.specs.LogEntries.{entry_seen, log_of}
 use Rattle.mbe_semantics.specs.Bindings.Environment.{Environment, fragment, value_of}
-use Rattle.mbe_semantics.specs.Bindings.Account.{Command, Commands, CommandRounds, no_commands, command, no_command_rounds, command_round, RoundEntry, Gives, GivesRounds, PartGives, PartGivesRounds, run, run_command, run_rounds, round_count, add_round_in, grown_in}
+use Rattle.mbe_semantics.specs.Bindings.Account.{Command, Commands, CommandRounds, no_commands, command}
+use Rattle.mbe_semantics.specs.Bindings.Account.{no_command_rounds, command_round, RoundEntry, Gives, GivesRounds}
+use Rattle.mbe_semantics.specs.Bindings.Account.{PartGives, PartGivesRounds, run, run_command, run_rounds, round_count}
+use Rattle.mbe_semantics.specs.Bindings.Account.{add_round_in, grown_in}
 use Rattle.mbe_semantics.specs.Syntax.Op.{Name}
 use Rattle.mbe_log.specs.declared.fragment.Fragment.{Fragment}
 use Rattle.mbe_log.specs.FragmentViews.{fragment_seen}
-use Rattle.mbe_bindings.specs.Building.{BindsRound, IsBuiltSoFar, AreBoundSoFar}
+use Rattle.mbe_bindings.specs.Replay.{BindsRound, IsBuiltSoFar, AreBoundSoFar}
 use Rattle.mbe_log.specs.Sound.{command_depth, rounds_depth, GivesCommand}
-use Rattle.mbe_bindings.specs.Building.{IsPartGrounded, IsCommandGrounded, AreRoundsGrounded}
+use Rattle.mbe_bindings.specs.Replay.{IsPartGrounded, IsCommandGrounded, AreRoundsGrounded}
 use Rattle.mbe_log.proofs.ChainLemmas.{got, in_range}
 use Rattle.mbe_log.proofs.LogLemmas.{there}
 use Rattle.mbe_log.proofs.SeenLemmas.{get-map, map-get, deeper, deeper_rounds}
-use Rattle.mbe_bindings.proofs.BuildLemmas.{drop-at, drop-end, round_head, command_head, end_of, rounds_end_of, flat_gives, flat_rounds}
+use Rattle.mbe_bindings.proofs.BuildLemmas.{drop-at, drop-end, round_head, command_head, end_of, rounds_end_of}
+use Rattle.mbe_bindings.proofs.BuildLemmas.{flat_gives, flat_rounds}
 
 length-mapped : {X Y : Type 0} (f : X → Y) (xs : List X) → length (map f xs) ≡ length xs
 length-mapped f [] = refl
@@ -31,7 +36,8 @@ module _ {T : Type 0} (lists : List (Chain T)) where
   own_there (Some l) i x h = (l, refl, h)
 
   -- what is at the place of this index
-  pub at_place : (items : List Part) (xs : List T) → map (entry_at lists) items ≡ map Some xs → (i : ℕ) (d : Part)
+  pub at_place : (items : List ListPrefix) (xs : List T) → map (entry_at lists) items ≡ map Some xs
+      → (i : ℕ) (d : ListPrefix)
       → i < length items →
       (x : T) × (slice_get xs i ≡ Some x) × (l : Chain T) × (slice_get lists (get_or items i d).list ≡ Some l)
       × (slice_get l.own (get_or items i d).first ≡ Some x)
@@ -48,14 +54,15 @@ module _ {T : Type 0} (lists : List (Chain T)) where
         subst (λ r. slice_get o.0.own r.first ≡ Some m.0) (sym q) o.2,
       )
 
-  module _ (part : Part) (found items : List Part) (a : ArePlaces lists part found) (same : items ≡ found) (i : ℕ) where
+  module _ (part : ListPrefix) (found items : List ListPrefix) (a : AreSlots lists part found) (same : items
+      ≡ found) (i : ℕ) where
     pub alike : map (entry_at lists) items ≡ map Some a.0
     alike = ap (map (entry_at lists)) same ∙ a.2
 
-    pub list_there : (d : Part) → i < length items → (get_or items i d).list < length lists
+    pub list_there : (d : ListPrefix) → i < length items → (get_or items i d).list < length lists
     list_there d h = let p = at_place items a.0 alike i d h in in_range lists (get_or items i d).list p.2 p.3
 
-    pub own_in_list : (d : Part) (l : Chain T) → i < length items → l ≡ get_or lists (get_or items i d).list l
+    pub own_in_list : (d : ListPrefix) (l : Chain T) → i < length items → l ≡ get_or lists (get_or items i d).list l
         → (get_or items i d).first < length l.own
     own_in_list d l h e =
         let p = at_place items a.0 alike i d h in
@@ -63,7 +70,8 @@ module _ {T : Type 0} (lists : List (Chain T)) where
         subst (λ m. (get_or items i d).first < length m.own) (sym q) (in_range p.2.own (get_or items i d).first p.0 p.4)
 
     -- the entry that was found is the one of this index, whichever entries are meant
-    pub same_entry : (d : Part) (l : Chain T) (x : T) → i < length items → l ≡ get_or lists (get_or items i d).list l
+    pub same_entry : (d : ListPrefix) (l : Chain T) (x : T) → i < length items → l
+        ≡ get_or lists (get_or items i d).list l
         → slice_get l.own (get_or items i d).first ≡ Some x →
         (xs : List T) → map (entry_at lists) items ≡ map Some xs → slice_get xs i ≡ Some x
     same_entry d l x h e s xs m =
@@ -73,7 +81,8 @@ module _ {T : Type 0} (lists : List (Chain T)) where
         p.4 in cc in
         p.1 ∙ ap Some r
 
-module _ {A : Type 0} (C : List (Chain (code.Command A))) (R : List (Chain Part)) (items : List Part) (i : ℕ) where
+module _ {A : Type 0} (C : List (Chain (code.Command A))) (R : List (Chain ListPrefix)) (items : List ListPrefix)
+    (i : ℕ) where
   -- ---- commands
 
   module _ (env : Environment) (x : code.Command A) (built : IsBuiltSoFar C R items i env)
@@ -88,7 +97,8 @@ module _ {A : Type 0} (C : List (Chain (code.Command A))) (R : List (Chain Part)
         b.1) in
         (b.0, k.0, k.1, k.2, b.2)
 
-    pub grounded_command : (part : Part) (found : List Part) (most : ℕ) → ArePlaces C part found → items ≡ found
+    pub grounded_command : (part : ListPrefix) (found : List ListPrefix) (most : ℕ) → AreSlots C part found → items
+        ≡ found
         → IsPartGrounded (log_of C R) part most →
         IsCommandGrounded (log_of C R) (entry_seen x) most
     grounded_command part found most a same g =
@@ -106,8 +116,8 @@ module _ {A : Type 0} (C : List (Chain (code.Command A))) (R : List (Chain Part)
           s k.1 k.2 ∙ ap (run_command k.1) k.4,
         )
 
-  pub built-end : (env : Environment) (part : Part) (found : List Part) → IsBuiltSoFar C R items i env
-      → ArePlaces C part found → items ≡ found → length items ≤ i →
+  pub built-end : (env : Environment) (part : ListPrefix) (found : List ListPrefix) → IsBuiltSoFar C R items i env
+      → AreSlots C part found → items ≡ found → length items ≤ i →
       (cs : Commands) → PartGives (log_of C R) no_commands part cs → env ≡ run cs []
   built-end env part found built a same long cs p =
       let m : map (entry_at C) items ≡ map Some a.0 = ap (map (entry_at C)) same ∙ a.2 in
@@ -119,9 +129,9 @@ module _ {A : Type 0} (C : List (Chain (code.Command A))) (R : List (Chain Part)
 
   -- ---- rounds
 
-  module _ (before env : Environment) (x : Part) (bound : AreBoundSoFar C R items i before env)
-      (here : (xs : List Part) → map (entry_at R) items ≡ map Some xs → slice_get xs i ≡ Some x) where
-    next_round : (xs : List Part) → map (entry_at R) items ≡ map Some xs → (rs : CommandRounds)
+  module _ (before env : Environment) (x : ListPrefix) (bound : AreBoundSoFar C R items i before env)
+      (here : (xs : List ListPrefix) → map (entry_at R) items ≡ map Some xs → slice_get xs i ≡ Some x) where
+    next_round : (xs : List ListPrefix) → map (entry_at R) items ≡ map Some xs → (rs : CommandRounds)
         → GivesRounds (log_of C R) no_command_rounds (map RoundEntry.finishes xs) rs →
         (mid : CommandRounds) × (cs : Commands) × PartGives (log_of C R) no_commands x cs
         × GivesRounds (log_of C R) (command_round mid cs) (map RoundEntry.finishes (drop (suc i) xs)) rs
@@ -132,7 +142,7 @@ module _ {A : Type 0} (C : List (Chain (code.Command A))) (R : List (Chain Part)
         (drop-at xs i x (here xs m)) b.1) in
         (b.0, k.0, k.1, k.2, b.2, b.3)
 
-    pub grounded_round : (finished last : Part) (found : List Part) (most : ℕ) → ArePlaces R finished found
+    pub grounded_round : (finished last : ListPrefix) (found : List ListPrefix) (most : ℕ) → AreSlots R finished found
         → items ≡ found → AreRoundsGrounded (log_of C R) finished last most →
         IsPartGrounded (log_of C R) x most
     grounded_round finished last found most a same g =
@@ -150,8 +160,8 @@ module _ {A : Type 0} (C : List (Chain (code.Command A))) (R : List (Chain Part)
               ∙ ap (add_round_in (round_count k.0) (run k.1 [])) k.5,
         )
 
-  pub bound-end : (before env after : Environment) (finished last : Part) (found : List Part)
-      → AreBoundSoFar C R items i before env → ArePlaces R finished found →
+  pub bound-end : (before env after : Environment) (finished last : ListPrefix) (found : List ListPrefix)
+      → AreBoundSoFar C R items i before env → AreSlots R finished found →
       items ≡ found → length items ≤ i → i ≡ length found → BindsRound C R last (length found) env after →
       (rs : CommandRounds) (ds : Commands) → PartGivesRounds (log_of C R) no_command_rounds finished rs
       → PartGives (log_of C R) no_commands last ds →
@@ -167,7 +177,8 @@ module _ {A : Type 0} (C : List (Chain (code.Command A))) (R : List (Chain Part)
       ∙ ap (add_round_in (round_count rs) (run ds [])) (b.3 ∙ ap (λ t. run_rounds t before) e)
 
 -- a round of one variable: its list gets that value
-pub bound_alone : {A : Type 0} (C : List (Chain (code.Command A))) (R : List (Chain Part)) (part : Part) (number : ℕ)
+pub bound_alone : {A : Type 0} (C : List (Chain (code.Command A))) (R : List (Chain ListPrefix)) (part : ListPrefix)
+    (number : ℕ)
     (before after : Environment)
     (name : Name) (x : Fragment A) → Flat C part (code.TheVariants.Fragment name x ∷ []) →
     after ≡ grown_in number before name (fragment (fragment_seen x)) (value_of before name)
@@ -183,7 +194,8 @@ is_false true h = cc
 is_false false h = refl
 
 -- a round of two variables: the list of each gets its value
-pub bound_pair : {A : Type 0} (C : List (Chain (code.Command A))) (R : List (Chain Part)) (part : Part) (number : ℕ)
+pub bound_pair : {A : Type 0} (C : List (Chain (code.Command A))) (R : List (Chain ListPrefix)) (part : ListPrefix)
+    (number : ℕ)
     (before middle after : Environment) (name other : Name) (x y : Fragment A)
     → Flat C part (code.TheVariants.Fragment name x ∷ (code.TheVariants.Fragment other y ∷ []))
     → bytes_eq name other ≡ false
@@ -205,7 +217,8 @@ bound_pair {A} C R part number before middle after name other x y flat differ s 
     ∙ ap (λ ds. add_round_in number (run ds []) before) e
 
 -- a round that is built by itself
-pub bound_apart : {A : Type 0} (C : List (Chain (code.Command A))) (R : List (Chain Part)) (part : Part) (number : ℕ)
+pub bound_apart : {A : Type 0} (C : List (Chain (code.Command A))) (R : List (Chain ListPrefix)) (part : ListPrefix)
+    (number : ℕ)
     (before after round : Environment) →
     ((cs : Commands) → PartGives (log_of C R) no_commands part cs → round ≡ run cs [])
     → after ≡ add_round_in number round before →
@@ -220,8 +233,8 @@ written_by (Ok x) P c before after h only = λ d p. h ∙ ap (λ e. run_command 
 written_by (Err e) P c before after h only = h
 
 -- a nested command: its rounds are a level less deep, and it binds what they do
-module _ {A : Type 0} (C : List (Chain (code.Command A))) (R : List (Chain Part)) (x : code.Command A)
-    (finished current : Part) (is : x ≡ code.TheVariants.Nested finished current) where
+module _ {A : Type 0} (C : List (Chain (code.Command A))) (R : List (Chain ListPrefix)) (x : code.Command A)
+    (finished current : ListPrefix) (is : x ≡ code.TheVariants.Nested finished current) where
   pub nested_grounded : (most : ℕ) → IsCommandGrounded (log_of C R) (entry_seen x) most
       → AreRoundsGrounded (log_of C R) finished current (most - 1) × (1 ≤ most)
   nested_grounded most g =

@@ -1,8 +1,8 @@
 pub mod BindingViews
-pub mod Building
-pub mod Collected
-pub mod Compacting
-pub mod Flat
-pub mod Growing
+pub mod Replay
+pub mod LinkTraversal
+pub mod LogCompaction
+pub mod FlatEntries
+pub mod ListGrowth
 pub mod KeptLists
-pub mod Rows
+pub mod PlainCommands

@@ -1,37 +1,39 @@
-// What the names of a match are bound to. A binding is what a template writes for `$x`: the trees that the variable took,
-// or, if `$x` is in a repetition, a list with a binding for each round, to the depth of the repetitions around it.
+// The bindings of a match: a map from names to what they are bound to. A name outside of
+// repetitions is bound to a fragment. A name in a repetition is bound to a list with one binding
+// for each round, and so on for each repetition around it. A template writes `$x` by this binding.
 ghost use Rattle.std.specs.Prelude.{◌≡◌, ◌+◌, ◌-◌, ◌≤◌, ◌^◌, min, [], length, map, IfOk, IsTrue};
 ghost use Rattle.std.specs.Prelude.{OnOk, OnErr, Some, option_map, slice_get};
 ghost use Rattle.std.specs.List.{IsDistinct};
 ghost use Rattle.std.specs.Str.{bytes_eq};
-ghost use Rattle.mbe_bindings.specs.Rows.{names_of};
+ghost use Rattle.mbe_bindings.specs.PlainCommands.{names_of};
 ghost use Rattle.indexmap.specs.IndexMap.{index_map_len};
 ghost use Rattle.mbe_semantics.specs.Bindings.Environment.{add_value, binding_total, set_value};
 ghost use Rattle.mbe_semantics.specs.Bindings.Environment.{value_of};
 ghost use Rattle.mbe_semantics.specs.Bindings.Account.{add_round_in, filled};
-ghost use Rattle.mbe_bindings.specs.Growing.{grown, grown_value};
-ghost use Rattle.mbe_bindings.specs.BindingViews.{all_values, bound_by, value_seen};
+ghost use Rattle.mbe_bindings.specs.ListGrowth.{grown, grown_value};
+ghost use Rattle.mbe_bindings.specs.BindingViews.{all_values, env_of, value_seen};
 
-use crate::counting::binding_count;
+use crate::value_count::binding_count;
 use indexmap::IndexMap;
 use mbe_log::fragment::Fragment;
-use mbe_semantics::kinds::MetaVarKind;
+use mbe_semantics::fragment_kinds::MetaVarKind;
 use mbe_tt::symbol::Symbol;
 use std::alloc::{AllocError, Allocator, Global};
 use std::fmt;
 use std::hash::{BuildHasherDefault, FoldHasher};
 
-/// What a name is bound to: what its variable took; of a variable in a repetition, a list.
+/// What a name is bound to: a fragment, or a list if its variable is in a repetition.
 #[derive_where(PartialEq, Eq)]
 #[derive(Drop)]
 pub enum Binding<'a, A: Allocator = Global> {
-    /// What the variable took.
+    /// The fragment of the variable.
     Fragment(Fragment<'a, A>),
-    /// One for each round of a repetition.
+    /// One binding for each round of a repetition.
     Nested(Vec<Binding<'a, A>, A>),
     /// The repetition had no rounds.
     Empty,
-    /// The match failed, as nothing that the variable takes was there. A template writes a default of this kind.
+    /// The match failed at the variable: nothing there fits this kind. A template writes a default
+    /// of the kind.
     Missing(MetaVarKind),
 }
 
@@ -53,7 +55,8 @@ impl<A: Allocator> fmt::Debug for Binding<'_, A> {
     }
 }
 
-/// The names that a match binds, in the order in which they were first bound. Equality asks for no order.
+/// The names that a match binds, in the order in which they were first bound. Equality doesn't
+/// depend on the order.
 #[derive_where(PartialEq, Eq)]
 #[derive(Drop)]
 pub struct Bindings<'a, A: Allocator = Global> {
@@ -70,7 +73,7 @@ impl<A: Allocator> fmt::Debug for Bindings<'_, A> {
     }
 }
 
-// One name and what it is bound to.
+// Writes one name and its binding.
 fn fmt_bound<A: Allocator, W: fmt::Write>(
     name: &Symbol<A>,
     binding: &Binding<'_, A>,
@@ -80,24 +83,25 @@ fn fmt_bound<A: Allocator, W: fmt::Write>(
 }
 
 impl<'a, A: Allocator> Bindings<'a, A> {
-    /// What the name is bound to.
+    /// Returns what the name is bound to.
     pub fn get(&self, name: &Symbol<A>) -> Option<&Binding<'a, A>>
         ensures { option_map (λ x. value_seen x.now) result
-            ≡ value_of (bound_by self.now) name.now }
+            ≡ value_of (env_of self.now) name.now }
     {
         self.inner.get(name)
     }
 
-    /// The number of names.
+    /// Returns the number of names.
     pub fn len(&self) -> usize
-        ensures { result ≡ length (bound_by self.now) }
+        ensures { result ≡ length (env_of self.now) }
     {
         self.inner.len()
     }
 
-    /// The number of fragments, skipped and missing ones, inside lists too; `u64::MAX` if there are more.
+    /// Returns the number of bindings that aren't lists (fragments, skipped and missing ones), at
+    /// any depth. `u64::MAX` if there are more.
     pub fn count(&self) -> u64
-        ensures { result ≡ min (binding_total (bound_by self.now)) (2 ^ 64 - 1) }
+        ensures { result ≡ min (binding_total (env_of self.now)) (2 ^ 64 - 1) }
     {
         let mut count: u64 = 0;
         for (_name, binding) in &self.inner {
@@ -106,11 +110,11 @@ impl<'a, A: Allocator> Bindings<'a, A> {
         count
     }
 
-    // Whether there are so many names from this index on.
+    // Returns whether there are at least `count` names from this index on.
     #[inline(always)]
     pub(crate) fn has_names(&self, start: usize, count: usize) -> bool
         ensures within { IsTrue result → start + count ≤ 2 ^ 63 }
-        ensures distinct { IsDistinct bytes_eq (names_of (bound_by self.now)) }
+        ensures distinct { IsDistinct bytes_eq (names_of (env_of self.now)) }
     {
         let len = self.inner.len();
         if len < start {
@@ -122,10 +126,10 @@ impl<'a, A: Allocator> Bindings<'a, A> {
         true
     }
 
-    // The name at this index.
+    // Returns the name at this index.
     #[inline(always)]
     pub(crate) fn name_at(&self, index: usize) -> Option<&Symbol<A>>
-        ensures { option_map (λ x. x.now) result ≡ slice_get (names_of (bound_by self.now)) index }
+        ensures { option_map (λ x. x.now) result ≡ slice_get (names_of (env_of self.now)) index }
     {
         match self.inner.get_index(index) {
             Some((name, _binding)) => Some(name),
@@ -133,11 +137,11 @@ impl<'a, A: Allocator> Bindings<'a, A> {
         }
     }
 
-    // Whether the name is the one at this index.
+    // Returns whether the name at this index is `name`.
     #[inline(always)]
-    pub(crate) fn is_at(&self, index: usize, name: &Symbol<A>) -> bool
+    pub(crate) fn has_name_at(&self, index: usize, name: &Symbol<A>) -> bool
         ensures { IsTrue result
-            → slice_get (names_of (bound_by self.now)) index ≡ Some name.now }
+            → slice_get (names_of (env_of self.now)) index ≡ Some name.now }
     {
         match self.name_at(index) {
             Some(found) => found == name,
@@ -147,51 +151,52 @@ impl<'a, A: Allocator> Bindings<'a, A> {
 }
 
 impl<'a, A: Allocator + Copy> Bindings<'a, A> {
-    /// No name is bound.
+    /// Makes bindings without a name.
     pub fn new(alloc: A) -> Bindings<'a, A>
-        ensures { bound_by result ≡ [] }
+        ensures { env_of result ≡ [] }
     {
         Bindings {
             inner: IndexMap::new(alloc),
         }
     }
 
-    // No name is bound, and there is room for so many.
+    // Makes bindings without a name, and with room for so many. `AllocError` if out of memory.
     pub(crate) fn with_room(alloc: A, names: usize) -> Result<Bindings<'a, A>, AllocError>
-        ensures { IfOk result (λ b. bound_by b ≡ []) }
+        ensures { IfOk result (λ b. env_of b ≡ []) }
     {
         let inner = IndexMap::with_capacity(alloc, names)?;
         Ok(Bindings { inner })
     }
 
-    /// The name is bound to this now, whatever it was bound to. `AllocError` if out of memory.
+    /// Binds the name to this value and drops the old one. `AllocError` if out of memory.
     pub fn insert(&mut self, name: &Symbol<A>, value: Binding<'a, A>) -> Result<(), AllocError>
-        ensures ok { OnOk result (bound_by self.new
-            ≡ set_value (bound_by self.old) name.now (value_seen value.entry)) }
-        ensures err { OnErr result (bound_by self.new ≡ bound_by self.old) }
+        ensures ok { OnOk result (env_of self.new
+            ≡ set_value (env_of self.old) name.now (value_seen value.entry)) }
+        ensures err { OnErr result (env_of self.new ≡ env_of self.old) }
     {
         self.put(name.clone()?, value)?;
         Ok(())
     }
 
     fn put(&mut self, name: Symbol<A>, value: Binding<'a, A>) -> Result<(), AllocError>
-        ensures ok { OnOk result (bound_by self.new
-            ≡ set_value (bound_by self.old) name (value_seen value.entry)) }
-        ensures err { OnErr result (bound_by self.new ≡ bound_by self.old) }
+        ensures ok { OnOk result (env_of self.new
+            ≡ set_value (env_of self.old) name (value_seen value.entry)) }
+        ensures err { OnErr result (env_of self.new ≡ env_of self.old) }
     {
         let _replaced = self.inner.insert(name, value)?;
         Ok(())
     }
 
-    // Each name of the round of this number gives its list one value more.
+    // Adds a round: each of its names adds one value to its list. The round has this number, from
+    // 0.
     pub(crate) fn add_round(
         &mut self,
         alloc: A,
         number: usize,
         round: Bindings<'a, A>,
     ) -> Result<(), AllocError>
-        ensures { OnOk result (bound_by self.new
-            ≡ add_round_in number (bound_by round.entry) (bound_by self.old)) }
+        ensures { OnOk result (env_of self.new
+            ≡ add_round_in number (env_of round.entry) (env_of self.old)) }
     {
         for (name, value) in round.inner {
             self.grow(alloc, number, &name, value)?;
@@ -199,7 +204,7 @@ impl<'a, A: Allocator + Copy> Bindings<'a, A> {
         Ok(())
     }
 
-    // The same as `grow`, for a name that most likely is the one at this index.
+    // Does the same as `grow`. It is fast if the name is the one at this index.
     pub(crate) fn grow_at(
         &mut self,
         alloc: A,
@@ -208,10 +213,10 @@ impl<'a, A: Allocator + Copy> Bindings<'a, A> {
         name: &Symbol<A>,
         value: Binding<'a, A>,
     ) -> Result<(), AllocError>
-        ensures { OnOk result (bound_by self.new
-            ≡ grown number (bound_by self.old) name.now (value_seen value.entry)) }
+        ensures { OnOk result (env_of self.new
+            ≡ grown number (env_of self.old) name.now (value_seen value.entry)) }
     {
-        if self.is_at(index, name)
+        if self.has_name_at(index, name)
             && let Some(found) = self.inner.get_index_mut(index)
         {
             grow_value(alloc, found, number, value)?;
@@ -220,7 +225,8 @@ impl<'a, A: Allocator + Copy> Bindings<'a, A> {
         self.grow(alloc, number, name, value)
     }
 
-    // One value more of a list. A name that has no list yet gets one, and any other value stays.
+    // Adds a value to the name's list. A name that isn't bound gets a list. A value that is no list
+    // stays.
     pub(crate) fn grow(
         &mut self,
         alloc: A,
@@ -228,8 +234,8 @@ impl<'a, A: Allocator + Copy> Bindings<'a, A> {
         name: &Symbol<A>,
         value: Binding<'a, A>,
     ) -> Result<(), AllocError>
-        ensures { OnOk result (bound_by self.new
-            ≡ grown number (bound_by self.old) name.now (value_seen value.entry)) }
+        ensures { OnOk result (env_of self.new
+            ≡ grown number (env_of self.old) name.now (value_seen value.entry)) }
     {
         match self.inner.get_mut(name) {
             Some(found) => {
@@ -246,7 +252,7 @@ impl<'a, A: Allocator + Copy> Bindings<'a, A> {
     }
 }
 
-// A list gets one value more; any other value stays.
+// Adds a value to a list. A binding that is no list stays.
 fn grow_value<'a, A: Allocator + Copy>(
     alloc: A,
     binding: &mut Binding<'a, A>,
@@ -262,7 +268,7 @@ fn grow_value<'a, A: Allocator + Copy>(
     }
 }
 
-// One value more, after empty lists for the rounds that the list lacks.
+// Adds a value to a list, after an empty list for each round that it lacks.
 fn push_round<'a, A: Allocator + Copy>(
     alloc: A,
     list: &mut Vec<Binding<'a, A>, A>,

@@ -1,11 +1,12 @@
-// What is built of a log of bindings: what names are bound to, and a log that has only what some handles stand for. A layer of `mbe`:
-// use that crate.
+// Bindings, and how they are made from a log: `Bindings::build` replays the commands of a handle.
+// `Compacted` is a smaller log with the entries that some handles need. A layer of `mbe`: use that
+// crate.
 #![tactic(auto)]
 
 pub mod bindings;
-mod building;
-pub mod compact;
-mod counting;
-mod reading;
+mod chain_entries;
+pub mod log_compaction;
+mod replay;
+mod value_count;
 
 pub use crate::bindings::{Binding, Bindings};

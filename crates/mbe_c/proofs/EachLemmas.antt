@@ -1,19 +1,21 @@
 -- Answers to many arguments, one after another.
-use Rattle.std.proofs.Common.{◌≡◌, ◌∙◌, ◌+◌, ◌<◌, inl, inr, ℕ, zero, suc, List, [], ◌∷◌, ◌++◌, take, length, slice_index_or, Option, Some, None, add-one, arith, refl, subst, sym}
+use Rattle.std.proofs.Common.{◌≡◌, ◌∙◌, ◌+◌, ◌<◌, inl, inr, ℕ, zero, suc, List, [], ◌∷◌, ◌++◌, take, length}
+use Rattle.std.proofs.Common.{slice_index_or, Option, Some, None, add-one, arith, refl, subst, sym}
 use Rattle.std.proofs.lemmas.List.{flat_map_more, map-append}
-use Rattle.mbe_program.specs.declared.replies.flat.token.FlatSpan.{FlatSpan}
-use Rattle.mbe_program.specs.declared.replies.calls.Request.{Request}
+use Rattle.mbe_program.specs.declared.replies.flat.flat_token.FlatSpan.{FlatSpan}
+use Rattle.mbe_program.specs.declared.replies.requests.Request.{Request}
 use Rattle.mbe_program.specs.declared.replies.read_macro.ReadMacro.{ReadMacro}
 use Rattle.mbe_program.specs.Replies.Answers.{Answer}
-use Rattle.mbe_program.specs.Replies.Calls.{Source, Expands}
-use Rattle.mbe_program.specs.Replies.ReadOnce.{AnswersBy, IsMacro, asked_at}
+use Rattle.mbe_program.specs.Replies.Requests.{Source, Expands}
+use Rattle.mbe_program.specs.Replies.ReadMacros.{AnswersBy, IsMacro, asked_at}
 use Rattle.mbe_program.proofs.ReplyLemmas.BareLemmas.{IsBare, out_of_memory-bare, unread-bare}
-use Rattle.mbe_c.specs.declared.each.Piece.{Piece}
+use Rattle.mbe_c.specs.declared.batch.ArgumentPiece.{ArgumentPiece}
 use Rattle.mbe_c.specs.Copies.{reply_to}
-use Rattle.mbe_c.specs.Each.{AreAnswersAt, AreJoined, IsAnswerAt, IsAnswerTo, IsNoExpansion, Joined, argument_at, joined, with_answer}
+use Rattle.mbe_c.specs.Batch.{AreAnswersAt, AreJoined, IsAnswerAt, IsAnswerTo, IsNoExpansion, Joined, argument_at}
+use Rattle.mbe_c.specs.Batch.{joined, with_answer}
 
 module _ (Answers : Source → FlatSpan → Answer → Type 0) (all : Source) where
-  answers_at : (ps : List Piece) (n : ℕ) (xs : List Answer) (other : Piece) (a : Answer) → n < length ps
+  answers_at : (ps : List ArgumentPiece) (n : ℕ) (xs : List Answer) (other : ArgumentPiece) (a : Answer) → n < length ps
       → AreAnswersAt Answers all (take n ps) xs → IsAnswerAt Answers all (slice_index_or ps n other) a
       → AreAnswersAt Answers all (take (suc n) ps) (xs ++ a ∷ [])
   answers_at [] n xs other a l h k = absurd (omega (arith, l))
@@ -32,8 +34,8 @@ joined_more xs a =
       sym (flat_map_more (λ (x : Answer). x.message) [] xs a),
     ) refl
 
-pub one_answer_more : (Answers : Source → FlatSpan → Answer → Type 0) (all : Source) (ps : List Piece) (n : ℕ)
-    (other : Piece) (a : Answer)
+pub one_answer_more : (Answers : Source → FlatSpan → Answer → Type 0) (all : Source) (ps : List ArgumentPiece) (n : ℕ)
+    (other : ArgumentPiece) (a : Answer)
     (before after : Joined) → n < length ps → AreJoined Answers all (take n ps) before
     → IsAnswerAt Answers all (slice_index_or ps n other) a
     → after ≡ with_answer before a → AreJoined Answers all (take (n + 1) ps) after
@@ -55,7 +57,7 @@ module _ {A : Type 0} (m : ReadMacro A) (r : Request) (text : List ℕ) (definit
   allowed site (Some argument) a h = h r text definition is
   allowed site None a h = h
 
-  all_allowed : (all : Source) (ps : List Piece) (xs : List Answer) → AreAnswersAt (AnswersBy m) all ps xs
+  all_allowed : (all : Source) (ps : List ArgumentPiece) (xs : List Answer) → AreAnswersAt (AnswersBy m) all ps xs
       → AreAnswersAt Allowed all ps xs
   all_allowed all [] [] h = h
   all_allowed all [] (a ∷ xs) h = absurd h
@@ -63,7 +65,7 @@ module _ {A : Type 0} (m : ReadMacro A) (r : Request) (text : List ℕ) (definit
   all_allowed all (p ∷ ps) (a ∷ xs) (first, rest) =
       (allowed p.call_site (argument_at all p) a first, all_allowed all ps xs rest)
 
-  pub joined_allowed : (all : Source) (ps : List Piece) (j : Joined) → AreJoined (AnswersBy m) all ps j
+  pub joined_allowed : (all : Source) (ps : List ArgumentPiece) (j : Joined) → AreJoined (AnswersBy m) all ps j
       → AreJoined Allowed all ps j
   joined_allowed all ps j (xs, answers, e) = (xs, all_allowed all ps xs answers, e)
 

@@ -1,6 +1,6 @@
 -- What is given of an answer that shows no tokens and no text: its message.
 use Rattle.std.proofs.Common.{◌≡◌, ◌∙◌, ℕ, Bool, true, List, [], ap, refl}
-use Rattle.mbe_program.specs.declared.replies.flat.token.FlatToken.{FlatToken}
+use Rattle.mbe_program.specs.declared.replies.flat.flat_token.FlatToken.{FlatToken}
 use Rattle.mbe_program.specs.Replies.Answers.{Answer}
 use Rattle.mbe_program.proofs.ReplyLemmas.BareLemmas.{IsBare}
 use Rattle.mbe_c.specs.declared.Reply.{Reply}

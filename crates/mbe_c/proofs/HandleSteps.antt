@@ -3,7 +3,8 @@
 --     word, word_good            a handle's machine value, which is of its type
 --     handle_out, handle_in      a handle is [what it owns beside its fields; its allocator]
 --     by_held                    it has none, or one in a block
-use Rattle.std.proofs.Common.{◌≡◌, ◌≢◌, ◌&&◌, ℕ, ◌^◌, ◌<◌, Bool, true, false, not, T, eqb, List, [], ◌∷◌, ◌++◌, refl, subst, ◌∙◌, lit<, w64}
+use Rattle.std.proofs.Common.{◌≡◌, ◌≢◌, ◌&&◌, ℕ, ◌^◌, ◌<◌, Bool, true, false, not, T, eqb, List, [], ◌∷◌, ◌++◌, refl}
+use Rattle.std.proofs.Common.{subst, ◌∙◌, lit<, w64}
 use Rattle.std.specs.Prelude.{Option, Some, None}
 use seplogic.Ra.Ura.{Ura}
 use mir.Syntax.{impl, tnil, dnil, int_big, ty_ptr}
@@ -28,10 +29,10 @@ use Rattle.std.specs.contracts.impls.GlobalAllocator.TheImpl.{ghosts, dict}
 use Rattle.std.proofs.alloc.Global.TheLaws as heap_laws
 use Rattle.std.proofs.alloc.Calls.{handle_tells}
 use Rattle.std.proofs.BoxSteps.Form.{Bx}
-use Rattle.mbe_program.proofs.replies.kept.KeptMacro.TheLaws as macro_laws
-use Rattle.mbe_c.specs.Held.{macro_row, HeldMacro, handle_owns, has_one}
-use Rattle.mbe_c.specs.contracts.block.Block as block
-use Rattle.mbe_c.specs.contracts.handle.Macro as handle
+use Rattle.mbe_program.proofs.replies.kept_macro.KeptMacro.TheLaws as macro_laws
+use Rattle.mbe_c.specs.HandleOwnership.{macro_row, HeldMacro, handle_owns, macro_state}
+use Rattle.mbe_c.specs.contracts.raw_box.RawBox as block
+use Rattle.mbe_c.specs.contracts.handle.MacroHandle as handle
 
 abbrev pub E : Bx
 E = record {
@@ -99,8 +100,8 @@ module _ {M : Type 1} {𝓤 : Ura M} {𝓛 : Logic 𝓤} {K : Type 0} {Γ : List
       fjoin t $ s)
 
   pub by_held : K → (alloc : Global) (at : Ptr) (state : ℕ) (held : Option HeldMacro)
-      → (held ≡ None → state ≢ has_one → Seq K 𝓛 Γ G)
-      → ((b o : ℕ) (m : HeldMacro) → held ≡ Some m → at ≡ block_ptr b o → state ≡ has_one
+      → (held ≡ None → state ≢ macro_state → Seq K 𝓛 Γ G)
+      → ((b o : ℕ) (m : HeldMacro) → held ≡ Some m → at ≡ block_ptr b o → state ≡ macro_state
       → Seq K 𝓛 (‵ (box_owns (ghosts.dealloc_token alloc) macro_row (block_ptr b o) m) ∷ Γ) G)
       → Seq K 𝓛 (‵ (handle_owns alloc at state held) ∷ Γ) G
   by_held t alloc at state None none one = fpick t (λ other. drop t $ none refl other)
@@ -120,5 +121,5 @@ ptr_good (block_ptr b o) = (tt, tt)
 ptr_good null_ptr = (tt, record { fits = lit< tt })
 
 -- the state of a handle that has none
-pub zero-is_none : 0 ≢ has_one
+pub zero-is_none : 0 ≢ macro_state
 zero-is_none e = subst (λ (n : ℕ). T (eqb 0 n)) e tt

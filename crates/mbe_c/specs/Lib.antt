@@ -1,4 +1,4 @@
 pub mod Copies
-pub mod Each
+pub mod Batch
 pub mod Handles
-pub mod Held
+pub mod HandleOwnership

@@ -1,58 +1,61 @@
-// The expander for C, and for all that calls C: each export calls a function of `mbe_program::replies`, and copies its answer into memory of
-// the caller. What a call allocates is freed when it returns, but for the macro that `mbe_c_macro_read` leaves in a handle.
-// `bindings/c/mbe.h` declares them.
+// The expander for C, and for every language that calls C. `bindings/c/mbe.h` declares its exports.
+//
+// Each export calls a function of `mbe_program::replies`, and copies the answer into buffers of the
+// caller. What a call allocates is freed when it returns, except for the macro that
+// `mbe_c_macro_read` leaves in a handle.
 #![tactic(auto)]
 
 ghost use Rattle.std.specs.Prelude.{◌≡◌, ◌-◌, ◌^◌, length, min, nat_le, None};
 ghost use Rattle.mbe_program.specs.Replies.Answers.{answer_of};
-ghost use Rattle.mbe_program.specs.Replies.Calls.{argument_of, definition_of};
+ghost use Rattle.mbe_program.specs.Replies.Requests.{argument_of, definition_of};
 ghost use Rattle.mbe_c.specs.Copies as spec;
-ghost use Rattle.mbe_c.specs.Each.{answers_seen, GivesAll, GivesExpansions};
+ghost use Rattle.mbe_c.specs.Batch.{answers_seen, GivesAll, GivesExpansions};
 ghost use Rattle.mbe_c.specs.Handles.{argument_of_call, freed, GivesAnswer, GivesMacro};
 
-mod block;
-mod each;
+mod batch;
+mod boxed_macro;
 mod handle;
-mod macros;
+mod raw_box;
 
-use crate::each::{Answers, Piece, expand_each};
-use crate::handle::Macro;
-use crate::macros::read_macro;
-use mbe_program::replies::answer::{Answer, Part, Status};
-use mbe_program::replies::calls::{
+use crate::batch::{Answers, ArgumentPiece, expand_each};
+use crate::boxed_macro::read_macro;
+use crate::handle::MacroHandle;
+use mbe_program::replies::answer::{Answer, RequestPart, Status};
+use mbe_program::replies::flat::flat_token::{FlatSpan, FlatToken, flat_span};
+use mbe_program::replies::kept_macro::KeptCall;
+use mbe_program::replies::requests::{
     FlatVerdict, Input, Request, check_grammar, convert, define, expand, explain,
 };
-use mbe_program::replies::flat::token::{FlatSpan, FlatToken, flat_span};
-use mbe_program::replies::kept::Call;
 use std::alloc::{Allocator, Global};
 
-/// What is said of an answer, in numbers.
+/// The reply to a call: what the answer says, in numbers.
 #[repr(C)]
 #[derive(Clone, Copy, Default, Drop)]
 pub struct Reply {
-    /// `Status::number`.
+    /// The status, `Status::number`.
     pub status: u32,
-    /// The part at fault, `Part::number`.
+    /// The input at fault, `RequestPart::number`.
     pub part: u32,
-    /// 1 where there is a rule, else 0.
+    /// 1 if there is a rule, else 0.
     pub has_rule: u32,
-    /// The index of the rule that was used, or that fits best.
+    /// The index of the rule that was used, or of the rule that fits best.
     pub rule: u32,
-    /// Where the error of an expansion is.
+    /// The span of an expansion's error.
     pub span: FlatSpan,
-    /// Of `NoGrammar` the column, of which what is above 32 bits is 2^32 - 1.
+    /// The column of the fault, for `NoGrammar`. A column above 2^32 - 1 is given as 2^32 - 1.
     pub column: u32,
-    /// Of `NoTokens` the byte, of `NoTrees` the token, of `NoGrammar` the line; of `mbe_c_define` the number of rules.
+    /// Where the fault is: the byte for `NoTokens`, the token for `NoTrees`, the line for
+    /// `NoGrammar`. For `mbe_c_define` it is the number of rules.
     pub place: usize,
-    /// How many tokens, or verdicts, there are, which may be more than the buffer has room for.
+    /// The number of tokens or verdicts, which may be more than the buffer has room for.
     pub tokens: usize,
-    /// How many bytes the text has.
+    /// The number of bytes of the text.
     pub text: usize,
-    /// How many bytes the message has. Where the buffer has no room for them all, none is written.
+    /// The number of bytes of the message. If the buffer has too little room, none is written.
     pub message: usize,
 }
 
-/// The number of this interface, which changes with each struct and export.
+/// Returns the version of this interface. It changes whenever a struct or an export changes.
 #[unsafe(no_mangle)]
 pub extern "C" fn mbe_c_version() -> u32
     ensures { result ≡ 3 }
@@ -60,7 +63,8 @@ pub extern "C" fn mbe_c_version() -> u32
     3
 }
 
-// Copies these to the front, if there is room for them all; else nothing.
+// Copies `from` to the front of `to`, if there is room for all of it, else nothing. Returns whether
+// there was.
 fn put<T: Copy>(from: &[T], to: &mut [T]) -> bool
     ensures fits { result ≡ nat_le (length from.now) (length to.old) }
     ensures copied { to.new ≡ spec.copied from.now to.old }
@@ -73,7 +77,7 @@ fn put<T: Copy>(from: &[T], to: &mut [T]) -> bool
     true
 }
 
-// What is said of an answer.
+// Returns the reply to an answer, if the buffers have room.
 pub(crate) fn reply_of<A: Allocator>(answer: &Answer<A>) -> Reply
     ensures { result ≡ spec.reply_to (answer_of answer.now) }
 {
@@ -94,7 +98,7 @@ pub(crate) fn reply_of<A: Allocator>(answer: &Answer<A>) -> Reply
     }
 }
 
-// A column in 32 bits, in which a greater one is 2^32 - 1.
+// Returns a column in 32 bits. A greater one becomes 2^32 - 1.
 fn column_of(column: usize) -> u32
     ensures { result ≡ min column (2 ^ 32 - 1) }
 {
@@ -105,8 +109,8 @@ fn column_of(column: usize) -> u32
     }
 }
 
-// Copies an answer into memory of the caller, and returns its status.
-fn give<A: Allocator>(
+// Copies an answer into memory of the caller, and returns the status.
+fn copy_answer<A: Allocator>(
     answer: &Answer<A>,
     tokens: &mut [FlatToken],
     text: &mut [u8],
@@ -128,7 +132,8 @@ fn give<A: Allocator>(
     reply.status
 }
 
-/// Expands an argument by a definition (`mbe_program::replies::calls::expand`). The status comes back, and is in the reply too.
+/// Expands an argument by a definition (`mbe_program::replies::requests::expand`). Returns the
+/// status, which is in the reply too.
 #[unsafe(no_mangle)]
 pub extern "C" fn mbe_c_expand(
     alloc: Global,
@@ -154,23 +159,25 @@ pub extern "C" fn mbe_c_expand(
         text: definition,
         tokens: definition_tokens,
         is_flat: request.definition_is_flat,
-        part: Part::Definition,
+        part: RequestPart::Definition,
         file: 0,
     };
     let argument = Input {
         text: argument,
         tokens: argument_tokens,
         is_flat: request.argument_is_flat,
-        part: Part::Argument,
+        part: RequestPart::Argument,
         file: 1,
     };
     let answer = expand(alloc, request, grammar, definition, argument);
-    give(&answer, tokens, text, message, reply)
+    copy_answer(&answer, tokens, text, message, reply)
 }
 
-/// Expands each argument, in its piece of `arguments`, by a definition that is read once (`mbe_program::replies::read_macro`). The answers come
-/// one after another, and the reply of each says how much of the buffers is its own; `reply` is of them all, and `reply.place` is how many
-/// there are. Where no macro is read `reply` says why, and nothing is written of the arguments.
+/// Expands each argument by a definition that is read once (`mbe_program::replies::read_macro`).
+/// Each piece gives the range of one argument in `arguments`. The answers come one after another,
+/// and the reply of each says how much of the buffers is its own. `reply` has the lengths of all
+/// together, and `reply.place` is the number of answers. If no macro is read, `reply` says why, and
+/// no answer is written.
 #[unsafe(no_mangle)]
 pub extern "C" fn mbe_c_expand_each(
     alloc: Global,
@@ -180,7 +187,7 @@ pub extern "C" fn mbe_c_expand_each(
     definition_tokens: &[FlatToken],
     arguments: &[u8],
     argument_tokens: &[FlatToken],
-    pieces: &[Piece],
+    pieces: &[ArgumentPiece],
     replies: &mut [Reply],
     tokens: &mut [FlatToken],
     text: &mut [u8],
@@ -199,23 +206,24 @@ pub extern "C" fn mbe_c_expand_each(
         text: definition,
         tokens: definition_tokens,
         is_flat: request.definition_is_flat,
-        part: Part::Definition,
+        part: RequestPart::Definition,
         file: 0,
     };
     let all = Input {
         text: arguments,
         tokens: argument_tokens,
         is_flat: request.argument_is_flat,
-        part: Part::Argument,
+        part: RequestPart::Argument,
         file: 1,
     };
     match expand_each(alloc, request, grammar, definition, all, pieces) {
-        Err(answer) => give(&answer, &mut [], &mut [], message, reply),
-        Ok(found) => give_answers(alloc, &found, replies, tokens, text, message, reply),
+        Err(answer) => copy_answer(&answer, &mut [], &mut [], message, reply),
+        Ok(found) => copy_answers(alloc, &found, replies, tokens, text, message, reply),
     }
 }
 
-/// The verdict on an argument of each rule of a definition (`mbe_program::replies::calls::explain`). `reply.tokens` is how many there are.
+/// Gives the verdict of each rule of a definition on an argument
+/// (`mbe_program::replies::requests::explain`). `reply.tokens` is the number of verdicts.
 #[unsafe(no_mangle)]
 pub extern "C" fn mbe_c_explain(
     alloc: Global,
@@ -239,24 +247,24 @@ pub extern "C" fn mbe_c_explain(
         text: definition,
         tokens: definition_tokens,
         is_flat: request.definition_is_flat,
-        part: Part::Definition,
+        part: RequestPart::Definition,
         file: 0,
     };
     let argument = Input {
         text: argument,
         tokens: argument_tokens,
         is_flat: request.argument_is_flat,
-        part: Part::Argument,
+        part: RequestPart::Argument,
         file: 1,
     };
     match explain(alloc, request, grammar, definition, argument) {
-        Err(answer) => give(&answer, &mut [], &mut [], message, reply),
-        Ok(found) => give_verdicts(alloc, &found, verdicts, reply),
+        Err(answer) => copy_answer(&answer, &mut [], &mut [], message, reply),
+        Ok(found) => copy_verdicts(alloc, &found, verdicts, reply),
     }
 }
 
 // Copies verdicts into memory of the caller, and returns the status.
-fn give_verdicts<A: Allocator + Copy>(
+fn copy_verdicts<A: Allocator + Copy>(
     alloc: A,
     found: &[FlatVerdict],
     verdicts: &mut [FlatVerdict],
@@ -265,7 +273,7 @@ fn give_verdicts<A: Allocator + Copy>(
     ensures result { result ≡ reply.new.status }
     ensures gives { spec.GivesVerdicts found.now verdicts.old verdicts.new reply.new }
 {
-    *reply = reply_of(&Answer::empty(alloc, Status::Done, Part::None));
+    *reply = reply_of(&Answer::empty(alloc, Status::Done, RequestPart::None));
     reply.tokens = found.len();
     if !put(found, verdicts) {
         reply.status = Status::NoRoom.number();
@@ -274,7 +282,7 @@ fn give_verdicts<A: Allocator + Copy>(
 }
 
 // Copies answers into memory of the caller, and returns the status.
-fn give_answers<A: Allocator + Copy>(
+fn copy_answers<A: Allocator + Copy>(
     alloc: A,
     found: &Answers<A>,
     replies: &mut [Reply],
@@ -288,7 +296,7 @@ fn give_answers<A: Allocator + Copy>(
         (record { tokens = tokens.old; text = text.old; message = message.old })
         (record { tokens = tokens.new; text = text.new; message = message.new }) reply.new }
 {
-    *reply = reply_of(&Answer::empty(alloc, Status::Done, Part::None));
+    *reply = reply_of(&Answer::empty(alloc, Status::Done, RequestPart::None));
     reply.place = found.replies.len();
     reply.tokens = found.tokens.len();
     reply.text = found.text.len();
@@ -303,7 +311,8 @@ fn give_answers<A: Allocator + Copy>(
     reply.status
 }
 
-/// The trees of an input in another form (`mbe_program::replies::calls::convert`): a text to flat tokens, flat tokens to a text.
+/// Converts an input to another form (`mbe_program::replies::requests::convert`): a text to flat
+/// tokens, or flat tokens to a text.
 #[unsafe(no_mangle)]
 pub extern "C" fn mbe_c_convert(
     alloc: Global,
@@ -325,14 +334,15 @@ pub extern "C" fn mbe_c_convert(
         text: input,
         tokens: input_tokens,
         is_flat: request.argument_is_flat,
-        part: Part::Argument,
+        part: RequestPart::Argument,
         file: 1,
     };
     let answer = convert(alloc, request, input);
-    give(&answer, tokens, text, message, reply)
+    copy_answer(&answer, tokens, text, message, reply)
 }
 
-/// Whether a definition is one (`mbe_program::replies::calls::define`); `reply.place` is the number of its rules.
+/// Checks a definition (`mbe_program::replies::requests::define`). `reply.place` is the number of
+/// its rules.
 #[unsafe(no_mangle)]
 pub extern "C" fn mbe_c_define(
     alloc: Global,
@@ -351,20 +361,20 @@ pub extern "C" fn mbe_c_define(
         text: definition,
         tokens: definition_tokens,
         is_flat: request.definition_is_flat,
-        part: Part::Definition,
+        part: RequestPart::Definition,
         file: 0,
     };
     match define(alloc, request, definition) {
-        Err(answer) => give(&answer, &mut [], &mut [], message, reply),
+        Err(answer) => copy_answer(&answer, &mut [], &mut [], message, reply),
         Ok(rules) => {
-            *reply = reply_of(&Answer::empty(alloc, Status::Done, Part::None));
+            *reply = reply_of(&Answer::empty(alloc, Status::Done, RequestPart::None));
             reply.place = rules;
             reply.status
         }
     }
 }
 
-/// Whether a text is a grammar of fragments (`mbe_program::replies::calls::check_grammar`).
+/// Checks the text of a grammar of fragments (`mbe_program::replies::requests::check_grammar`).
 #[unsafe(no_mangle)]
 pub extern "C" fn mbe_c_grammar(
     alloc: Global,
@@ -376,16 +386,17 @@ pub extern "C" fn mbe_c_grammar(
     ensures reads { spec.GivesGrammar grammar.now message.old message.new reply.new }
 {
     match check_grammar(alloc, grammar) {
-        Err(answer) => give(&answer, &mut [], &mut [], message, reply),
+        Err(answer) => copy_answer(&answer, &mut [], &mut [], message, reply),
         Ok(()) => {
-            *reply = reply_of(&Answer::empty(alloc, Status::Done, Part::None));
+            *reply = reply_of(&Answer::empty(alloc, Status::Done, RequestPart::None));
             reply.status
         }
     }
 }
 
-/// Reads a definition into a handle that has no macro (`mbe_program::replies::kept`). `reply.place` is the number of its rules. Where none is read,
-/// or the handle has one, `reply` says why, and the handle stays as it is.
+/// Reads a definition into a handle that has no macro (`mbe_program::replies::kept_macro`).
+/// `reply.place` is the number of its rules. If none is read, or the handle has one already,
+/// `reply` says why, and the handle is unchanged.
 #[unsafe(no_mangle)]
 pub extern "C" fn mbe_c_macro_read(
     alloc: Global,
@@ -393,7 +404,7 @@ pub extern "C" fn mbe_c_macro_read(
     grammar: &[u8],
     definition: &[u8],
     definition_tokens: &[FlatToken],
-    handle: &mut Macro,
+    handle: &mut MacroHandle,
     message: &mut [u8],
     reply: &mut Reply,
 ) -> u32
@@ -406,18 +417,18 @@ pub extern "C" fn mbe_c_macro_read(
         text: definition,
         tokens: definition_tokens,
         is_flat: request.definition_is_flat,
-        part: Part::Definition,
+        part: RequestPart::Definition,
         file: 0,
     };
     if let Some(held) = handle.take(alloc) {
         handle.put(held);
-        let answer = Answer::empty(alloc, Status::HasMacro, Part::None);
-        return give(&answer, &mut [], &mut [], message, reply);
+        let answer = Answer::empty(alloc, Status::HasMacro, RequestPart::None);
+        return copy_answer(&answer, &mut [], &mut [], message, reply);
     }
     match read_macro(alloc, request, grammar, definition) {
-        Err(answer) => give(&answer, &mut [], &mut [], message, reply),
+        Err(answer) => copy_answer(&answer, &mut [], &mut [], message, reply),
         Ok(read) => {
-            *reply = reply_of(&Answer::empty(alloc, Status::Done, Part::None));
+            *reply = reply_of(&Answer::empty(alloc, Status::Done, RequestPart::None));
             reply.place = read.count();
             handle.put(read);
             reply.status
@@ -425,12 +436,13 @@ pub extern "C" fn mbe_c_macro_read(
     }
 }
 
-/// Expands an argument by the macro that a handle has (`mbe_program::replies::kept`), which it keeps.
+/// Expands an argument by the macro of a handle (`mbe_program::replies::kept_macro`). The handle
+/// keeps it.
 #[unsafe(no_mangle)]
 pub extern "C" fn mbe_c_macro_expand(
     alloc: Global,
-    handle: &mut Macro,
-    call: &Call,
+    handle: &mut MacroHandle,
+    call: &KeptCall,
     argument: &[u8],
     argument_tokens: &[FlatToken],
     tokens: &mut [FlatToken],
@@ -449,21 +461,22 @@ pub extern "C" fn mbe_c_macro_expand(
         text: argument,
         tokens: argument_tokens,
         is_flat: call.argument_is_flat,
-        part: Part::Argument,
+        part: RequestPart::Argument,
         file: 1,
     };
     let Some(held) = handle.take(alloc) else {
-        let answer = Answer::empty(alloc, Status::NoMacro, Part::None);
-        return give(&answer, tokens, text, message, reply);
+        let answer = Answer::empty(alloc, Status::NoMacro, RequestPart::None);
+        return copy_answer(&answer, tokens, text, message, reply);
     };
     let answer = held.expand(alloc, call, argument);
     handle.put(held);
-    give(&answer, tokens, text, message, reply)
+    copy_answer(&answer, tokens, text, message, reply)
 }
 
-/// Frees the macro that a handle has, and leaves none; a handle that has none stays so.
+/// Frees the macro of a handle, and leaves none. Without a macro it changes nothing, and the status
+/// says so.
 #[unsafe(no_mangle)]
-pub extern "C" fn mbe_c_macro_free(alloc: Global, handle: &mut Macro) -> u32
+pub extern "C" fn mbe_c_macro_free(alloc: Global, handle: &mut MacroHandle) -> u32
     ensures result { result ≡ freed handle.old.held }
     ensures none { handle.new.held ≡ None }
 {

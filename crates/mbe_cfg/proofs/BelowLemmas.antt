@@ -1,12 +1,13 @@
 -- The last number that passes a test, looked for from above.
-use Rattle.std.proofs.Common.{◌≡◌, ℕ, suc, ◌-◌, ◌<◌, Bool, true, false, List, Option, Some, None, refl, ap, sym, ◌∙◌, arith}
+use Rattle.std.proofs.Common.{◌≡◌, ℕ, suc, ◌-◌, ◌<◌, Bool, true, false, List, Option, Some, None, refl, ap, sym, ◌∙◌}
+use Rattle.std.proofs.Common.{arith}
 use Rattle.std.specs.Prelude.{if◌then◌else◌, option_and_then}
 use Rattle.std.specs.List.{slice_get}
 use Rattle.std.specs.Option.{option_or}
-use Rattle.mbe_cfg.specs.Fronts.{after_next_comma}
+use Rattle.mbe_cfg.specs.TreeFront.{after_next_comma}
 use Rattle.mbe_tt.specs.Trees.Tree.{Forest}
-use Rattle.mbe_cfg.specs.Crates.Fronts.{path_given, path_added}
-use Rattle.mbe_cfg.specs.Crates.Taking.{last_below}
+use Rattle.mbe_cfg.specs.Crates.ModuleItems.{path_value, first_added_path}
+use Rattle.mbe_cfg.specs.Crates.FileLookup.{last_below}
 
 pub one_more : (n : ℕ) → 0 < n → n ≡ suc (n - 1)
 one_more n h = omega (arith, h)
@@ -45,31 +46,32 @@ near_none visible last h = ap (option_and_then (slice_get visible)) h
 -- ---- what a `cfg_attr` adds
 
 added_suc : (n : ℕ) (f : Forest)
-    → path_added (suc n) f ≡ option_or (path_given (after_next_comma f)) (path_added n (after_next_comma f))
-unfolding path_added
+    → first_added_path (suc n) f ≡ option_or (path_value (after_next_comma f)) (first_added_path n (after_next_comma f))
+unfolding first_added_path
 added_suc n f = refl
 
 added_by : (n : ℕ) (f : Forest) → 0 < n
-    → path_added n f ≡ option_or (path_given (after_next_comma f)) (path_added (n - 1) (after_next_comma f))
-added_by n f h = ap (λ m. path_added m f) (one_more n h) ∙ added_suc (n - 1) f
+    → first_added_path n f ≡ option_or (path_value (after_next_comma f)) (first_added_path (n - 1) (after_next_comma f))
+added_by n f h = ap (λ m. first_added_path m f) (one_more n h) ∙ added_suc (n - 1) f
 
 -- one that is no path
-pub added_on : (n : ℕ) (f after : Forest) (whole : Option (List ℕ)) → 0 < n → path_added n f ≡ whole
-    → after ≡ after_next_comma f → None ≡ path_given after
-    → path_added (n - 1) after ≡ whole
+pub added_on : (n : ℕ) (f after : Forest) (whole : Option (List ℕ)) → 0 < n → first_added_path n f ≡ whole
+    → after ≡ after_next_comma f → None ≡ path_value after
+    → first_added_path (n - 1) after ≡ whole
 added_on n f after whole h w a e =
-    sym (added_by n f h ∙ ap (λ x. option_or (path_given x) (path_added (n - 1) x)) (sym a)
-    ∙ ap (λ p. option_or p (path_added (n - 1) after)) (sym e)) ∙ w
+    sym (added_by n f h ∙ ap (λ x. option_or (path_value x) (first_added_path (n - 1) x)) (sym a)
+    ∙ ap (λ p. option_or p (first_added_path (n - 1) after)) (sym e)) ∙ w
 
 -- one that is
-pub added_here : (n : ℕ) (f after : Forest) (path : List ℕ) (whole : Option (List ℕ)) → 0 < n → path_added n f ≡ whole
-    → after ≡ after_next_comma f → Some path ≡ path_given after
+pub added_here : (n : ℕ) (f after : Forest) (path : List ℕ) (whole : Option (List ℕ)) → 0 < n → first_added_path n f
+    ≡ whole
+    → after ≡ after_next_comma f → Some path ≡ path_value after
     → Some path ≡ whole
 added_here n f after path whole h w a e =
-    sym (added_by n f h ∙ ap (λ x. option_or (path_given x) (path_added (n - 1) x)) (sym a)
-    ∙ ap (λ p. option_or p (path_added (n - 1) after)) (sym e)) ∙ w
+    sym (added_by n f h ∙ ap (λ x. option_or (path_value x) (first_added_path (n - 1) x)) (sym a)
+    ∙ ap (λ p. option_or p (first_added_path (n - 1) after)) (sym e)) ∙ w
 
 -- none is left
-pub added_none : (n : ℕ) (f : Forest) (whole : Option (List ℕ)) → n ≡ 0 → path_added n f ≡ whole → None ≡ whole
-unfolding path_added
-added_none n f whole e w = sym (ap (λ m. path_added m f) e) ∙ w
+pub added_none : (n : ℕ) (f : Forest) (whole : Option (List ℕ)) → n ≡ 0 → first_added_path n f ≡ whole → None ≡ whole
+unfolding first_added_path
+added_none n f whole e w = sym (ap (λ m. first_added_path m f) e) ∙ w

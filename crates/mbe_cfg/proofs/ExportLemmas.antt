@@ -1,11 +1,13 @@
 -- What is left to be added, as trees are read one after another.
-use Rattle.std.proofs.Common.{ℕ, zero, suc, ◌-◌, ◌≡◌, ◌<◌, true, false, List, [], ◌++◌, Some, None, refl, ap, sym, ◌∙◌, arith, append_assoc, append-nil}
+use Rattle.std.proofs.Common.{ℕ, zero, suc, ◌-◌, ◌≡◌, ◌<◌, true, false, List, [], ◌++◌, Some, None, refl, ap, sym, ◌∙◌}
+use Rattle.std.proofs.Common.{arith, append_assoc, append-nil}
 use Rattle.std.specs.Prelude.{if◌then◌else◌, unwrap_or}
 use Rattle.mbe_tt.specs.Trees.Leaf.{Leaf}
 use Rattle.mbe_tt.specs.Trees.Tree.{Forest, Leaf_tree, Group_tree, none, leaf, group, first, rest_of}
 use Rattle.mbe_tt.specs.declared.tt.Delimiter.{Delimiter}
 use Rattle.mbe_tt.proofs.Trees.Firsts.{whole, nothing}
-use Rattle.mbe_cfg.specs.Exporting.Exports.{Export, Walk, crate_at, crate_of, ends, exported, exports_at, exports_in, next, uses_by, uses_in}
+use Rattle.mbe_cfg.specs.CrateExports.Exports.{Export, UsePath, crate_at, crate_of, ends_use, exported, exports_at}
+use Rattle.mbe_cfg.specs.CrateExports.Exports.{exports_in, next, uses_by, uses_in}
 
 -- ---- names of crates
 
@@ -31,39 +33,40 @@ crate_last name f e = sym (ap (crate_of name) (nothing f (sym e)))
 -- ---- paths
 
 -- what some trees name, after what was added, is what is to be added of all
-pub record Left (levels : ℕ) (by : List ℕ) (root : Forest) (start : Walk) (f : Forest) (old : List Export) (w : Walk)
+pub record ModuleCursor (levels : ℕ) (by : List ℕ) (root : Forest) (start : UsePath) (f : Forest) (old : List Export)
+    (w : UsePath)
     (rest : Forest) (now : List Export) : Type 0 where
   pub same : now ++ uses_by (uses_in (levels - 1) by root) by root start w rest ≡ old ++ uses_in levels by root start f
 
-pub no_levels : (levels : ℕ) (by : List ℕ) (root : Forest) (start : Walk) (f : Forest) (old : List Export)
+pub no_levels : (levels : ℕ) (by : List ℕ) (root : Forest) (start : UsePath) (f : Forest) (old : List Export)
     → levels ≡ 0 → old ≡ old ++ uses_in levels by root start f
 unfolding uses_in
 no_levels levels by root start f old e =
     sym (ap (λ n. old ++ uses_in n by root start f) e ∙ append-nil old)
 
-pub begins : (levels : ℕ) (by : List ℕ) (root : Forest) (start : Walk) (f : Forest) (old : List Export) → 0 < levels
-    → Left levels by root start f old start f old
+pub begins : (levels : ℕ) (by : List ℕ) (root : Forest) (start : UsePath) (f : Forest) (old : List Export) → 0 < levels
+    → ModuleCursor levels by root start f old start f old
 unfolding uses_in
 begins zero by root start f old h = absurd (omega (arith, h))
 begins (suc n) by root start f old h =
     let one : suc n - 1 ≡ n = omega arith in
     record { same = ap (λ k. old ++ uses_by (uses_in k by root) by root start start f) one }
 
-module _ (levels : ℕ) (by : List ℕ) (root : Forest) (start : Walk) (f : Forest) (old : List Export) (w : Walk)
-    (rest : Forest) (now : List Export) (h : Left levels by root start f old w rest now) where
-  abbrev more : Walk → Forest → List Export
+module _ (levels : ℕ) (by : List ℕ) (root : Forest) (start : UsePath) (f : Forest) (old : List Export) (w : UsePath)
+    (rest : Forest) (now : List Export) (h : ModuleCursor levels by root start f old w rest now) where
+  abbrev more : UsePath → Forest → List Export
   more v g = uses_by (uses_in (levels - 1) by root) by root start v g
 
-  pub at_end : (l : Leaf) → first rest ≡ Some (Leaf_tree l) → ends l ≡ true
+  pub at_end : (l : Leaf) → first rest ≡ Some (Leaf_tree l) → ends_use l ≡ true
       → now ≡ old ++ uses_in levels by root start f
   at_end l is e =
       sym (ap (λ g. now ++ more w g) (whole rest (Leaf_tree l) is)
       ∙ (ap (λ b. now ++ (if b then [] else exported by w l (rest_of rest)
       ++ more (next root start w l (rest_of rest)) (rest_of rest))) e ∙ append-nil now)) ∙ h.same
 
-  pub leaf_on : (l : Leaf) (v : Walk) (after_it : List Export) → first rest ≡ Some (Leaf_tree l) → ends l ≡ false
+  pub leaf_on : (l : Leaf) (v : UsePath) (after_it : List Export) → first rest ≡ Some (Leaf_tree l) → ends_use l ≡ false
       → after_it ≡ now ++ exported by w l (rest_of rest) → v ≡ next root start w l (rest_of rest)
-      → Left levels by root start f old v (rest_of rest) after_it
+      → ModuleCursor levels by root start f old v (rest_of rest) after_it
   leaf_on l v after_it is e added walked =
       let after = next root start w l (rest_of rest) in
       record {
@@ -76,7 +79,7 @@ module _ (levels : ℕ) (by : List ℕ) (root : Forest) (start : Walk) (f : Fore
 
   pub group_on : (d : Delimiter) (inside : Forest) (after_it : List Export) → first rest ≡ Some (Group_tree d inside)
       → after_it ≡ now ++ uses_in (levels - 1) by root w inside
-      → Left levels by root start f old w (rest_of rest) after_it
+      → ModuleCursor levels by root start f old w (rest_of rest) after_it
   group_on d inside after_it is added = record {
     same = ap (λ xs. xs ++ more w (rest_of rest)) added
         ∙ (append_assoc now (uses_in (levels - 1) by root w inside) (more w (rest_of rest))

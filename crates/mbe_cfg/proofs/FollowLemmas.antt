@@ -1,116 +1,132 @@
 -- What is left to be written, as trees are followed one front after another.
-use Rattle.std.proofs.Common.{ℕ, suc, ◌-◌, ◌≡◌, ◌<◌, List, ◌∷◌, ◌++◌, length, None, refl, ap, sym, ◌∙◌, append_assoc, append-nil, arith}
+use Rattle.std.proofs.Common.{ℕ, suc, ◌-◌, ◌≡◌, ◌<◌, List, ◌∷◌, ◌++◌, length, None, refl, ap, sym, ◌∙◌, append_assoc}
+use Rattle.std.proofs.Common.{append-nil, arith}
 use Rattle.std.specs.Prelude.{Option, Result, Ok, Err, OnOk}
-use Rattle.mbe_tt.specs.Buffers.Building.{Levels, put, closed}
+use Rattle.mbe_tt.specs.Buffers.GroupStack.{GroupStack, put, closed}
 use Rattle.mbe_tt.specs.Trees.Leaf.{ident}
 use Rattle.mbe_tt.specs.Trees.Tree.{Forest, Tree, none, leaf, group, append, flat_len, one_leaf}
 use Rattle.mbe_tt.specs.declared.tt.Delimiter.{Delimiter}
 use Rattle.mbe_tt.proofs.Buffers.Built.{length-put}
 use Rattle.mbe_tt.proofs.Buffers.Grown.{put-none, put-put}
-use Rattle.mbe_cfg.specs.Crates.Following as spec
-use Rattle.mbe_cfg.specs.Crates.Following.{At, Followed, Step, Unfound, unchanged, step, before, steps, followed, alone}
-use Rattle.mbe_cfg.specs.Crates.Fronts.{Module, Left, fresh}
-use Rattle.mbe_cfg.specs.Crates.Steps.{Writes}
-use Rattle.mbe_cfg.specs.Crates.Taking.{File}
+use Rattle.mbe_cfg.specs.Crates.ModuleInliner as spec
+use Rattle.mbe_cfg.specs.Crates.ModuleInliner.{InlineContext, InlinedTrees, Step, UnresolvedFile, unchanged, step}
+use Rattle.mbe_cfg.specs.Crates.ModuleInliner.{before, steps, inlined, alone}
+use Rattle.mbe_cfg.specs.Crates.ModuleItems.{Module, ModuleCursor, at_item_start}
+use Rattle.mbe_cfg.specs.Crates.InlinerSteps.{Writes}
+use Rattle.mbe_cfg.specs.Crates.FileLookup.{CrateFile}
 
 pub one_more : (n : ℕ) → 0 < n → n ≡ suc (n - 1)
 one_more n h = omega (arith, h)
 
 -- a file's trees after a tree
-pub file_written : (one more : Forest) (old b new : Levels) → b ≡ put one old → new ≡ put more b
+pub file_written : (one more : Forest) (old b new : GroupStack) → b ≡ put one old → new ≡ put more b
     → new ≡ put (append one more) old
 file_written one more old b new hb hn = hn ∙ ap (put more) hb ∙ put-put one more old
 
 -- where there is no tree, nothing is written
-pub nothing_alone : (t : Option Tree) (old : Levels) → t ≡ None → old ≡ put (alone t) old
+pub nothing_alone : (t : Option Tree) (old : GroupStack) → t ≡ None → old ≡ put (alone t) old
 nothing_alone t old is = put-none old ∙ ap (λ x. put (alone x) old) (sym is)
 
 -- ---- fronts
 
 -- what is written of some trees, once what the others become is, is what is to be written of all; and so for modules
 -- without their files
-pub record Going (within : At → Forest → Followed) (files : List File) (at : At) (all : ℕ) (f : Forest) (old : Levels)
-    (noted : List Unfound) (most : ℕ) (left : Left) (now : Levels) (found : List Unfound) : Type 0 where
-  pub same : put (steps within files at most left).kept now ≡ put (steps within files at all (fresh f)).kept old
-  pub said : found ++ (steps within files at most left).unfound
-      ≡ noted ++ (steps within files at all (fresh f)).unfound
+pub record Going (within : InlineContext → Forest
+    → InlinedTrees) (files : List CrateFile) (at : InlineContext) (all : ℕ) (f : Forest) (old : GroupStack)
+    (noted : List UnresolvedFile) (most : ℕ) (cursor : ModuleCursor) (now : GroupStack)
+    (found : List UnresolvedFile) : Type 0 where
+  pub same : put (steps within files at most cursor).kept now
+      ≡ put (steps within files at all (at_item_start f)).kept old
+  pub said : found ++ (steps within files at most cursor).unresolved
+      ≡ noted ++ (steps within files at all (at_item_start f)).unresolved
   pub groups : length now ≡ length old
 
-steps_suc : (within : At → Forest → Followed) (files : List File) (at : At) (n : ℕ) (l : Left)
-    → before (step within files at l) (steps within files at n (step within files at l).left)
+steps_suc : (within : InlineContext → Forest
+    → InlinedTrees) (files : List CrateFile) (at : InlineContext) (n : ℕ) (l : ModuleCursor)
+    → before (step within files at l) (steps within files at n (step within files at l).cursor)
     ≡ steps within files at (suc n) l
 unfolding steps
 steps_suc within files at n l = refl
 
-steps_none : (within : At → Forest → Followed) (files : List File) (at : At) (l : Left)
+steps_none : (within : InlineContext → Forest
+    → InlinedTrees) (files : List CrateFile) (at : InlineContext) (l : ModuleCursor)
     → unchanged none ≡ steps within files at 0 l
 unfolding steps
 steps_none within files at l = refl
 
 -- one front more, where some are left
-steps_more : (within : At → Forest → Followed) (files : List File) (at : At) (most : ℕ) (l : Left) → 0 < most
-    → before (step within files at l) (steps within files at (most - 1) (step within files at l).left)
+steps_more : (within : InlineContext → Forest
+    → InlinedTrees) (files : List CrateFile) (at : InlineContext) (most : ℕ) (l : ModuleCursor) → 0 < most
+    → before (step within files at l) (steps within files at (most - 1) (step within files at l).cursor)
     ≡ steps within files at most l
 steps_more within files at most l some =
     steps_suc within files at (most - 1) l ∙ ap (λ n. steps within files at n l) (sym (one_more most some))
 
 -- one front on
-pub front_on : (within : At → Forest → Followed) (files : List File) (at : At) (all : ℕ) (f : Forest) (old : Levels)
-    (noted : List Unfound) (most : ℕ) (left after : Left) (now next : Levels) (found more : List Unfound)
+pub front_on : (within : InlineContext → Forest
+    → InlinedTrees) (files : List CrateFile) (at : InlineContext) (all : ℕ) (f : Forest) (old : GroupStack)
+    (noted : List UnresolvedFile) (most : ℕ) (cursor after : ModuleCursor) (now next : GroupStack)
+    (found more : List UnresolvedFile)
     → 0 < most
-    → Going within files at all f old noted most left now found
-    → next ≡ put (step within files at left).kept now → more ≡ found ++ (step within files at left).unfound
-    → after ≡ (step within files at left).left
+    → Going within files at all f old noted most cursor now found
+    → next ≡ put (step within files at cursor).kept now → more ≡ found ++ (step within files at cursor).unresolved
+    → after ≡ (step within files at cursor).cursor
     → Going within files at all f old noted (most - 1) after next more
-front_on within files at all f old noted most left after now next found more some h e m r =
-    let one = step within files at left in
+front_on within files at all f old noted most cursor after now next found more some h e m r =
+    let one = step within files at cursor in
     let others = steps within files at (most - 1) in
-    let whole = steps_more within files at most left some in
+    let whole = steps_more within files at most cursor some in
     record {
-      same = ap (λ x. put (others x).kept next) r ∙ ap (put (others one.left).kept) e
-          ∙ put-put one.kept (others one.left).kept now ∙ ap (λ x. put x.kept now) whole ∙ h.same;
-      said = ap (λ x. more ++ (others x).unfound) r ∙ ap (λ x. x ++ (others one.left).unfound) m
-          ∙ append_assoc found one.unfound (others one.left).unfound ∙ ap (λ x. found ++ x.unfound) whole ∙ h.said;
+      same = ap (λ x. put (others x).kept next) r ∙ ap (put (others one.cursor).kept) e
+          ∙ put-put one.kept (others one.cursor).kept now ∙ ap (λ x. put x.kept now) whole ∙ h.same;
+      said = ap (λ x. more ++ (others x).unresolved) r ∙ ap (λ x. x ++ (others one.cursor).unresolved) m
+          ∙ append_assoc found one.unresolved (others one.cursor).unresolved ∙ ap (λ x. found ++ x.unresolved) whole
+          ∙ h.said;
       groups = ap length e ∙ length-put now one.kept ∙ h.groups;
     }
 
 -- nothing is left
-no_steps : (within : At → Forest → Followed) (files : List File) (at : At) (most : ℕ) (l : Left) → most ≡ 0
+no_steps : (within : InlineContext → Forest
+    → InlinedTrees) (files : List CrateFile) (at : InlineContext) (most : ℕ) (l : ModuleCursor) → most ≡ 0
     → unchanged none ≡ steps within files at most l
 no_steps within files at most l e = steps_none within files at l ∙ ap (λ n. steps within files at n l) (sym e)
 
-pub ended : (within : At → Forest → Followed) (files : List File) (at : At) (all : ℕ) (f : Forest) (old : Levels)
-    (noted : List Unfound) (most : ℕ) (left : Left) (now : Levels) (found : List Unfound) → most ≡ 0
-    → Going within files at all f old noted most left now found
-    → now ≡ put (steps within files at all (fresh f)).kept old
-ended within files at all f old noted most left now found e h =
-    put-none now ∙ ap (λ x. put x.kept now) (no_steps within files at most left e) ∙ h.same
+pub ended : (within : InlineContext → Forest
+    → InlinedTrees) (files : List CrateFile) (at : InlineContext) (all : ℕ) (f : Forest) (old : GroupStack)
+    (noted : List UnresolvedFile) (most : ℕ) (cursor : ModuleCursor) (now : GroupStack) (found : List UnresolvedFile)
+    → most ≡ 0
+    → Going within files at all f old noted most cursor now found
+    → now ≡ put (steps within files at all (at_item_start f)).kept old
+ended within files at all f old noted most cursor now found e h =
+    put-none now ∙ ap (λ x. put x.kept now) (no_steps within files at most cursor e) ∙ h.same
 
-pub ended_unfound : (within : At → Forest → Followed) (files : List File) (at : At) (all : ℕ) (f : Forest)
-    (old : Levels) (noted : List Unfound) (most : ℕ) (left : Left) (now : Levels) (found : List Unfound) → most ≡ 0
-    → Going within files at all f old noted most left now found
-    → found ≡ noted ++ (steps within files at all (fresh f)).unfound
-ended_unfound within files at all f old noted most left now found e h =
-    sym (append-nil found) ∙ ap (λ x. found ++ x.unfound) (no_steps within files at most left e) ∙ h.said
+pub ended_unfound : (within : InlineContext → Forest
+    → InlinedTrees) (files : List CrateFile) (at : InlineContext) (all : ℕ) (f : Forest)
+    (old : GroupStack) (noted : List UnresolvedFile) (most : ℕ) (cursor : ModuleCursor) (now : GroupStack)
+    (found : List UnresolvedFile) → most ≡ 0
+    → Going within files at all f old noted most cursor now found
+    → found ≡ noted ++ (steps within files at all (at_item_start f)).unresolved
+ended_unfound within files at all f old noted most cursor now found e h =
+    sym (append-nil found) ∙ ap (λ x. found ++ x.unresolved) (no_steps within files at most cursor e) ∙ h.said
 
-pub followed_suc : (files : List File) (levels : ℕ) (at : At) (f : Forest)
-    → steps (followed files levels) files at (flat_len f) (fresh f) ≡ followed files (suc levels) at f
-unfolding followed
+pub followed_suc : (files : List CrateFile) (levels : ℕ) (at : InlineContext) (f : Forest)
+    → steps (inlined files levels) files at (flat_len f) (at_item_start f) ≡ inlined files (suc levels) at f
+unfolding inlined
 followed_suc files levels at f = refl
 
-followed_zero : (files : List File) (at : At) (f : Forest) → unchanged f ≡ followed files 0 at f
-unfolding followed
+followed_zero : (files : List CrateFile) (at : InlineContext) (f : Forest) → unchanged f ≡ inlined files 0 at f
+unfolding inlined
 followed_zero files at f = refl
 
 -- too deep
-pub followed_none : (files : List File) (levels : ℕ) (at : At) (f : Forest) → levels ≡ 0
-    → unchanged f ≡ followed files levels at f
-followed_none files levels at f e = followed_zero files at f ∙ ap (λ n. followed files n at f) (sym e)
+pub followed_none : (files : List CrateFile) (levels : ℕ) (at : InlineContext) (f : Forest) → levels ≡ 0
+    → unchanged f ≡ inlined files levels at f
+followed_none files levels at f e = followed_zero files at f ∙ ap (λ n. inlined files n at f) (sym e)
 
 -- ---- groups
 
 -- a module is written once its words and its group are
-pub module_put : (m : Module) (d : Delimiter) (content : Forest) (old : Levels)
+pub module_put : (m : Module) (d : Delimiter) (content : Forest) (old : GroupStack)
     → put (group d content none) (put (one_leaf (ident m.name)) (put (one_leaf (ident m.word)) old))
     ≡ put (spec.module_with m d content) old
 module_put m d content old =
@@ -118,7 +134,7 @@ module_put m d content old =
     ∙ put-put (one_leaf (ident m.word)) (leaf (ident m.name) (group d content none)) old
 
 -- a group is open in the whole
-pub one_open : (a b c e n : Levels) (f g h : Forest) (d : Delimiter) → 0 < length a → b ≡ put f a → c ≡ put g b
+pub one_open : (a b c e n : GroupStack) (f g h : Forest) (d : Delimiter) → 0 < length a → b ≡ put f a → c ≡ put g b
     → e ≡ (d, none) ∷ c → n ≡ put h e → 1 < length n
 one_open a b c e n f g h d some hb hc he hn =
     omega (
@@ -137,7 +153,7 @@ abbrev pub not_closed : Delimiter → Delimiter
 not_closed d = record { opening = d.opening; close = d.opening; kind = d.kind }
 
 -- a module is written once its words, and its group with that content, are
-pub module_written : (m : Module) (d : Delimiter) (content : Forest) (old b c e n z : Levels)
+pub module_written : (m : Module) (d : Delimiter) (content : Forest) (old b c e n z : GroupStack)
     → b ≡ put (one_leaf (ident m.word)) old → c ≡ put (one_leaf (ident m.name)) b → e ≡ (not_closed d, none) ∷ c
     → n ≡ put content e → z ≡ closed d.close n → z ≡ put (spec.module_with m d content) old
 module_written m d content old b c e n z hb hc he hn hz =
@@ -147,23 +163,24 @@ module_written m d content old b c e n z hb hc he hn hz =
 -- ---- what is written in all
 
 -- trees that are too deep
-pub all_kept : {T E : Type 0} (r : Result T E) (files : List File) (levels : ℕ) (at : At) (f : Forest)
-    (old new : Levels) (noted : List Unfound) → levels ≡ 0 → OnOk r (new ≡ put f old)
-    → OnOk r (Writes (followed files levels at f) old noted new noted)
+pub all_kept : {T E : Type 0} (r : Result T E) (files : List CrateFile) (levels : ℕ) (at : InlineContext) (f : Forest)
+    (old new : GroupStack) (noted : List UnresolvedFile) → levels ≡ 0 → OnOk r (new ≡ put f old)
+    → OnOk r (Writes (inlined files levels at f) old noted new noted)
 all_kept (Ok x) files levels at f old new noted e k = record {
   kept = k ∙ ap (λ y. put y.kept old) (followed_none files levels at f e);
-  unfound = sym (append-nil noted) ∙ ap (λ y. noted ++ y.unfound) (followed_none files levels at f e);
+  unresolved = sym (append-nil noted) ∙ ap (λ y. noted ++ y.unresolved) (followed_none files levels at f e);
 }
 all_kept (Err x) files levels at f old new noted e k = tt
 
 -- trees none of which is left
-pub all_written : (files : List File) (levels : ℕ) (at : At) (f : Forest) (old : Levels) (noted : List Unfound)
-    (most : ℕ) (left : Left) (now : Levels) (found : List Unfound) → most ≡ 0
-    → Going (followed files levels) files at (flat_len f) f old noted most left now found
-    → Writes (followed files (suc levels) at f) old noted now found
-all_written files levels at f old noted most left now found e h = record {
-  kept = ended (followed files levels) files at (flat_len f) f old noted most left now found e h
+pub all_written : (files : List CrateFile) (levels : ℕ) (at : InlineContext) (f : Forest) (old : GroupStack)
+    (noted : List UnresolvedFile)
+    (most : ℕ) (cursor : ModuleCursor) (now : GroupStack) (found : List UnresolvedFile) → most ≡ 0
+    → Going (inlined files levels) files at (flat_len f) f old noted most cursor now found
+    → Writes (inlined files (suc levels) at f) old noted now found
+all_written files levels at f old noted most cursor now found e h = record {
+  kept = ended (inlined files levels) files at (flat_len f) f old noted most cursor now found e h
       ∙ ap (λ y. put y.kept old) (followed_suc files levels at f);
-  unfound = ended_unfound (followed files levels) files at (flat_len f) f old noted most left now found e h
-      ∙ ap (λ y. noted ++ y.unfound) (followed_suc files levels at f);
+  unresolved = ended_unfound (inlined files levels) files at (flat_len f) f old noted most cursor now found e h
+      ∙ ap (λ y. noted ++ y.unresolved) (followed_suc files levels at f);
 }

@@ -1,16 +1,18 @@
 -- What is left to be written, as trees are stripped one front after another.
-use Rattle.std.proofs.Common.{ℕ, suc, ◌-◌, ◌≡◌, ◌<◌, ◌≤◌, List, ◌++◌, length, Some, refl, ap, sym, ◌∙◌, append_assoc, append-nil, arith}
+use Rattle.std.proofs.Common.{ℕ, suc, ◌-◌, ◌≡◌, ◌<◌, ◌≤◌, List, ◌++◌, length, Some, refl, ap, sym, ◌∙◌, append_assoc}
+use Rattle.std.proofs.Common.{append-nil, arith}
 use Rattle.std.proofs.lemmas.Bool.{lt-ltb, le-ltb}
 use Rattle.std.specs.Prelude.{true, Option, option_map, Result, Ok, Err, OnOk}
-use Rattle.mbe_tt.specs.Buffers.Building.{Levels, put}
-use Rattle.mbe_tt.specs.Fragments.Grammar.{Grammar}
+use Rattle.mbe_tt.specs.Buffers.GroupStack.{GroupStack, put}
+use Rattle.mbe_tt.specs.Grammars.Grammar.{Grammar}
 use Rattle.mbe_tt.specs.Trees.Tree.{Forest, Tree, none, leaf, group, tree, append, first, rest_of, flat_len}
 use Rattle.mbe_tt.proofs.Buffers.Built.{length-put}
 use Rattle.mbe_tt.proofs.Buffers.Grown.{put-none, put-put}
-use Rattle.mbe_calls.specs.Fronts.{Front, front, Other}
-use Rattle.mbe_cfg.specs.declared.settings.Settings.{Settings}
-use Rattle.mbe_cfg.specs.declared.fault.Fault.{Fault}
-use Rattle.mbe_cfg.specs.Stripping.{Stripped, unchanged, up_to, is_off, off_or_tree, step_by, step, followed, steps, stripped}
+use Rattle.mbe_rewriter.specs.MacroItems.{FrontItem, front, Other}
+use Rattle.mbe_cfg.specs.declared.cfg_options.CfgOptions.{CfgOptions}
+use Rattle.mbe_cfg.specs.declared.cfg_fault.CfgFault.{CfgFault}
+use Rattle.mbe_cfg.specs.CfgStrip.{Stripped, unchanged, up_to, is_disabled, disabled_or_tree, step_by, step, step_then}
+use Rattle.mbe_cfg.specs.CfgStrip.{steps, stripped}
 
 pub one_more : (n : ℕ) → 0 < n → n ≡ suc (n - 1)
 one_more n h = omega (arith, h)
@@ -22,50 +24,54 @@ on_ok (Ok x) p = p
 on_ok (Err e) p = tt
 
 -- where nothing of a front stays, nothing is written
-pub no_kept : (within : Forest → Stripped) (s : Settings) (g : Grammar) (f : Forest) (x : Front) (old : Levels)
+pub no_kept : (within : Forest → Stripped) (s : CfgOptions) (g : Grammar) (f : Forest) (x : FrontItem)
+    (old : GroupStack)
     → front f ≡ x → (step_by within s g f x).kept ≡ none → old ≡ put (step within s g f).kept old
 no_kept within s g f x old e nothing =
     put-none old ∙ ap (λ k. put k old) (sym nothing) ∙ ap (λ y. put (step_by within s g f y).kept old) (sym e)
 
 -- nothing of what is off stays
-pub off_kept : (within : Forest → Stripped) (s : Settings) (g : Grammar) (f rest : Forest) (t : Tree) (old : Levels)
-    → front f ≡ Other t rest → is_off s f ≡ true → old ≡ put (step within s g f).kept old
+pub off_kept : (within : Forest → Stripped) (s : CfgOptions) (g : Grammar) (f rest : Forest) (t : Tree)
+    (old : GroupStack)
+    → front f ≡ Other t rest → is_disabled s f ≡ true → old ≡ put (step within s g f).kept old
 off_kept within s g f rest t old e off =
-    no_kept within s g f (Other t rest) old e (ap (λ b. (off_or_tree within s g f t rest b).kept) off)
+    no_kept within s g f (Other t rest) old e (ap (λ b. (disabled_or_tree within s g f t rest b).kept) off)
 
 -- ---- fronts
 
 -- what is written of some trees, once what stays of the others is, is what is to be written of all; and so for faults
-pub record Left (within : Forest → Stripped) (s : Settings) (g : Grammar) (all : ℕ) (f : Forest) (old : Levels)
-    (before : List Fault) (left : ℕ) (rest : Forest) (now : Levels) (found : List Fault) : Type 0 where
+pub record ModuleCursor (within : Forest
+    → Stripped) (s : CfgOptions) (g : Grammar) (all : ℕ) (f : Forest) (old : GroupStack)
+    (before : List CfgFault) (left : ℕ) (rest : Forest) (now : GroupStack) (found : List CfgFault) : Type 0 where
   pub same : put (steps within s g left rest).kept now ≡ put (steps within s g all f).kept old
   pub noted : found ++ (steps within s g left rest).faults ≡ before ++ (steps within s g all f).faults
   pub groups : length now ≡ length old
 
-steps_suc : (within : Forest → Stripped) (s : Settings) (g : Grammar) (n : ℕ) (f : Forest)
-    → followed (step within s g f) (steps within s g n (step within s g f).rest) ≡ steps within s g (suc n) f
+steps_suc : (within : Forest → Stripped) (s : CfgOptions) (g : Grammar) (n : ℕ) (f : Forest)
+    → step_then (step within s g f) (steps within s g n (step within s g f).rest) ≡ steps within s g (suc n) f
 unfolding steps
 steps_suc within s g n f = refl
 
-steps_none : (within : Forest → Stripped) (s : Settings) (g : Grammar) (f : Forest)
+steps_none : (within : Forest → Stripped) (s : CfgOptions) (g : Grammar) (f : Forest)
     → unchanged none ≡ steps within s g 0 f
 unfolding steps
 steps_none within s g f = refl
 
 -- one front more, where some are left
-steps_more : (within : Forest → Stripped) (s : Settings) (g : Grammar) (left : ℕ) (rest : Forest) → 0 < left
-    → followed (step within s g rest) (steps within s g (left - 1) (step within s g rest).rest)
+steps_more : (within : Forest → Stripped) (s : CfgOptions) (g : Grammar) (left : ℕ) (rest : Forest) → 0 < left
+    → step_then (step within s g rest) (steps within s g (left - 1) (step within s g rest).rest)
     ≡ steps within s g left rest
 steps_more within s g left rest some =
     steps_suc within s g (left - 1) rest ∙ ap (λ n. steps within s g n rest) (sym (one_more left some))
 
 -- one front on
-pub front_on : (within : Forest → Stripped) (s : Settings) (g : Grammar) (all : ℕ) (f : Forest) (old : Levels)
-    (before : List Fault) (left : ℕ) (rest after : Forest) (now next : Levels) (found more : List Fault) → 0 < left
-    → Left within s g all f old before left rest now found
+pub front_on : (within : Forest → Stripped) (s : CfgOptions) (g : Grammar) (all : ℕ) (f : Forest) (old : GroupStack)
+    (before : List CfgFault) (left : ℕ) (rest after : Forest) (now next : GroupStack) (found more : List CfgFault)
+    → 0 < left
+    → ModuleCursor within s g all f old before left rest now found
     → next ≡ put (step within s g rest).kept now → more ≡ found ++ (step within s g rest).faults
     → after ≡ (step within s g rest).rest
-    → Left within s g all f old before (left - 1) after next more
+    → ModuleCursor within s g all f old before (left - 1) after next more
 front_on within s g all f old before left rest after now next found more some h e m r =
     let one = step within s g rest in
     let others = steps within s g (left - 1) in
@@ -79,35 +85,35 @@ front_on within s g all f old before left rest after now next found more some h 
     }
 
 -- nothing is left
-no_steps : (within : Forest → Stripped) (s : Settings) (g : Grammar) (left : ℕ) (rest : Forest) → left ≡ 0
+no_steps : (within : Forest → Stripped) (s : CfgOptions) (g : Grammar) (left : ℕ) (rest : Forest) → left ≡ 0
     → unchanged none ≡ steps within s g left rest
 no_steps within s g left rest e = steps_none within s g rest ∙ ap (λ n. steps within s g n rest) (sym e)
 
-pub ended : (within : Forest → Stripped) (s : Settings) (g : Grammar) (all : ℕ) (f : Forest) (old : Levels)
-    (before : List Fault) (left : ℕ) (rest : Forest) (now : Levels) (found : List Fault) → left ≡ 0
-    → Left within s g all f old before left rest now found
+pub ended : (within : Forest → Stripped) (s : CfgOptions) (g : Grammar) (all : ℕ) (f : Forest) (old : GroupStack)
+    (before : List CfgFault) (left : ℕ) (rest : Forest) (now : GroupStack) (found : List CfgFault) → left ≡ 0
+    → ModuleCursor within s g all f old before left rest now found
     → now ≡ put (steps within s g all f).kept old
 ended within s g all f old before left rest now found e h =
     put-none now ∙ ap (λ x. put x.kept now) (no_steps within s g left rest e) ∙ h.same
 
-pub ended_faults : (within : Forest → Stripped) (s : Settings) (g : Grammar) (all : ℕ) (f : Forest) (old : Levels)
-    (before : List Fault) (left : ℕ) (rest : Forest) (now : Levels) (found : List Fault) → left ≡ 0
-    → Left within s g all f old before left rest now found
+pub ended_faults : (within : Forest → Stripped) (s : CfgOptions) (g : Grammar) (all : ℕ) (f : Forest) (old : GroupStack)
+    (before : List CfgFault) (left : ℕ) (rest : Forest) (now : GroupStack) (found : List CfgFault) → left ≡ 0
+    → ModuleCursor within s g all f old before left rest now found
     → found ≡ before ++ (steps within s g all f).faults
 ended_faults within s g all f old before left rest now found e h =
     sym (append-nil found) ∙ ap (λ x. found ++ x.faults) (no_steps within s g left rest e) ∙ h.noted
 
-pub stripped_suc : (s : Settings) (g : Grammar) (levels : ℕ) (f : Forest)
+pub stripped_suc : (s : CfgOptions) (g : Grammar) (levels : ℕ) (f : Forest)
     → steps (stripped s g levels) s g (flat_len f) f ≡ stripped s g (suc levels) f
 unfolding stripped
 stripped_suc s g levels f = refl
 
-stripped_zero : (s : Settings) (g : Grammar) (f : Forest) → unchanged f ≡ stripped s g 0 f
+stripped_zero : (s : CfgOptions) (g : Grammar) (f : Forest) → unchanged f ≡ stripped s g 0 f
 unfolding stripped
 stripped_zero s g f = refl
 
 -- too deep
-pub stripped_none : (s : Settings) (g : Grammar) (levels : ℕ) (f : Forest) → levels ≡ 0
+pub stripped_none : (s : CfgOptions) (g : Grammar) (levels : ℕ) (f : Forest) → levels ≡ 0
     → unchanged f ≡ stripped s g levels f
 stripped_none s g levels f e = stripped_zero s g f ∙ ap (λ n. stripped s g n f) (sym e)
 
@@ -119,10 +125,10 @@ up_to_none n (leaf l rest) h = rw (le-ltb n (flat_len (leaf l rest)) h) refl
 up_to_none n (group d inside rest) h = rw (le-ltb n (flat_len (group d inside rest)) h) refl
 
 -- what is written of some trees, once the others are, is what is to be written
-pub record Copying (n : ℕ) (f : Forest) (old : Levels) (rest : Forest) (now : Levels) : Type 0 where
+pub record Copying (n : ℕ) (f : Forest) (old : GroupStack) (rest : Forest) (now : GroupStack) : Type 0 where
   pub same : put (up_to n rest) now ≡ put (up_to n f) old
 
-pub copied : (n : ℕ) (f rest : Forest) (old now : Levels) → Copying n f old rest now → flat_len rest ≤ n
+pub copied : (n : ℕ) (f rest : Forest) (old now : GroupStack) → Copying n f old rest now → flat_len rest ≤ n
     → now ≡ put (up_to n f) old
 copied n f rest old now h few = put-none now ∙ ap (λ x. put x now) (up_to_none n rest few) ∙ h.same
 
@@ -141,7 +147,7 @@ up_to_more n (group d inside rest) view e h =
     ap (λ v. append v (up_to n rest)) same ∙ rw (lt-ltb n (flat_len (group d inside rest)) h) refl
 
 -- one tree on
-pub copied_on : (n : ℕ) (f rest after view : Forest) (old now next : Levels) → Copying n f old rest now
+pub copied_on : (n : ℕ) (f rest after view : Forest) (old now next : GroupStack) → Copying n f old rest now
     → Some view ≡ first_alone rest → n < flat_len rest → after ≡ rest_of rest → next ≡ put view now
     → Copying n f old after next
 copied_on n f rest after view old now next h is more r e = record {

@@ -1,6 +1,6 @@
 -- The trees of a crate, with those of its modules' files.
-pub mod Fronts
-pub mod Taking
-pub mod Following
-pub mod Shown
-pub mod Steps
+pub mod ModuleItems
+pub mod FileLookup
+pub mod ModuleInliner
+pub mod CrateViews
+pub mod InlinerSteps

@@ -1,5 +1,4 @@
--- Which file `mod x;` names.
-pub mod Choice
+-- The file that `mod x;` names.
 pub mod Paths
-pub mod Places
-pub mod Shown
+pub mod ModuleDirs
+pub mod ModuleDirViews

@@ -1,151 +1,170 @@
-// Attributes: whether all the `cfg`s of an item hold, also those that `cfg_attr` adds.
+// Evaluates attributes: whether every `cfg` of an item holds, also those that a `cfg_attr` adds.
 ghost use Rattle.std.specs.Prelude.{◌≡◌, ◌&&◌, true};
 ghost use Rattle.mbe_tt.specs.Trees.Tree.{flat_len};
 ghost use Rattle.mbe_tt.specs.Views.View.{trees};
 ghost use Rattle.mbe_cfg.specs.Attributes as spec;
 ghost use Rattle.mbe_cfg.specs.Attributes.{attribute, metas, attributes};
-ghost use Rattle.mbe_cfg.specs.Shown.{verdict_shown, group_result};
+ghost use Rattle.mbe_cfg.specs.CfgViews.{predicate_value_shown, group_result};
 
-use crate::fault::{Fault, Wrong};
-use crate::fronts::{Group, after_char, after_next_comma, bracketed, group_at, is_empty, place};
-use crate::predicate::{DEPTH, Verdict, holds, predicate};
-use crate::settings::Settings;
+use crate::cfg_fault::{CfgFault, CfgFaultKind};
+use crate::cfg_options::CfgOptions;
+use crate::exports::use_paths::begins_path;
+use crate::predicate::{DEPTH, PredicateValue, holds, predicate};
+use crate::tree_front::{
+    Group, after_char, after_next_comma, attribute_group, group_at, is_empty, start_span,
+};
 use mbe_tt::span::Span;
 use mbe_tt::tt::{DelimiterKind, TokenTreesView};
 use std::alloc::Allocator;
 
-/// What an attribute's name says of conditions.
+/// What the name of an attribute says about conditional compilation.
 #[derive(Drop)]
-pub enum Sort {
-    Cfg,
+pub enum AttributeKind {
+    PlainCfg,
     CfgAttr,
+    /// `test` or `bench`. Without tests, rustc drops what such an attribute is on.
+    Test,
     Other,
 }
 
-fn sort_of(name: &str) -> Sort
-    ensures { result ≡ spec.sort_of name.now }
+fn attribute_kind_of(name: &str) -> AttributeKind
+    ensures { result ≡ spec.attribute_kind_of name.now }
 {
     if name == "cfg" {
-        Sort::Cfg
+        AttributeKind::PlainCfg
     } else if name == "cfg_attr" {
-        Sort::CfgAttr
+        AttributeKind::CfgAttr
+    } else if name == "test" || name == "bench" {
+        AttributeKind::Test
     } else {
-        Sort::Other
+        AttributeKind::Other
     }
 }
 
-// The parentheses after the name at that place.
+// Returns the parentheses after the name at `at`, or the fault that there are none.
 fn argument<'t, A: Allocator>(
     at: Span,
     tokens: TokenTreesView<'t, A>,
-) -> Result<Group<'t, A>, Fault>
+) -> Result<Group<'t, A>, CfgFault>
     ensures { group_result result ≡ spec.argument at (trees tokens.entry) }
 {
     match group_at(DelimiterKind::Parenthesis, tokens) {
         Some(group) => Ok(group),
-        None => Err(Fault {
-            wrong: Wrong::Malformed,
+        None => Err(CfgFault {
+            fault_kind: CfgFaultKind::Malformed,
             at,
         }),
     }
 }
 
-// Whether the `cfg` with the parentheses at the front holds.
+// Returns whether the `cfg` holds whose parentheses are at the front.
 fn cfg<A: Allocator>(
-    settings: &Settings<'_>,
+    settings: &CfgOptions<'_>,
     at: Span,
     tokens: TokenTreesView<'_, A>,
-) -> Result<bool, Fault>
+) -> Result<bool, CfgFault>
     ensures { result ≡ spec.cfg settings.now at (trees tokens.entry) }
 {
     let group = argument(at, tokens)?;
     holds(settings, group.close, group.inside)
 }
 
-// Whether the predicate of a `cfg_attr` holds, and the attributes that it adds then.
+// Returns whether the predicate of a `cfg_attr` holds, and the attributes that the `cfg_attr` then
+// adds.
 fn condition<'t, A: Allocator>(
-    settings: &Settings<'_>,
+    settings: &CfgOptions<'_>,
     close: Span,
     tokens: TokenTreesView<'t, A>,
-) -> Result<Verdict<'t, A>, Fault>
-    ensures { verdict_shown result ≡ spec.condition settings.now close (trees tokens.entry) }
+) -> Result<PredicateValue<'t, A>, CfgFault>
+    ensures { predicate_value_shown result
+        ≡ spec.condition settings.now close (trees tokens.entry) }
 {
-    let verdict = predicate(settings, DEPTH, close, tokens)?;
-    match after_char(verdict.rest, ',') {
-        Some(rest) => Ok(Verdict {
-            holds: verdict.holds,
+    let predicate_value = predicate(settings, DEPTH, close, tokens)?;
+    match after_char(predicate_value.rest, ',') {
+        Some(rest) => Ok(PredicateValue {
+            holds: predicate_value.holds,
             rest,
         }),
-        None => Err(Fault {
-            wrong: Wrong::NoComma,
-            at: place(close, verdict.rest),
+        None => Err(CfgFault {
+            fault_kind: CfgFaultKind::NoComma,
+            at: start_span(close, predicate_value.rest),
         }),
     }
 }
 
-// Whether all the `cfg`s that a `cfg_attr` adds hold.
+// Returns whether each `cfg` holds that a `cfg_attr` adds.
 #[cycle(attribute)]
 fn cfg_attr<A: Allocator>(
-    settings: &Settings<'_>,
+    settings: &CfgOptions<'_>,
     depth: u32,
     at: Span,
     tokens: TokenTreesView<'_, A>,
-) -> Result<bool, Fault>
+) -> Result<bool, CfgFault>
     ensures { result ≡ spec.cfg_attr settings.now (attribute settings.now depth) at
         (trees tokens.entry) }
 {
     let group = argument(at, tokens)?;
-    let verdict = condition(settings, group.close, group.inside)?;
-    if verdict.holds {
-        metas(settings, depth, group.close, verdict.rest)
+    let predicate_value = condition(settings, group.close, group.inside)?;
+    if predicate_value.holds {
+        metas(settings, depth, group.close, predicate_value.rest)
     } else {
         Ok(true)
     }
 }
 
-/// Whether an attribute, without its `#` and brackets, lets what it is on be compiled; or what is wrong in it. `close`
-/// is where its brackets end, and attributes of `cfg_attr` may be `depth` deep in one another.
+// Returns whether the target of a `test` or `bench` attribute is compiled. The trees `rest` follow
+// the attribute's name. A name that begins a longer path belongs to another attribute.
+fn is_compiled<A: Allocator>(settings: &CfgOptions<'_>, rest: TokenTreesView<'_, A>) -> bool
+    ensures { result ≡ spec.is_compiled settings.now (trees rest.entry) }
+{
+    settings.test || begins_path(rest)
+}
+
+/// Returns whether an attribute, without its `#` and brackets, lets its target be compiled. `close`
+/// is the span at which its brackets end. Attributes in `cfg_attr` may be nested `depth` deep.
+/// Returns the fault if the attribute has one.
 #[cycle(attribute)]
 pub fn attribute<A: Allocator>(
-    settings: &Settings<'_>,
+    settings: &CfgOptions<'_>,
     depth: u32,
     close: Span,
     tokens: TokenTreesView<'_, A>,
-) -> Result<bool, Fault>
+) -> Result<bool, CfgFault>
     ensures { result ≡ attribute settings.now depth close (trees tokens.entry) }
 {
     if depth == 0 {
-        return Err(Fault {
-            wrong: Wrong::TooDeep,
-            at: place(close, tokens),
+        return Err(CfgFault {
+            fault_kind: CfgFaultKind::TooDeep,
+            at: start_span(close, tokens),
         });
     }
     let mut iter = tokens.iter();
     let Ok(name) = iter.expect_ident() else {
         return Ok(true);
     };
-    match sort_of(name.sym.as_str()) {
-        Sort::Cfg => cfg(settings, name.span, iter.remaining()),
-        Sort::CfgAttr => cfg_attr(settings, depth - 1, name.span, iter.remaining()),
-        Sort::Other => Ok(true),
+    match attribute_kind_of(name.sym.as_str()) {
+        AttributeKind::PlainCfg => cfg(settings, name.span, iter.remaining()),
+        AttributeKind::CfgAttr => cfg_attr(settings, depth - 1, name.span, iter.remaining()),
+        AttributeKind::Test => Ok(is_compiled(settings, iter.remaining())),
+        AttributeKind::Other => Ok(true),
     }
 }
 
-// Both of the two.
+// Returns whether both hold.
 fn both(one: bool, other: bool) -> bool
     ensures { result ≡ (one && other) }
 {
     one && other
 }
 
-// Whether all of these attributes do, which commas separate.
+// Returns whether all of these attributes let their target be compiled. Commas separate them.
 #[cycle(attribute)]
 fn metas<A: Allocator>(
-    settings: &Settings<'_>,
+    settings: &CfgOptions<'_>,
     depth: u32,
     close: Span,
     tokens: TokenTreesView<'_, A>,
-) -> Result<bool, Fault>
+) -> Result<bool, CfgFault>
     ensures { result ≡ metas (attribute settings.now depth close) (flat_len (trees tokens.entry))
         true (trees tokens.entry) }
 {
@@ -164,14 +183,15 @@ fn metas<A: Allocator>(
     Ok(all)
 }
 
-/// Whether the attributes at the front, `#[..]` or `#![..]`, let what they are on be compiled, and what is after them;
-/// or what is wrong in the first `cfg` or `cfg_attr` that has a fault. A `cfg_attr` whose predicate doesn't hold adds
-/// nothing. The rule is the Reference's, of conditional compilation.
+/// Returns whether the attributes at the front, `#[..]` or `#![..]`, let their target be compiled,
+/// and the trees after them. A `cfg_attr` whose predicate doesn't hold adds nothing. The Reference
+/// defines this as conditional compilation. Returns the fault of the first `cfg` or `cfg_attr` that
+/// has one.
 pub fn attributes<'t, A: Allocator>(
-    settings: &Settings<'_>,
+    settings: &CfgOptions<'_>,
     tokens: TokenTreesView<'t, A>,
-) -> Result<Verdict<'t, A>, Fault>
-    ensures { verdict_shown result
+) -> Result<PredicateValue<'t, A>, CfgFault>
+    ensures { predicate_value_shown result
         ≡ attributes settings.now (flat_len (trees tokens.entry)) true (trees tokens.entry) }
 {
     let mut all = true;
@@ -179,12 +199,12 @@ pub fn attributes<'t, A: Allocator>(
     let mut left = tokens.flat_len();
     'attributes: while left > 0 {
         left -= 1;
-        let Some(group) = bracketed(rest) else {
-            return Ok(Verdict { holds: all, rest });
+        let Some(group) = attribute_group(rest) else {
+            return Ok(PredicateValue { holds: all, rest });
         };
         let one = attribute(settings, DEPTH, group.close, group.inside)?;
         all = both(all, one);
         rest = group.rest;
     }
-    Ok(Verdict { holds: all, rest })
+    Ok(PredicateValue { holds: all, rest })
 }

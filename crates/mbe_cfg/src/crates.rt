@@ -1,4 +1,5 @@
-// The trees of a crate: `mod name;` with the trees of the file that holds the module.
-pub mod following;
-pub mod fronts;
-pub mod taking;
+// Puts the trees of a crate together: each `mod name;` gets the trees of the file that holds the
+// module.
+pub mod file_lookup;
+pub mod module_inliner;
+pub mod module_items;

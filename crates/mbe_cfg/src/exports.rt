@@ -1,4 +1,4 @@
-// What a crate exports of other crates, by the `pub use`s of its root.
+// Lists what a crate exports from other crates by the `pub use`s of its root.
+pub mod crate_exports;
 pub mod export;
-pub mod exporting;
-pub mod uses;
+pub mod use_paths;

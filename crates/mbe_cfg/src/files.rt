@@ -1,4 +1,3 @@
-// Which file `mod x;` names.
-pub mod choice;
+// Finds the file that `mod x;` names.
+pub mod module_dir;
 pub mod paths;
-pub mod places;

@@ -1,36 +1,36 @@
-// Predicates, as the Reference has them: a name, a name with a value, `true`, `false`, and `all`, `any` and `not` of
-// predicates.
+// Evaluates predicates of `cfg`, as the Reference defines them: a name, a name with a value,
+// `true`, `false`, and `all`, `any` and `not` of predicates.
 ghost use Rattle.std.specs.Prelude.{◌≡◌};
 ghost use Rattle.std.specs.Result.{result_map_both};
 ghost use Rattle.mbe_tt.specs.Trees.Tree.{flat_len};
 ghost use Rattle.mbe_tt.specs.Views.View.{trees};
-ghost use Rattle.mbe_tt.specs.Views.Shown.{ident_of, literal_of};
+ghost use Rattle.mbe_tt.specs.Views.LeafViews.{ident_of, literal_of};
 ghost use Rattle.mbe_cfg.specs.Predicates as spec;
 ghost use Rattle.mbe_cfg.specs.Predicates.{predicate, items, item, one};
-ghost use Rattle.mbe_cfg.specs.Shown.{verdict_shown, view_shown, group_shown};
+ghost use Rattle.mbe_cfg.specs.CfgViews.{predicate_value_shown, view_shown, group_shown};
 
-use crate::fault::{Fault, Wrong};
-use crate::fronts::{Group, after_char, group_at, is_empty, place};
-use crate::settings::Settings;
+use crate::cfg_fault::{CfgFault, CfgFaultKind};
+use crate::cfg_options::CfgOptions;
+use crate::tree_front::{Group, after_char, group_at, is_empty, start_span};
 use mbe_tt::span::Span;
 use mbe_tt::tt::{
     DelimiterKind, Ident, IdentIsRaw, Leaf, LitKind, Literal, TokenTreesView, TtElement,
 };
 use std::alloc::{Allocator, Global};
 
-/// How deep predicates, and attributes in `cfg_attr`, may be in one another. Deeper, it is a fault.
+/// The maximum nesting of predicates, and of attributes in `cfg_attr`. Deeper nesting is a fault.
 pub const DEPTH: u32 = 128;
 
-/// Whether what is at the front holds, and what is after it.
+/// Whether the predicate or the attributes at the front hold, and the trees after them.
 #[derive(Drop)]
-pub struct Verdict<'t, A: Allocator = Global> {
+pub struct PredicateValue<'t, A: Allocator = Global> {
     pub holds: bool,
     pub rest: TokenTreesView<'t, A>,
 }
 
-/// What a name before parentheses means.
+/// The meaning of a name before parentheses.
 #[derive(Drop)]
-pub enum Operator {
+pub enum PredicateOperator {
     All,
     Any,
     Not,
@@ -38,41 +38,41 @@ pub enum Operator {
     Unknown,
 }
 
-// The fault of that sort there.
-fn fault(wrong: Wrong, at: Span) -> Fault
-    ensures { result ≡ record { wrong = wrong; at = at } }
+// Returns the fault of that kind at `at`.
+fn fault(fault_kind: CfgFaultKind, at: Span) -> CfgFault
+    ensures { result ≡ record { fault_kind = fault_kind; at = at } }
 {
-    Fault { wrong, at }
+    CfgFault { fault_kind, at }
 }
 
-fn operator_of(name: &str) -> Operator
+fn operator_of(name: &str) -> PredicateOperator
     ensures { result ≡ spec.operator_of name.now }
 {
     if name == "all" {
-        Operator::All
+        PredicateOperator::All
     } else if name == "any" {
-        Operator::Any
+        PredicateOperator::Any
     } else if name == "not" {
-        Operator::Not
+        PredicateOperator::Not
     } else if name == "version" || name == "target" {
-        Operator::Unstable
+        PredicateOperator::Unstable
     } else {
-        Operator::Unknown
+        PredicateOperator::Unknown
     }
 }
 
-// What `true` and `false` mean, which aren't names unless they are raw.
+// Returns what `true` or `false` means. A raw identifier is a name.
 fn constant(is_raw: IdentIsRaw, name: &str) -> Option<bool>
     ensures { result ≡ spec.constant is_raw name.now }
 {
     match is_raw {
         IdentIsRaw::Yes => None,
-        IdentIsRaw::No => of_word(name),
+        IdentIsRaw::No => constant_of_word(name),
     }
 }
 
-fn of_word(name: &str) -> Option<bool>
-    ensures { result ≡ spec.of_word name.now }
+fn constant_of_word(name: &str) -> Option<bool>
+    ensures { result ≡ spec.constant_of_word name.now }
 {
     if name == "true" {
         Some(true)
@@ -83,57 +83,63 @@ fn of_word(name: &str) -> Option<bool>
     }
 }
 
-// What is after the comma at the front, or nothing at the end.
-fn separated<'t, A: Allocator>(
+// Returns the trees after the comma at the front, or no trees at the end.
+fn after_separator<'t, A: Allocator>(
     close: Span,
     tokens: TokenTreesView<'t, A>,
-) -> Result<TokenTreesView<'t, A>, Fault>
-    ensures { view_shown result ≡ spec.separated close (trees tokens.entry) }
+) -> Result<TokenTreesView<'t, A>, CfgFault>
+    ensures { view_shown result ≡ spec.after_separator close (trees tokens.entry) }
 {
     if is_empty(tokens) {
         return Ok(tokens);
     }
     match after_char(tokens, ',') {
         Some(rest) => Ok(rest),
-        None => Err(fault(Wrong::NoComma, place(close, tokens))),
+        None => Err(fault(CfgFaultKind::NoComma, start_span(close, tokens))),
     }
 }
 
-// Whether the text has a backslash.
+// Returns whether the text has a backslash.
 fn has_escape(text: &str) -> bool
     ensures { result ≡ spec.has_escape text.now }
 {
     text.as_bytes().iter().any(|b| *b == 92)
 }
 
-// The text of a string as it is written, where that is what it means.
-fn plain_text<'t, A: Allocator>(literal: &'t Literal<A>) -> Result<&'t str, Fault>
-    ensures { result_map_both (λ t. t.now) (λ e. e) result ≡ spec.plain_text (literal_of literal.now) }
+// Returns the text of a string as it is written, if it means that text. Any other literal is a
+// fault.
+fn plain_text<'t, A: Allocator>(literal: &'t Literal<A>) -> Result<&'t str, CfgFault>
+    ensures { result_map_both (λ t. t.now) (λ e. e) result
+        ≡ spec.plain_text (literal_of literal.now) }
 {
     if literal.suffix_len > 0 {
-        return Err(fault(Wrong::Suffix, literal.span));
+        return Err(fault(CfgFaultKind::Suffix, literal.span));
     }
     match literal.kind {
         LitKind::StrRaw(_) => Ok(literal.text_and_suffix.as_str()),
         LitKind::Str if has_escape(literal.text_and_suffix.as_str()) => {
-            Err(fault(Wrong::Escape, literal.span))
+            Err(fault(CfgFaultKind::Escape, literal.span))
         }
         LitKind::Str => Ok(literal.text_and_suffix.as_str()),
-        _ => Err(fault(Wrong::NoString, literal.span)),
+        _ => Err(fault(CfgFaultKind::NoString, literal.span)),
     }
 }
 
-// The text of the string at the front.
-fn text_at<'t, A: Allocator>(close: Span, tokens: TokenTreesView<'t, A>) -> Result<&'t str, Fault>
-    ensures { result_map_both (λ t. t.now) (λ e. e) result ≡ spec.text_at close (trees tokens.entry) }
+// Returns the text of the string at the front.
+fn text_at<'t, A: Allocator>(
+    close: Span,
+    tokens: TokenTreesView<'t, A>,
+) -> Result<&'t str, CfgFault>
+    ensures { result_map_both (λ t. t.now) (λ e. e) result
+        ≡ spec.text_at close (trees tokens.entry) }
 {
     match tokens.iter().next() {
         Some(TtElement::Leaf(Leaf::Literal(literal))) => plain_text(literal),
-        _ => Err(fault(Wrong::NoString, place(close, tokens))),
+        _ => Err(fault(CfgFaultKind::NoString, start_span(close, tokens))),
     }
 }
 
-// What is after the first tree.
+// Returns the trees after the first one.
 fn after_one<'t, A: Allocator>(tokens: TokenTreesView<'t, A>) -> TokenTreesView<'t, A>
     ensures { trees result ≡ spec.after_one (trees tokens.entry) }
 {
@@ -142,198 +148,213 @@ fn after_one<'t, A: Allocator>(tokens: TokenTreesView<'t, A>) -> TokenTreesView<
     iter.remaining()
 }
 
-// Whether that name has the value at the front.
-fn valued<'t, A: Allocator>(
-    settings: &Settings<'_>,
+// Returns whether that name has the value at the front.
+fn name_with_value<'t, A: Allocator>(
+    settings: &CfgOptions<'_>,
     close: Span,
     name: &str,
     tokens: TokenTreesView<'t, A>,
-) -> Result<Verdict<'t, A>, Fault>
-    ensures { verdict_shown result ≡ spec.valued settings.now close name.now (trees tokens.entry) }
+) -> Result<PredicateValue<'t, A>, CfgFault>
+    ensures { predicate_value_shown result
+        ≡ spec.name_with_value settings.now close name.now (trees tokens.entry) }
 {
     match text_at(close, tokens) {
-        Ok(value) => Ok(Verdict {
+        Ok(value) => Ok(PredicateValue {
             holds: settings.has_pair(name, value),
             rest: after_one(tokens),
         }),
-        Err(wrong) => Err(wrong),
+        Err(fault_kind) => Err(fault_kind),
     }
 }
 
-// Whether a name that no parentheses follow holds, with the value that may follow it.
-fn plain<'t, A: Allocator>(
-    settings: &Settings<'_>,
+// Returns whether a name without parentheses holds, with the value that may follow it.
+fn name_alone<'t, A: Allocator>(
+    settings: &CfgOptions<'_>,
     close: Span,
     name: &Ident<A>,
     tokens: TokenTreesView<'t, A>,
-) -> Result<Verdict<'t, A>, Fault>
-    ensures { verdict_shown result
-        ≡ spec.plain settings.now close (ident_of name.now) (trees tokens.entry) }
+) -> Result<PredicateValue<'t, A>, CfgFault>
+    ensures { predicate_value_shown result
+        ≡ spec.name_alone settings.now close (ident_of name.now) (trees tokens.entry) }
 {
     if let Some(value) = after_char(tokens, '=') {
-        return valued(settings, close, name.sym.as_str(), value);
+        return name_with_value(settings, close, name.sym.as_str(), value);
     }
     if after_char(tokens, ':').is_some() {
-        return Err(fault(Wrong::Path, name.span));
+        return Err(fault(CfgFaultKind::Path, name.span));
     }
-    Ok(Verdict {
+    Ok(PredicateValue {
         holds: settings.has_name(name.sym.as_str()),
         rest: tokens,
     })
 }
 
-/// Whether the predicate at the front holds, and what is after it; or what is wrong in it. `close` is where the trees
-/// end, and predicates may be `depth` deep in one another.
+/// Returns whether the predicate at the front holds, and the trees after it. `close` is the span at
+/// which the trees end. Predicates may be nested `depth` deep. Returns the fault if the predicate
+/// has one.
 #[cycle(predicate)]
 pub fn predicate<'t, A: Allocator>(
-    settings: &Settings<'_>,
+    settings: &CfgOptions<'_>,
     depth: u32,
     close: Span,
     tokens: TokenTreesView<'t, A>,
-) -> Result<Verdict<'t, A>, Fault>
-    ensures { verdict_shown result ≡ predicate settings.now depth close (trees tokens.entry) }
+) -> Result<PredicateValue<'t, A>, CfgFault>
+    ensures { predicate_value_shown result
+        ≡ predicate settings.now depth close (trees tokens.entry) }
 {
     if depth == 0 {
-        return Err(fault(Wrong::TooDeep, place(close, tokens)));
+        return Err(fault(CfgFaultKind::TooDeep, start_span(close, tokens)));
     }
     let mut iter = tokens.iter();
     match iter.expect_ident() {
-        Ok(name) => named(settings, depth - 1, close, name, iter.remaining()),
-        Err(()) => Err(fault(Wrong::NoName, place(close, tokens))),
+        Ok(name) => named_predicate(settings, depth - 1, close, name, iter.remaining()),
+        Err(()) => Err(fault(CfgFaultKind::NoName, start_span(close, tokens))),
     }
 }
 
-// The predicate that begins with that name.
+// Evaluates the predicate that begins with that name.
 #[cycle(predicate)]
-fn named<'t, A: Allocator>(
-    settings: &Settings<'_>,
+fn named_predicate<'t, A: Allocator>(
+    settings: &CfgOptions<'_>,
     depth: u32,
     close: Span,
     name: &Ident<A>,
     tokens: TokenTreesView<'t, A>,
-) -> Result<Verdict<'t, A>, Fault>
-    ensures { verdict_shown result ≡ spec.named settings.now (predicate settings.now depth) close
+) -> Result<PredicateValue<'t, A>, CfgFault>
+    ensures { predicate_value_shown result
+        ≡ spec.named_predicate settings.now (predicate settings.now depth) close
         (ident_of name.now) (trees tokens.entry) }
 {
     if let Some(holds) = constant(name.is_raw, name.sym.as_str()) {
-        return Ok(Verdict {
+        return Ok(PredicateValue {
             holds,
             rest: tokens,
         });
     }
     match group_at(DelimiterKind::Parenthesis, tokens) {
-        Some(group) => listed(settings, depth, name, group),
-        None => plain(settings, close, name, tokens),
+        Some(group) => operator_predicate(settings, depth, name, group),
+        None => name_alone(settings, close, name, tokens),
     }
 }
 
-// The predicate of that name and that group.
+// Evaluates the predicate of that name and that group.
 #[cycle(predicate)]
-fn listed<'t, A: Allocator>(
-    settings: &Settings<'_>,
+fn operator_predicate<'t, A: Allocator>(
+    settings: &CfgOptions<'_>,
     depth: u32,
     name: &Ident<A>,
     group: Group<'t, A>,
-) -> Result<Verdict<'t, A>, Fault>
-    ensures { verdict_shown result ≡ spec.listed (predicate settings.now depth) (ident_of name.now)
+) -> Result<PredicateValue<'t, A>, CfgFault>
+    ensures { predicate_value_shown result
+        ≡ spec.operator_predicate (predicate settings.now depth) (ident_of name.now)
         (group_shown group.entry) }
 {
     let holds = match operator_of(name.sym.as_str()) {
-        Operator::All => items(settings, depth, true, group.close, group.inside)?,
-        Operator::Any => items(settings, depth, false, group.close, group.inside)?,
-        Operator::Not => !one(settings, depth, group.close, group.inside)?,
-        Operator::Unstable => return Err(fault(Wrong::Unstable, name.span)),
-        Operator::Unknown => return Err(fault(Wrong::Invalid, name.span)),
+        PredicateOperator::All => items(settings, depth, true, group.close, group.inside)?,
+        PredicateOperator::Any => items(settings, depth, false, group.close, group.inside)?,
+        PredicateOperator::Not => !one(settings, depth, group.close, group.inside)?,
+        PredicateOperator::Unstable => return Err(fault(CfgFaultKind::Unstable, name.span)),
+        PredicateOperator::Unknown => return Err(fault(CfgFaultKind::Invalid, name.span)),
     };
-    Ok(Verdict {
+    Ok(PredicateValue {
         holds,
         rest: group.rest,
     })
 }
 
-// Both, or one of the two.
-fn joined(every: bool, one: bool, other: bool) -> bool
-    ensures { result ≡ spec.joined every one other }
+// Returns whether both hold, or with `every` false, whether one of the two does.
+fn combined(every: bool, one: bool, other: bool) -> bool
+    ensures { result ≡ spec.combined every one other }
 {
     if every { one && other } else { one || other }
 }
 
-// What holds so far with the predicate at the front, and what is after that and its comma.
+// Returns what holds so far with the predicate at the front, and the trees after that predicate and
+// its comma.
 #[cycle(predicate)]
 fn item<'t, A: Allocator>(
-    settings: &Settings<'_>,
+    settings: &CfgOptions<'_>,
     depth: u32,
     every: bool,
     close: Span,
     so_far: bool,
     tokens: TokenTreesView<'t, A>,
-) -> Result<Verdict<'t, A>, Fault>
-    ensures { verdict_shown result ≡ item (predicate settings.now depth close) every close so_far
+) -> Result<PredicateValue<'t, A>, CfgFault>
+    ensures { predicate_value_shown result
+        ≡ item (predicate settings.now depth close) every close so_far
         (trees tokens.entry) }
 {
-    let verdict = predicate(settings, depth, close, tokens)?;
-    let rest = separated(close, verdict.rest)?;
-    Ok(Verdict {
-        holds: joined(every, so_far, verdict.holds),
+    let predicate_value = predicate(settings, depth, close, tokens)?;
+    let rest = after_separator(close, predicate_value.rest)?;
+    Ok(PredicateValue {
+        holds: combined(every, so_far, predicate_value.holds),
         rest,
     })
 }
 
-// Whether every one of these predicates holds, or any.
+// Returns whether all of these predicates hold, or with `every` false, whether one of them does.
 #[cycle(predicate)]
 fn items<A: Allocator>(
-    settings: &Settings<'_>,
+    settings: &CfgOptions<'_>,
     depth: u32,
     every: bool,
     close: Span,
     tokens: TokenTreesView<'_, A>,
-) -> Result<bool, Fault>
+) -> Result<bool, CfgFault>
     ensures { result ≡ items (predicate settings.now depth close) every close
         (flat_len (trees tokens.entry)) every (trees tokens.entry) }
 {
-    let mut verdict = Verdict {
+    let mut predicate_value = PredicateValue {
         holds: every,
         rest: tokens,
     };
     let mut left = tokens.flat_len();
     'items: while left > 0 {
         left -= 1;
-        if is_empty(verdict.rest) {
-            return Ok(verdict.holds);
+        if is_empty(predicate_value.rest) {
+            return Ok(predicate_value.holds);
         }
-        verdict = item(settings, depth, every, close, verdict.holds, verdict.rest)?;
+        predicate_value = item(
+            settings,
+            depth,
+            every,
+            close,
+            predicate_value.holds,
+            predicate_value.rest,
+        )?;
     }
-    Ok(verdict.holds)
+    Ok(predicate_value.holds)
 }
 
-// Whether the predicate holds that is all of these trees, but for a comma.
+// Returns whether the one predicate in these trees holds. Only a comma may follow it.
 #[cycle(predicate)]
 fn one<A: Allocator>(
-    settings: &Settings<'_>,
+    settings: &CfgOptions<'_>,
     depth: u32,
     close: Span,
     tokens: TokenTreesView<'_, A>,
-) -> Result<bool, Fault>
+) -> Result<bool, CfgFault>
     ensures { result ≡ one (predicate settings.now depth close) close (trees tokens.entry) }
 {
     if is_empty(tokens) {
-        return Err(fault(Wrong::NotOne, close));
+        return Err(fault(CfgFaultKind::NotOne, close));
     }
-    let verdict = predicate(settings, depth, close, tokens)?;
-    let rest = separated(close, verdict.rest)?;
+    let predicate_value = predicate(settings, depth, close, tokens)?;
+    let rest = after_separator(close, predicate_value.rest)?;
     if is_empty(rest) {
-        Ok(verdict.holds)
+        Ok(predicate_value.holds)
     } else {
-        Err(fault(Wrong::NotOne, place(close, rest)))
+        Err(fault(CfgFaultKind::NotOne, start_span(close, rest)))
     }
 }
 
-/// Whether the predicate in the parentheses of a `cfg` holds, which close there; or what is wrong in it.
+/// Returns whether the predicate in the parentheses of a `cfg` holds. `close` is the span at which
+/// they close. Returns the fault if the predicate has one.
 pub fn holds<A: Allocator>(
-    settings: &Settings<'_>,
+    settings: &CfgOptions<'_>,
     close: Span,
     tokens: TokenTreesView<'_, A>,
-) -> Result<bool, Fault>
+) -> Result<bool, CfgFault>
     ensures { result ≡ spec.holds settings.now close (trees tokens.entry) }
 {
     one(settings, DEPTH, close, tokens)

@@ -1,8 +1,8 @@
-// The options of targets, which `tools/cfg-tables` compares with those that rustc prints.
+// The options of targets. `tools/cfg-tables` compares them with those that rustc prints.
 ghost use Rattle.std.specs.Prelude.{◌≡◌};
 ghost use Rattle.mbe_cfg.specs.Targets.{rows, options};
 
-use crate::settings::Cfg;
+use crate::cfg_options::CfgOption;
 
 /// A target whose options are known.
 #[derive(Clone, Copy, Drop)]
@@ -19,17 +19,17 @@ pub enum Target {
     Wasm32,
 }
 
-// Names alone, and names with each of their values.
+// Writes options: names alone, and names with each of their values.
 macro_rules! cfgs {
     ($($name:literal),+; $($named:literal = $($value:literal),+;)+) => {
         &[
-            $(Cfg { name: $name, value: None },)+
-            $($(Cfg { name: $named, value: Some($value) },)+)+
+            $(CfgOption { name: $name, value: None },)+
+            $($(CfgOption { name: $named, value: Some($value) },)+)+
         ]
     };
 }
 
-const X86_64_LINUX: &[Cfg<'static>] = cfgs! {
+const X86_64_LINUX: &[CfgOption<'static>] = cfgs! {
     "debug_assertions", "unix";
     "panic" = "unwind";
     "target_abi" = "";
@@ -44,7 +44,7 @@ const X86_64_LINUX: &[Cfg<'static>] = cfgs! {
     "target_vendor" = "unknown";
 };
 
-const X86_64_WINDOWS: &[Cfg<'static>] = cfgs! {
+const X86_64_WINDOWS: &[CfgOption<'static>] = cfgs! {
     "debug_assertions", "windows";
     "panic" = "unwind";
     "target_abi" = "";
@@ -59,7 +59,7 @@ const X86_64_WINDOWS: &[Cfg<'static>] = cfgs! {
     "target_vendor" = "pc";
 };
 
-const X86_64_MAC: &[Cfg<'static>] = cfgs! {
+const X86_64_MAC: &[CfgOption<'static>] = cfgs! {
     "debug_assertions", "unix";
     "panic" = "unwind";
     "target_abi" = "";
@@ -74,7 +74,7 @@ const X86_64_MAC: &[Cfg<'static>] = cfgs! {
     "target_vendor" = "apple";
 };
 
-const AARCH64_MAC: &[Cfg<'static>] = cfgs! {
+const AARCH64_MAC: &[CfgOption<'static>] = cfgs! {
     "debug_assertions", "unix";
     "panic" = "unwind";
     "target_abi" = "";
@@ -91,7 +91,7 @@ const AARCH64_MAC: &[Cfg<'static>] = cfgs! {
     "target_vendor" = "apple";
 };
 
-const WASM32: &[Cfg<'static>] = cfgs! {
+const WASM32: &[CfgOption<'static>] = cfgs! {
     "debug_assertions";
     "panic" = "abort";
     "target_abi" = "";
@@ -108,8 +108,8 @@ const WASM32: &[Cfg<'static>] = cfgs! {
 };
 
 impl Target {
-    /// The target's options.
-    pub fn options(self) -> &'static [Cfg<'static>]
+    /// Returns the target's options.
+    pub fn options(self) -> &'static [CfgOption<'static>]
         ensures { rows result.now ≡ options self }
     {
         match self {

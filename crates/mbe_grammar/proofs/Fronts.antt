@@ -1,5 +1,6 @@
 -- What the first tree decides: which rules don't stand there.
-use Rattle.std.proofs.Common.{◌≡◌, ℕ, Bool, true, false, not, List, [], ◌∷◌, take, Option, Some, None, Ok, Err, ◌⊎◌, inl, inr, refl, sym}
+use Rattle.std.proofs.Common.{◌≡◌, ℕ, Bool, true, false, not, List, [], ◌∷◌, take, Option, Some, None, Ok, Err, ◌⊎◌}
+use Rattle.std.proofs.Common.{inl, inr, refl, sym}
 use Rattle.std.specs.Prelude.{◌==◌, ◌||◌, if◌then◌else◌}
 use Rattle.std.specs.List.{list_any, list_all}
 use Rattle.std.specs.Str.{bytes_eq}
@@ -12,9 +13,9 @@ use Rattle.mbe_tt.specs.declared.tt.Punct.{Punct}
 use Rattle.mbe_tt.specs.declared.tt.IdentIsRaw.{IdentIsRaw}
 use Rattle.mbe_tt.specs.declared.tt.IdentIsRaw.TheVariants.{No, Yes}
 use Rattle.mbe_tt.specs.declared.tt.DelimiterKind.{DelimiterKind}
-use Rattle.mbe_grammar.specs.declared.tables.step.Miss.TheVariants.{Absent, Fault}
+use Rattle.mbe_grammar.specs.declared.tables.parse_result.ParseFailure.TheVariants.{NoMatch, Fault}
 use Rattle.mbe_grammar.specs.Rule.{may_begin}
-use Rattle.mbe_grammar.specs.Tables.Terminals.{Step, or_absent, after_one, after_operator}
+use Rattle.mbe_grammar.specs.Tables.Terminals.{ParseResult, or_no_match, after_one, after_operator}
 use Rattle.mbe_grammar.specs.Tables.Rule.{◌>>=◌, or_else}
 use Rattle.mbe_grammar.specs.SingleTrees.{is_name}
 use Rattle.mbe_grammar.specs.Tables.SingleTrees.{is_word, is_one_of, is_literal, is_punct, is_group}
@@ -149,23 +150,23 @@ either_apart p q r a b t h = elim (or_cases (p t) (q t) h) [ inl e ↦ a t e | i
 
 -- ---- what comes first where a rule fits
 
-first_placed : (a : Bool) (rest g : Forest) → or_absent (if a then Some rest else None) ≡ Ok g → a ≡ true
+first_placed : (a : Bool) (rest g : Forest) → or_no_match (if a then Some rest else None) ≡ Ok g → a ≡ true
 first_placed true rest g e = refl
 first_placed false rest g e = cc
 
-pub one_placed : (p : Tree → Bool) (f g : Forest) → or_absent (after_one p f) ≡ Ok g → Begins p f
+pub one_placed : (p : Tree → Bool) (f g : Forest) → or_no_match (after_one p f) ≡ Ok g → Begins p f
 one_placed p none g e = cc
 one_placed p (leaf l rest) g e = first_placed _ rest g e
 one_placed p (group d inside rest) g e = first_placed _ rest g e
 
-pub then_placed : (s : Step) (next : Forest → Step) (g : Forest) → (s >>= next) ≡ Ok g
+pub then_placed : (s : ParseResult) (next : Forest → ParseResult) (g : Forest) → (s >>= next) ≡ Ok g
     → (h : Forest) × (s ≡ Ok h) × (next h ≡ Ok g)
 then_placed (Ok h) next g e = (h, refl, e)
 then_placed (Err miss) next g e = cc
 
-pub or_placed : (s t : Step) (g : Forest) → or_else s t ≡ Ok g → (s ≡ Ok g) ⊎ (t ≡ Ok g)
+pub or_placed : (s t : ParseResult) (g : Forest) → or_else s t ≡ Ok g → (s ≡ Ok g) ⊎ (t ≡ Ok g)
 or_placed (Ok h) t g e = inl e
-or_placed (Err Absent) t g e = inr e
+or_placed (Err NoMatch) t g e = inr e
 or_placed (Err Fault) t g e = cc
 
 pub either_left : (p q : Tree → Bool) (f : Forest) → Begins p f → Begins (either_of p q) f
@@ -178,7 +179,7 @@ either_right p q none h = absurd h
 either_right p q (leaf l rest) h = or_right _ _ h
 either_right p q (group d inside rest) h = or_right _ _ h
 
-pub absent_last : (s t : Step) → t ≡ Err Absent → or_else s t ≡ s
+pub absent_last : (s t : ParseResult) → t ≡ Err NoMatch → or_else s t ≡ s
 absent_last (Ok g) t e = refl
-absent_last (Err Absent) t e = e
+absent_last (Err NoMatch) t e = e
 absent_last (Err Fault) t e = refl

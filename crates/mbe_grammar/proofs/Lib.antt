@@ -2,7 +2,7 @@ pub mod ExpressionChains
 pub mod Fronts
 pub mod Parts
 pub mod PatternChains
-pub mod Rules
+pub mod RuleLemmas
 pub mod TypeChains
 pub mod FlatTreeLemmas
 pub mod TakesLemmas

@@ -1,15 +1,21 @@
 -- Each part of the program's grammar takes what its rule says.
 use Rattle.std.proofs.Common.{◌≡◌, ℕ, ◌<◌, ◌≤◌, true, Ok, Err, refl, arith}
 use Rattle.mbe_tt.specs.Trees.Tree.{Forest, flat_len}
-use Rattle.mbe_grammar.specs.declared.tables.step.Miss.TheVariants.{Absent, Fault}
-use Rattle.mbe_grammar.specs.declared.types.PathStyle.{PathStyle}
-use Rattle.mbe_grammar.specs.declared.types.PathStyle.TheVariants.{Plain, Expression}
+use Rattle.mbe_grammar.specs.declared.tables.parse_result.ParseFailure.TheVariants.{NoMatch, Fault}
+use Rattle.mbe_grammar.specs.declared.sample_types.PathStyle.{PathStyle}
+use Rattle.mbe_grammar.specs.declared.sample_types.PathStyle.TheVariants.{Plain, Expression}
 use Rattle.mbe_grammar.specs.Rule.{meaning, in_turn}
 use Rattle.mbe_grammar.specs.Tables.Rule.{◌>>=◌}
-use Rattle.mbe_grammar.specs.SampleGrammar.{Nonterminal, Lifetime, Angle, Turbofish, Colons, Segment, NextSegment, Path, Indirection, Pointee, Ty, Block, Assignment, Meta, SignedLiteral, BindingMode, BoundPat, PathPat, Pat, Alternative, PatTop, Operator, Operation, Expr, Prefix, Unary, KeywordBlock, JumpWord, JumpValue, Jump, PathExpr, Primary, Operand, Field, Post, Annotation, Let, ItemStmt, Stmt, Item, Vis, rule_of, takes}
+use Rattle.mbe_grammar.specs.SampleGrammar.{Nonterminal, Lifetime, Angle, Turbofish, Colons, Segment, NextSegment, Path}
+use Rattle.mbe_grammar.specs.SampleGrammar.{Indirection, Pointee, Ty, Block, Assignment, Meta, SignedLiteral}
+use Rattle.mbe_grammar.specs.SampleGrammar.{BindingMode, BoundPat, PathPat, Pat, Alternative, PatTop, Operator}
+use Rattle.mbe_grammar.specs.SampleGrammar.{Operation, Expr, Prefix, Unary, KeywordBlock, JumpWord, JumpValue, Jump}
+use Rattle.mbe_grammar.specs.SampleGrammar.{PathExpr, Primary, Operand, Field, Post, Annotation, Let, ItemStmt, Stmt}
+use Rattle.mbe_grammar.specs.SampleGrammar.{Item, Vis, rule_of, takes}
 use Rattle.mbe_grammar.specs.RuleLaws.{leaves_weaker, in_turn_leaves}
 use Rattle.mbe_grammar.specs.Lawful.{takes_some, solid_parts, takes_leaves}
-use Rattle.mbe_grammar.proofs.Rules.{Order, is_below, taken_by_rule, shorter, no_longer, in_turn_on, in_turn_ends, in_turn_faults}
+use Rattle.mbe_grammar.proofs.RuleLemmas.{Order, is_below, taken_by_rule, shorter, no_longer, in_turn_on, in_turn_ends}
+use Rattle.mbe_grammar.proofs.RuleLemmas.{in_turn_faults}
 
 -- a part calls parts of lower rank before it takes a flat token
 abbrev rank : Nonterminal → ℕ
@@ -63,7 +69,7 @@ pub turns_on : (x : Nonterminal) (f g : Forest) → takes_some x ≡ true → ta
     → in_turn (takes x) f ≡ in_turn (takes x) g
 turns_on x f g p e = in_turn_on (takes x) (λ h. rw p at (takes_leaves x h)) f g e
 
-pub turns_end : (x : Nonterminal) (f : Forest) → takes x f ≡ Err Absent → in_turn (takes x) f ≡ Ok f
+pub turns_end : (x : Nonterminal) (f : Forest) → takes x f ≡ Err NoMatch → in_turn (takes x) f ≡ Ok f
 turns_end x f e = in_turn_ends (takes x) f e
 
 pub turns_fault : (x : Nonterminal) (f : Forest) → takes x f ≡ Err Fault → in_turn (takes x) f ≡ Err Fault

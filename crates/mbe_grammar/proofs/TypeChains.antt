@@ -1,22 +1,27 @@
 -- A type, as indirections in turn and what they point to.
-use Rattle.std.proofs.Common.{◌≡◌, ℕ, zero, suc, ◌<◌, Bool, true, false, List, [], ◌∷◌, None, Ok, Err, inl, inr, refl, sym, ap, ◌∙◌, arith, true≢false}
+use Rattle.std.proofs.Common.{◌≡◌, ℕ, zero, suc, ◌<◌, Bool, true, false, List, [], ◌∷◌, None, Ok, Err, inl, inr, refl}
+use Rattle.std.proofs.Common.{sym, ap, ◌∙◌, arith, true≢false}
 use Rattle.std.specs.Prelude.{◌==◌, codes}
 use Rattle.mbe_tt.specs.Trees.Tree.{Forest, Tree, flat_len}
-use Rattle.mbe_grammar.specs.declared.tables.step.Miss.TheVariants.{Absent, Fault}
-use Rattle.mbe_grammar.specs.declared.types.PathStyle.{PathStyle}
-use Rattle.mbe_grammar.specs.declared.types.PathStyle.TheVariants.{Plain, Expression}
+use Rattle.mbe_grammar.specs.declared.tables.parse_result.ParseFailure.TheVariants.{NoMatch, Fault}
+use Rattle.mbe_grammar.specs.declared.sample_types.PathStyle.{PathStyle}
+use Rattle.mbe_grammar.specs.declared.sample_types.PathStyle.TheVariants.{Plain, Expression}
 use Rattle.mbe_tt.specs.declared.tt.DelimiterKind.{DelimiterKind}
 use Rattle.mbe_tt.specs.declared.tt.DelimiterKind.TheVariants.{Parenthesis, Bracket}
 use Rattle.mbe_grammar.specs.Rule.{one, part, ◌then◌, ◌or◌, maybe, repeated, needed, ahead, meaning, in_turn}
-use Rattle.mbe_grammar.specs.Tables.Terminals.{Step, or_absent, after_one}
+use Rattle.mbe_grammar.specs.Tables.Terminals.{ParseResult, or_no_match, after_one}
 use Rattle.mbe_grammar.specs.Tables.Rule.{◌>>=◌, or_else}
 use Rattle.mbe_grammar.specs.SingleTrees.{is_name}
 use Rattle.mbe_grammar.specs.Tables.SingleTrees.{is_one_of, is_punct, is_group}
-use Rattle.mbe_grammar.specs.SampleGrammar.{Rules, word, words, puncts, reference_sign, pointer_sign, parenthesis_or_bracket, Nonterminal, Lifetime, Angle, Turbofish, Colons, Segment, NextSegment, Path, Indirection, Pointee, Ty, rule_of, takes}
+use Rattle.mbe_grammar.specs.SampleGrammar.{PegGrammar, word, words, puncts, reference_sign, pointer_sign}
+use Rattle.mbe_grammar.specs.SampleGrammar.{parenthesis_or_bracket, Nonterminal, Lifetime, Angle, Turbofish, Colons}
+use Rattle.mbe_grammar.specs.SampleGrammar.{Segment, NextSegment, Path, Indirection, Pointee, Ty, rule_of, takes}
 use Rattle.mbe_grammar.specs.Chains.{direct_type}
-use Rattle.mbe_grammar.proofs.Rules.{never_faults}
+use Rattle.mbe_grammar.proofs.RuleLemmas.{never_faults}
 use Rattle.mbe_grammar.proofs.Parts.{takes_by_rule, takes_shorter, turns_on, turns_end}
-use Rattle.mbe_grammar.proofs.Fronts.{Begins, Apart, one_absent, puncts_absent, signs_apart, sign_is_no_word, sign_is_no_name, sign_is_no_group, either_of, either_apart, either_left, either_right, one_placed, then_placed, or_placed, absent_last}
+use Rattle.mbe_grammar.proofs.Fronts.{Begins, Apart, one_absent, puncts_absent, signs_apart, sign_is_no_word}
+use Rattle.mbe_grammar.proofs.Fronts.{sign_is_no_name, sign_is_no_group, either_of, either_apart, either_left}
+use Rattle.mbe_grammar.proofs.Fronts.{either_right, one_placed, then_placed, or_placed, absent_last}
 
 -- ---- indirections
 
@@ -24,10 +29,10 @@ use Rattle.mbe_grammar.proofs.Fronts.{Begins, Apart, one_absent, puncts_absent, 
 abbrev begins_indirection : Tree → Bool
 begins_indirection = either_of (is_punct 38) (is_punct 42)
 
-sign_placed : (char : ℕ) (r : Rules) (f g : Forest)
-    → (or_absent (after_one (is_punct char) f) >>= meaning takes r) ≡ Ok g → Begins (is_punct char) f
+sign_placed : (char : ℕ) (r : PegGrammar) (f g : Forest)
+    → (or_no_match (after_one (is_punct char) f) >>= meaning takes r) ≡ Ok g → Begins (is_punct char) f
 sign_placed char r f g e = one_placed (is_punct char) f _
-    (then_placed (or_absent (after_one (is_punct char) f)) (meaning takes r) g e).1
+    (then_placed (or_no_match (after_one (is_punct char) f)) (meaning takes r) g e).1
 
 indirection_begins : (f g : Forest) → takes Indirection f ≡ Ok g → Begins begins_indirection f
 indirection_begins f g e =
@@ -44,21 +49,21 @@ apart_from char a b = either_apart (is_punct 38) (is_punct 42) (is_punct char) (
 
 -- ---- what isn't there where an indirection is
 
-colons_absent : (f : Forest) → Begins begins_indirection f → takes Colons f ≡ Err Absent
+colons_absent : (f : Forest) → Begins begins_indirection f → takes Colons f ≡ Err NoMatch
 colons_absent f h =
     takes_by_rule Colons f
-    ∙ ap (λ x. or_absent x >>= meaning takes (needed (ahead (one is_name or part Angle))))
+    ∙ ap (λ x. or_no_match x >>= meaning takes (needed (ahead (one is_name or part Angle))))
     (puncts_absent begins_indirection 58 (58 ∷ []) (apart_from 58 refl refl) f h)
 
 segment_absent : (style : PathStyle) (f : Forest) → after_one is_name f ≡ None
-    → takes (Segment style) f ≡ Err Absent
+    → takes (Segment style) f ≡ Err NoMatch
 segment_absent Plain f e =
-    takes_by_rule (Segment Plain) f ∙ ap (λ x. or_absent x >>= meaning takes
+    takes_by_rule (Segment Plain) f ∙ ap (λ x. or_no_match x >>= meaning takes
     (maybe (maybe (puncts "::") then part Angle))) e
 segment_absent Expression f e = takes_by_rule (Segment Expression) f
-    ∙ ap (λ x. or_absent x >>= meaning takes (maybe (part Turbofish))) e
+    ∙ ap (λ x. or_no_match x >>= meaning takes (maybe (part Turbofish))) e
 
-path_absent : (style : PathStyle) (f : Forest) → Begins begins_indirection f → takes (Path style) f ≡ Err Absent
+path_absent : (style : PathStyle) (f : Forest) → Begins begins_indirection f → takes (Path style) f ≡ Err NoMatch
 path_absent style f h =
     let no_name : Apart begins_indirection is_name =
     either_apart (is_punct 38) (is_punct 42) is_name (sign_is_no_name 38) (sign_is_no_name 42) in
@@ -89,20 +94,20 @@ ty_on : (f g : Forest) → takes Indirection f ≡ Ok g → takes Ty f ≡ takes
 ty_on f g e =
     let h = indirection_begins f g e in
     let pointee : takes Pointee f ≡ takes Ty g = takes_by_rule Pointee f ∙ ap (λ s. s >>= takes Ty) e in
-    let after_word : Rules = puncts "!" or parenthesis_or_bracket or part Pointee or part (Path Plain) in
-    let after_never : Rules = parenthesis_or_bracket or part Pointee or part (Path Plain) in
+    let after_word : PegGrammar = puncts "!" or parenthesis_or_bracket or part Pointee or part (Path Plain) in
+    let after_never : PegGrammar = parenthesis_or_bracket or part Pointee or part (Path Plain) in
     takes_by_rule Ty f
-    ∙ (ap (λ x. or_else (or_absent x) (meaning takes after_word f)) (word_absent (codes "_" ∷ []) f h)
-    ∙ (ap (λ x. or_else (or_absent x) (meaning takes after_never f))
+    ∙ (ap (λ x. or_else (or_no_match x) (meaning takes after_word f)) (word_absent (codes "_" ∷ []) f h)
+    ∙ (ap (λ x. or_else (or_no_match x) (meaning takes after_never f))
     (puncts_absent begins_indirection 33 [] (apart_from 33 refl refl) f h)
-    ∙ (ap (λ x. or_else (or_absent x) (or_else (takes Pointee f) (takes (Path Plain) f)))
+    ∙ (ap (λ x. or_else (or_no_match x) (or_else (takes Pointee f) (takes (Path Plain) f)))
     (group_absent (Parenthesis ∷ Bracket ∷ []) f h)
     ∙ (absent_last (takes Pointee f) (takes (Path Plain) f) (path_absent Plain f h) ∙ pointee))))
 
 -- a type without an indirection
-ty_direct : (f : Forest) → takes Indirection f ≡ Err Absent → takes Ty f ≡ meaning takes direct_type f
+ty_direct : (f : Forest) → takes Indirection f ≡ Err NoMatch → takes Ty f ≡ meaning takes direct_type f
 ty_direct f e =
-    let pointee : takes Pointee f ≡ Err Absent = takes_by_rule Pointee f ∙ ap (λ s. s >>= takes Ty) e in
+    let pointee : takes Pointee f ≡ Err NoMatch = takes_by_rule Pointee f ∙ ap (λ s. s >>= takes Ty) e in
     let first = meaning takes (word "_") f in
     let second = meaning takes (puncts "!") f in
     let third = meaning takes parenthesis_or_bracket f in
@@ -122,14 +127,14 @@ indirection_calm : (f : Forest) → takes Indirection f ≡ Err Fault → ⊥
 indirection_calm f e = never_faults is_lifetime takes lifetime_calm (rule_of Indirection) refl f
     (sym (takes_by_rule Indirection f) ∙ e)
 
-ty_by : (f : Forest) (s : Step) → takes Indirection f ≡ s
+ty_by : (f : Forest) (s : ParseResult) → takes Indirection f ≡ s
     → ((g : Forest) → flat_len g < flat_len f
     → takes Ty g ≡ (in_turn (takes Indirection) g >>= meaning takes direct_type))
     → takes Ty f ≡ (in_turn (takes Indirection) f >>= meaning takes direct_type)
 ty_by f (Ok g) e h =
     ty_on f g e ∙ (h g (takes_shorter Indirection f g refl e)
     ∙ ap (λ s. s >>= meaning takes direct_type) (sym (turns_on Indirection f g refl e)))
-ty_by f (Err Absent) e h = ty_direct f e ∙ ap (λ s. s >>= meaning takes direct_type) (sym (turns_end Indirection f e))
+ty_by f (Err NoMatch) e h = ty_direct f e ∙ ap (λ s. s >>= meaning takes direct_type) (sym (turns_end Indirection f e))
 ty_by f (Err Fault) e h = absurd (indirection_calm f e)
 
 ty_within : (n : ℕ) (f : Forest) → flat_len f < n

@@ -6,5 +6,5 @@ pub mod RuleLaws
 pub mod SampleGrammar
 pub mod SingleTrees
 pub mod Tables
-pub mod Text
+pub mod Peg
 pub mod Rust

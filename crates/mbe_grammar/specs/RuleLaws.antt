@@ -1,92 +1,107 @@
--- What the rules of a grammar leave: no more than there was, and less where a rule takes something. These are laws and
--- no definitions. They
--- are here since the law of a trait is proved by what is in specs alone.
-use Rattle.std.specs.Prelude.{◌≡◌, ℕ, zero, suc, ◌+◌, ◌-◌, ◌*◌, ◌<◌, ◌≤◌, ◌==◌, Bool, true, false, not, ◌&&◌, ◌||◌, if◌then◌else◌, List, ◌∷◌, length, take, Option, Some, None, Ok, Err}
+-- How many flat tokens rules leave: at most as many as there were, and fewer if the rule consumes
+-- something. These are laws and no definitions. They are in specs because the law of a trait may
+-- use nothing else.
+use Rattle.std.specs.Prelude.{◌≡◌, ℕ, zero, suc, ◌+◌, ◌-◌, ◌*◌, ◌<◌, ◌≤◌, ◌==◌, Bool, true, false}
+use Rattle.std.specs.Prelude.{not, ◌&&◌, ◌||◌, if◌then◌else◌, List, ◌∷◌, length, take, Option, Some}
+use Rattle.std.specs.Prelude.{None, Ok, Err}
 use Rattle.std.specs.List.{list_any}
 use Rattle.std.specs.Str.{bytes_eq}
 use Rattle.std.proofs.Common.{arith}
-use Rattle.mbe_tt.specs.Trees.Tree.{Forest, none, leaf, group, Tree, Leaf_tree, Group_tree, flat_len, skip}
+use Rattle.mbe_tt.specs.Trees.Tree.{Forest, none, leaf, group, Tree, Leaf_tree, Group_tree}
+use Rattle.mbe_tt.specs.Trees.Tree.{flat_len, skip}
 use Rattle.mbe_tt.specs.Trees.Leaf.{Leaf, punct, literal, ident}
 use Rattle.mbe_tt.specs.Trees.Glue.{glue, chars_of, if_joint, joined}
 use Rattle.mbe_tt.specs.declared.tt.Punct.{Punct}
-use Rattle.mbe_grammar.specs.declared.tables.step.Miss.TheVariants.{Absent, Fault}
-use Rattle.mbe_grammar.specs.Rule.{Rule, one, puncts_of, through, to_closing_angle, part, ◌then◌, ◌or◌, maybe, repeated, needed, ahead, not_ahead, or_fault, in_turn, past_first, after_angle, begins_arrow, meaning, taken_within, taken}
-use Rattle.mbe_grammar.specs.Tables.Terminals.{Step, or_absent, after_one, after_operator}
-use Rattle.mbe_grammar.specs.Tables.Rule.{◌>>=◌, or_else, has_to_fit, if_fits, if_absent, once_more, times}
+use Rattle.mbe_grammar.specs.declared.tables.parse_result.ParseFailure.TheVariants.{NoMatch, Fault}
+use Rattle.mbe_grammar.specs.Rule.{Rule, one, puncts_of, through, to_closing_angle, part, ◌then◌}
+use Rattle.mbe_grammar.specs.Rule.{◌or◌, maybe, repeated, needed, ahead, not_ahead, or_fault}
+use Rattle.mbe_grammar.specs.Rule.{in_turn, past_first, after_angle, begins_arrow, meaning}
+use Rattle.mbe_grammar.specs.Rule.{taken_within, taken}
+use Rattle.mbe_grammar.specs.Tables.Terminals.{ParseResult, or_no_match, after_one, after_operator}
+use Rattle.mbe_grammar.specs.Tables.Rule.{◌>>=◌, or_else, require_match, if_match, unless_match}
+use Rattle.mbe_grammar.specs.Tables.Rule.{once_more, times}
 use Rattle.mbe_grammar.specs.Tables.SingleTrees.{is_char}
 
 -- ---- what is left
 
--- how many fewer
+-- the difference as a number
 abbrev pub count : Bool → ℕ
 count true = 1
 count false = 0
 
--- fewer flat tokens are left than there were, or no more
-abbrev pub Leaves : Bool → Forest → Step → Type 0
+-- fewer flat tokens are left than there were, or at most as many
+abbrev pub Leaves : Bool → Forest → ParseResult → Type 0
 Leaves fewer f (Ok g) = count fewer + flat_len g ≤ flat_len f
 Leaves fewer f (Err miss) = Unit {0}
 
-pub leaves_weaker : (b : Bool) (f : Forest) (s : Step) → Leaves b f s → Leaves false f s
+pub leaves_weaker : (b : Bool) (f : Forest) (s : ParseResult) → Leaves b f s → Leaves false f s
 leaves_weaker true f (Ok g) h = omega arith
 leaves_weaker false f (Ok g) h = h
 leaves_weaker b f (Err miss) h = tt
 
-leaves_on : (b : Bool) (f g : Forest) (s : Step) → flat_len g ≤ flat_len f → Leaves b g s → Leaves b f s
+leaves_on : (b : Bool) (f g : Forest) (s : ParseResult) → flat_len g ≤ flat_len f → Leaves b g s
+    → Leaves b f s
 leaves_on b f g (Ok h) le l = omega arith
 leaves_on b f g (Err miss) le l = tt
 
-leaves_past : (b : Bool) (f g : Forest) (s : Step) → suc (flat_len g) ≤ flat_len f → Leaves b g s → Leaves true f s
+leaves_past : (b : Bool) (f g : Forest) (s : ParseResult) → suc (flat_len g) ≤ flat_len f
+    → Leaves b g s → Leaves true f s
 leaves_past true f g (Ok h) le l = omega arith
 leaves_past false f g (Ok h) le l = omega arith
 leaves_past b f g (Err miss) le l = tt
 
-then_leaves : (a b : Bool) (f : Forest) (s : Step) (next : Forest → Step) → Leaves a f s
+then_leaves : (a b : Bool) (f : Forest) (s : ParseResult) (next : Forest → ParseResult)
+    → Leaves a f s
     → ((g : Forest) → Leaves b g (next g)) → Leaves (a || b) f (s >>= next)
 then_leaves true b f (Ok g) next h k = leaves_past b f g (next g) (omega arith) (k g)
 then_leaves false b f (Ok g) next h k = leaves_on b f g (next g) (omega arith) (k g)
 then_leaves a b f (Err miss) next h k = tt
 
-or_leaves : (a b : Bool) (f : Forest) (s t : Step) → Leaves a f s → Leaves b f t → Leaves (a && b) f (or_else s t)
+or_leaves : (a b : Bool) (f : Forest) (s t : ParseResult) → Leaves a f s → Leaves b f t
+    → Leaves (a && b) f (or_else s t)
 or_leaves true true f (Ok g) t h k = h
 or_leaves true false f (Ok g) t h k = omega arith
 or_leaves false b f (Ok g) t h k = h
-or_leaves true b f (Err Absent) t h k = k
-or_leaves false b f (Err Absent) t h k = leaves_weaker b f t k
+or_leaves true b f (Err NoMatch) t h k = k
+or_leaves false b f (Err NoMatch) t h k = leaves_weaker b f t k
 or_leaves a b f (Err Fault) t h k = tt
 
-maybe_leaves : (a : Bool) (f : Forest) (s : Step) → Leaves a f s → Leaves false f (or_else s (Ok f))
+maybe_leaves : (a : Bool) (f : Forest) (s : ParseResult) → Leaves a f s
+    → Leaves false f (or_else s (Ok f))
 maybe_leaves a f (Ok g) h = leaves_weaker a f (Ok g) h
-maybe_leaves a f (Err Absent) h = omega arith
+maybe_leaves a f (Err NoMatch) h = omega arith
 maybe_leaves a f (Err Fault) h = tt
 
-needed_leaves : (a : Bool) (f : Forest) (s : Step) → Leaves a f s → Leaves a f (has_to_fit s)
+needed_leaves : (a : Bool) (f : Forest) (s : ParseResult) → Leaves a f s
+    → Leaves a f (require_match s)
 needed_leaves a f (Ok g) h = h
-needed_leaves a f (Err Absent) h = tt
+needed_leaves a f (Err NoMatch) h = tt
 needed_leaves a f (Err Fault) h = tt
 
-ahead_leaves : (f : Forest) (s : Step) → Leaves false f (if_fits s f)
+ahead_leaves : (f : Forest) (s : ParseResult) → Leaves false f (if_match s f)
 ahead_leaves f (Ok g) = omega arith
 ahead_leaves f (Err miss) = tt
 
-not_ahead_leaves : (f : Forest) (s : Step) → Leaves false f (if_absent s f)
+not_ahead_leaves : (f : Forest) (s : ParseResult) → Leaves false f (unless_match s f)
 not_ahead_leaves f (Ok g) = tt
-not_ahead_leaves f (Err Absent) = omega arith
+not_ahead_leaves f (Err NoMatch) = omega arith
 not_ahead_leaves f (Err Fault) = tt
 
-once_more_leaves : (f : Forest) (s : Step) (more : Forest → Step) → Leaves false f s
+once_more_leaves : (f : Forest) (s : ParseResult) (more : Forest → ParseResult) → Leaves false f s
     → ((g : Forest) → Leaves false g (more g)) → Leaves false f (once_more s more f)
 once_more_leaves f (Ok g) more h k = leaves_on false f g (more g) (omega arith) (k g)
-once_more_leaves f (Err Absent) more h k = omega arith
+once_more_leaves f (Err NoMatch) more h k = omega arith
 once_more_leaves f (Err Fault) more h k = tt
 
-times_leaves : (n : ℕ) (r : Forest → Step) → ((g : Forest) → Leaves false g (r g)) → (f : Forest)
+times_leaves : (n : ℕ) (r : Forest → ParseResult) → ((g : Forest) → Leaves false g (r g))
+    → (f : Forest)
     → Leaves false f (times n r f)
 unfolding times
 times_leaves zero r k f = omega arith
 times_leaves (suc n) r k f = once_more_leaves f (r f) (times n r) (k f) (times_leaves n r k)
 
-pub in_turn_leaves : (r : Forest → Step) → ((g : Forest) → Leaves false g (r g)) → (f : Forest)
+pub in_turn_leaves : (r : Forest → ParseResult) → ((g : Forest) → Leaves false g (r g))
+    → (f : Forest)
     → Leaves false f (in_turn r f)
 unfolding in_turn
 in_turn_leaves r k f = times_leaves (suc (flat_len f)) r k f
@@ -94,16 +109,18 @@ in_turn_leaves r k f = times_leaves (suc (flat_len f)) r k f
 -- ---- what single trees and puncts leave
 
 if_leaves : (b : Bool) (f g : Forest) → suc (flat_len g) ≤ flat_len f
-    → Leaves true f (or_absent (if b then Some g else None))
+    → Leaves true f (or_no_match (if b then Some g else None))
 if_leaves true f g h = omega arith
 if_leaves false f g h = tt
 
-one_leaves : (p : Tree → Bool) (f : Forest) → Leaves true f (or_absent (after_one p f))
+one_leaves : (p : Tree → Bool) (f : Forest) → Leaves true f (or_no_match (after_one p f))
 one_leaves p none = tt
 one_leaves p (leaf l rest) = if_leaves (p (Leaf_tree l)) (leaf l rest) rest (omega arith)
-one_leaves p (group d inside rest) = if_leaves (p (Group_tree d inside)) (group d inside rest) rest (omega arith)
+one_leaves p (group d inside rest) =
+    if_leaves (p (Group_tree d inside)) (group d inside rest) rest (omega arith)
 
-first_or_more : (b : Bool) (f rest : Forest) (more : Option Forest) → suc (flat_len rest) ≤ flat_len f
+first_or_more : (b : Bool) (f rest : Forest) (more : Option Forest)
+    → suc (flat_len rest) ≤ flat_len f
     → Leaves true rest (or_fault more) → Leaves true f (or_fault (if b then Some rest else more))
 first_or_more true f rest more h k = omega arith
 first_or_more false f rest (Some g) h k = omega arith
@@ -114,7 +131,8 @@ through_leaves p none = tt
 through_leaves p (leaf l rest) = first_or_more (p (Leaf_tree l)) (leaf l rest) rest _ (omega arith)
     (through_leaves p rest)
 through_leaves p (group d inside rest) =
-    first_or_more (p (Group_tree d inside)) (group d inside rest) rest _ (omega arith) (through_leaves p rest)
+    first_or_more (p (Group_tree d inside)) (group d inside rest) rest _ (omega arith)
+    (through_leaves p rest)
 
 three_leave : (a b c : Bool) (f : Forest) (x y z w : Option Forest) → Leaves true f (or_fault x)
     → Leaves true f (or_fault y)
@@ -130,16 +148,20 @@ after_leaves : (f rest : Forest) (x : Option Forest) → suc (flat_len rest) ≤
 after_leaves f rest (Some g) h k = omega arith
 after_leaves f rest None h k = tt
 
-angle_leaves : (more : ℕ) (arrow : Bool) (f : Forest) → Leaves true f (or_fault (after_angle more arrow f))
+angle_leaves : (more : ℕ) (arrow : Bool) (f : Forest)
+    → Leaves true f (or_fault (after_angle more arrow f))
 angle_leaves more arrow none = tt
 angle_leaves more arrow (group d inside rest) =
-    after_leaves (group d inside rest) rest (after_angle more false rest) (omega arith) (angle_leaves more false rest)
+    after_leaves (group d inside rest) rest (after_angle more false rest) (omega arith)
+    (angle_leaves more false rest)
 angle_leaves more arrow (leaf l rest) =
-    let next = λ (m : ℕ) (a : Bool). after_leaves (leaf l rest) rest (after_angle m a rest) (omega arith)
+    let next =
+    λ (m : ℕ) (a : Bool). after_leaves (leaf l rest) rest (after_angle m a rest) (omega arith)
     (angle_leaves m a rest) in
     three_leave (is_char 60 l) (is_char 62 l && not arrow) (more == 0) (leaf l rest) _ (Some rest)
     (after_angle (more - 1) (begins_arrow l) rest) _
-    (next (more + 1) (begins_arrow l)) (omega arith) (next (more - 1) (begins_arrow l)) (next more (begins_arrow l))
+    (next (more + 1) (begins_arrow l)) (omega arith) (next (more - 1) (begins_arrow l))
+    (next more (begins_arrow l))
 
 skip_shorter : (n : ℕ) (f : Forest) → flat_len (skip n f) ≤ flat_len f
 skip_shorter zero f = omega arith
@@ -153,25 +175,28 @@ longest_some true c p ps = omega arith
 longest_some false true p ps = omega arith
 longest_some false false p ps = omega arith
 
-skip_some : (n : ℕ) (l : Leaf) (rest : Forest) → 0 < n → suc (flat_len (skip n (leaf l rest))) ≤ flat_len (leaf l rest)
+skip_some : (n : ℕ) (l : Leaf) (rest : Forest) → 0 < n
+    → suc (flat_len (skip n (leaf l rest))) ≤ flat_len (leaf l rest)
 skip_some zero l rest h = absurd (omega arith)
 skip_some (suc n) l rest h = omega (arith, skip_shorter n rest)
 
 glue_some : (p : Punct) (rest : Forest) → 0 < length (glue (leaf (punct p) rest))
 glue_some p rest = longest_some _ _ p (if_joint p.spacing (joined 2 rest))
 
-puncts_leaves : (texts : List (List ℕ)) (f : Forest) → Leaves true f (or_absent (after_operator texts f))
+puncts_leaves : (texts : List (List ℕ)) (f : Forest)
+    → Leaves true f (or_no_match (after_operator texts f))
 puncts_leaves texts none = tt
 puncts_leaves texts (group d inside rest) = tt
 puncts_leaves texts (leaf (literal x) rest) = tt
 puncts_leaves texts (leaf (ident x) rest) = tt
 puncts_leaves texts (leaf (punct p) rest) =
-    if_leaves (list_any (bytes_eq (chars_of (glue (leaf (punct p) rest)))) texts) (leaf (punct p) rest) _
+    if_leaves (list_any (bytes_eq (chars_of (glue (leaf (punct p) rest)))) texts)
+    (leaf (punct p) rest) _
     (skip_some _ (punct p) rest (glue_some p rest))
 
 -- ---- what rules leave
 
--- whether a rule takes something where it fits, if those parts do
+-- whether a rule consumes something if it matches, by which nonterminals do
 abbrev pub is_solid : {P : Type 0} → (P → Bool) → Rule P → Bool
 is_solid solid (one p) = true
 is_solid solid (puncts_of texts) = true
@@ -186,7 +211,7 @@ is_solid solid (needed r) = is_solid solid r
 is_solid solid (ahead r) = false
 is_solid solid (not_ahead r) = false
 
-pub meaning_leaves : {P : Type 0} (solid : P → Bool) (parts : P → Forest → Step)
+pub meaning_leaves : {P : Type 0} (solid : P → Bool) (parts : P → Forest → ParseResult)
     → ((x : P) (f : Forest) → Leaves (solid x) f (parts x f))
     → (r : Rule P) (f : Forest) → Leaves (is_solid solid r) f (meaning parts r f)
 meaning_leaves solid parts h (one p) f = one_leaves p f
@@ -210,7 +235,7 @@ meaning_leaves solid parts h (needed r) f =
 meaning_leaves solid parts h (ahead r) f = ahead_leaves f (meaning parts r f)
 meaning_leaves solid parts h (not_ahead r) f = not_ahead_leaves f (meaning parts r f)
 
--- whether those parts are the ones that take something where they fit
+-- whether these nonterminals are the ones that consume something if they match
 abbrev pub Solid : {P : Type 0} → (P → Rule P) → (P → Bool) → Type 0
 Solid {P = P} rules solid = (x : P) → is_solid solid (rules x) ≡ solid x
 
@@ -220,9 +245,11 @@ pub within_leaves : {P : Type 0} (rules : P → Rule P) (solid : P → Bool) →
 unfolding taken_within
 within_leaves rules solid h zero x f = tt
 within_leaves rules solid h (suc n) x f =
-    rw (← h x) (meaning_leaves solid (taken_within rules n) (within_leaves rules solid h n) (rules x) f)
+    rw (← h x) (meaning_leaves solid (taken_within rules n) (within_leaves rules solid h n)
+    (rules x) f)
 
-pub taken_leaves : {P : Type 0} (rules : P → Rule P) (solid : P → Bool) → Solid rules solid → (x : P) (f : Forest)
+pub taken_leaves : {P : Type 0} (rules : P → Rule P) (solid : P → Bool) → Solid rules solid
+    → (x : P) (f : Forest)
     → Leaves (solid x) f (taken rules x f)
 unfolding taken
 taken_leaves rules solid h x f = within_leaves rules solid h (suc (20 * flat_len f + 20)) x f

@@ -1,4 +1,5 @@
--- What is said of Rust's own table: its keywords, where its fragments begin, and that its nodes are all there.
+-- What is specified of Rust's table: its keywords, the rules of its entry points, and that each
+-- rule that is named exists.
 pub mod Closed
 pub mod Keywords
 pub mod Starts

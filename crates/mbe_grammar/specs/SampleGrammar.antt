@@ -1,27 +1,29 @@
--- The grammar that the program hands in. It is the project's own: a part of Rust's. Branches, loops, closures, struct
--- literals, ranges and
--- casts aren't in it.
+-- The sample grammar, which the program `mbex` uses. It is the project's own choice: a part of
+-- Rust's grammar, without branches, loops, closures, struct literals, ranges and casts.
 use Prim.Native.Char.{Char, code}
 use Prim.Native.String.{String}
 use Rattle.std.specs.Prelude.{ℕ, Bool, true, false, ◌||◌, ◌&&◌, List, [], ◌∷◌, map, codes, Ok, Err}
 use Rattle.std.specs.List.{list_any}
 use Rattle.std.specs.Str.{bytes_eq}
-use Rattle.mbe_tt.specs.Fragments.Grammar.{Grammar}
+use Rattle.mbe_tt.specs.Grammars.Grammar.{Grammar}
 use Rattle.mbe_tt.specs.Trees.Tree.{Forest, Tree, passed}
 use Rattle.mbe_tt.specs.declared.tt.DelimiterKind.{DelimiterKind}
-use Rattle.mbe_tt.specs.declared.tt.DelimiterKind.TheVariants.{Parenthesis, Brace, Bracket, Invisible}
+use Rattle.mbe_tt.specs.declared.tt.DelimiterKind.TheVariants.{Parenthesis, Brace, Bracket}
+use Rattle.mbe_tt.specs.declared.tt.DelimiterKind.TheVariants.{Invisible}
 use Rattle.mbe_tt.specs.declared.grammar.Front.{Front}
 use Rattle.mbe_tt.specs.declared.grammar.PrefixEntryPoint.{PrefixEntryPoint}
 use Rattle.mbe_tt.specs.declared.grammar.PrefixEntryPoint.TheVariants as entries
-use Rattle.mbe_grammar.specs.declared.types.PathStyle.{PathStyle}
-use Rattle.mbe_grammar.specs.declared.types.PathStyle.TheVariants.{Plain, Expression}
+use Rattle.mbe_grammar.specs.declared.sample_types.PathStyle.{PathStyle}
+use Rattle.mbe_grammar.specs.declared.sample_types.PathStyle.TheVariants.{Plain, Expression}
 use Rattle.mbe_grammar.specs.Tables.FlatTrees.{trees_of_flat}
-use Rattle.mbe_grammar.specs.Rule.{Rule, one, puncts_of, through, to_closing_angle, part, ◌then◌, ◌or◌, maybe, repeated, needed, ahead, not_ahead, taken}
-use Rattle.mbe_grammar.specs.Tables.Terminals.{Step}
-use Rattle.mbe_grammar.specs.SingleTrees.{is_name, is_no_punct, is_scope}
-use Rattle.mbe_grammar.specs.Tables.SingleTrees.{is_one_of, is_identifier, is_literal, is_punct, is_group}
+use Rattle.mbe_grammar.specs.Rule.{Rule, one, puncts_of, through, to_closing_angle, part, ◌then◌}
+use Rattle.mbe_grammar.specs.Rule.{◌or◌, maybe, repeated, needed, ahead, not_ahead, taken}
+use Rattle.mbe_grammar.specs.Tables.Terminals.{ParseResult}
+use Rattle.mbe_grammar.specs.SingleTrees.{is_name, is_not_punct, is_scope}
+use Rattle.mbe_grammar.specs.Tables.SingleTrees.{is_one_of, is_identifier, is_literal, is_punct}
+use Rattle.mbe_grammar.specs.Tables.SingleTrees.{is_group}
 
--- the parts of the grammar
+-- the nonterminals of the grammar
 pub data Nonterminal : Type 0 where
   Lifetime : Nonterminal
   Angle : Nonterminal
@@ -64,45 +66,46 @@ pub data Nonterminal : Type 0 where
   Item : Nonterminal
   Vis : Nonterminal
 
--- ---- what rules are made of
+-- ---- building blocks of rules
 
-abbrev pub Rules : Type 0
-Rules = Rule Nonterminal
+abbrev pub PegGrammar : Type 0
+PegGrammar = Rule Nonterminal
 
--- an identifier that isn't raw, of that text or of one of those texts
-abbrev pub words : List String → Rules
+-- an identifier with that text, or one of those texts, that isn't raw
+abbrev pub words : List String → PegGrammar
 words texts = one (is_one_of (map codes texts))
 
-abbrev pub word : String → Rules
+abbrev pub word : String → PegGrammar
 word text = words (text ∷ [])
 
--- puncts that are taken together
-abbrev pub puncts : String → Rules
+-- an operator with this text
+abbrev pub puncts : String → PegGrammar
 puncts text = puncts_of (codes text ∷ [])
 
--- one punct, whatever is taken together with it
-abbrev pub sign : Char → Rules
+-- one punct, even if it is the first of an operator
+abbrev pub sign : Char → PegGrammar
 sign c = one (is_punct (code c))
 
 -- a group of one of those kinds
-abbrev pub group_of : List DelimiterKind → Rules
+abbrev pub group_of : List DelimiterKind → PegGrammar
 group_of kinds = one (is_group kinds)
 
-abbrev pub brace : Rules
+abbrev pub brace : PegGrammar
 brace = group_of (Brace ∷ [])
 
-abbrev pub parenthesis_or_bracket : Rules
+abbrev pub parenthesis_or_bracket : PegGrammar
 parenthesis_or_bracket = group_of (Parenthesis ∷ Bracket ∷ [])
 
-abbrev pub visible_group : Rules
+abbrev pub visible_group : PegGrammar
 visible_group = group_of (Parenthesis ∷ Brace ∷ Bracket ∷ [])
 
-abbrev pub any_group : Rules
+abbrev pub any_group : PegGrammar
 any_group = group_of (Parenthesis ∷ Brace ∷ Bracket ∷ Invisible ∷ [])
 
 abbrev pub operators : List String
 operators =
-    "+" ∷ "-" ∷ "*" ∷ "/" ∷ "%" ∷ "^" ∷ "&" ∷ "|" ∷ "&&" ∷ "||" ∷ "==" ∷ "!=" ∷ "<" ∷ ">" ∷ "<=" ∷ ">=" ∷ "<<" ∷ ">>"
+    "+" ∷ "-" ∷ "*" ∷ "/" ∷ "%" ∷ "^" ∷ "&" ∷ "|" ∷ "&&" ∷ "||" ∷ "==" ∷ "!=" ∷ "<" ∷ ">" ∷ "<="
+    ∷ ">=" ∷ "<<" ∷ ">>"
     ∷ "=" ∷ "+=" ∷ "-=" ∷ "*=" ∷ "/=" ∷ "%=" ∷ "^=" ∷ "&=" ∷ "|=" ∷ "<<=" ∷ ">>=" ∷ []
 
 -- items that end with a `;`, and items that end with a `;` or a brace group
@@ -115,52 +118,52 @@ long_items = "fn" ∷ "struct" ∷ "enum" ∷ "trait" ∷ "impl" ∷ "mod" ∷ "
 abbrev pub is_item_end : Bool → Tree → Bool
 is_item_end at_brace t = is_punct 59 t || (at_brace && is_group (Brace ∷ []) t)
 
-abbrev pub short_item : Rules
+abbrev pub short_item : PegGrammar
 short_item = words short_items then through (is_item_end false)
 
-abbrev pub long_item : Rules
+abbrev pub long_item : PegGrammar
 long_item = words long_items then through (is_item_end true)
 
--- a word that an item begins with
-abbrev pub item_word : Rules
+-- the first word of an item
+abbrev pub item_word : PegGrammar
 item_word = word "pub" or words short_items or words long_items
 
 -- `pub`, and its scope
-abbrev pub public : Rules
+abbrev pub public : PegGrammar
 public = word "pub" then maybe (one is_scope)
 
 -- `const` and a block
-abbrev pub const_block : Rules
+abbrev pub const_block : PegGrammar
 const_block = word "const" then brace
 
--- what an expression may begin with
-abbrev pub expr_start : Rules
-expr_start = one is_no_punct or puncts "::" or puncts "-" or puncts "!" or sign "*" or sign "&"
+-- the front of anything that may begin an expression
+abbrev pub expr_start : PegGrammar
+expr_start = one is_not_punct or puncts "::" or puncts "-" or puncts "!" or sign "*" or sign "&"
 
 -- `& [LIFETIME] [mut]`
-abbrev pub reference_sign : Rules
+abbrev pub reference_sign : PegGrammar
 reference_sign = sign "&" then maybe (part Lifetime) then maybe (word "mut")
 
 -- `* const` or `* mut`
-abbrev pub pointer_sign : Rules
+abbrev pub pointer_sign : PegGrammar
 pointer_sign = sign "*" then words ("const" ∷ "mut" ∷ [])
 
 -- `& [mut]`
-abbrev pub mut_reference : Rules
+abbrev pub mut_reference : PegGrammar
 mut_reference = sign "&" then maybe (word "mut")
 
 -- the argument of a macro
-abbrev pub macro_argument : Rules
+abbrev pub macro_argument : PegGrammar
 macro_argument = puncts "!" then visible_group
 
--- a method's name, and an angle after it
-abbrev pub method : Rules
+-- a method's name, and generic arguments after it
+abbrev pub method : PegGrammar
 method = one is_name then maybe (part Turbofish)
 
 -- ---- the grammar
 
--- what each part is
-abbrev pub rule_of : Nonterminal → Rules
+-- the rule of each nonterminal
+abbrev pub rule_of : Nonterminal → PegGrammar
 -- paths
 rule_of Lifetime = puncts "'" then one is_identifier
 rule_of Angle = sign "<" then to_closing_angle
@@ -169,7 +172,8 @@ rule_of Colons = puncts "::" then needed (ahead (one is_name or part Angle))
 rule_of (Segment Plain) = one is_name then maybe (maybe (puncts "::") then part Angle)
 rule_of (Segment Expression) = one is_name then maybe (part Turbofish)
 rule_of (NextSegment style) = part Colons then part (Segment style)
-rule_of (Path style) = maybe (part Colons) then part (Segment style) then repeated (part (NextSegment style))
+rule_of (Path style) =
+    maybe (part Colons) then part (Segment style) then repeated (part (NextSegment style))
 -- types
 rule_of Indirection = reference_sign or pointer_sign
 rule_of Pointee = part Indirection then part Ty
@@ -183,7 +187,8 @@ rule_of SignedLiteral = maybe (puncts "-") then one is_literal
 rule_of BindingMode = mut_reference or words ("ref" ∷ "mut" ∷ [])
 rule_of BoundPat = part BindingMode then part Pat
 rule_of PathPat = part (Path Plain) then maybe (group_of (Parenthesis ∷ Brace ∷ []))
-rule_of Pat = word "_" or part SignedLiteral or part BoundPat or parenthesis_or_bracket or part PathPat
+rule_of Pat =
+    word "_" or part SignedLiteral or part BoundPat or parenthesis_or_bracket or part PathPat
 rule_of Alternative = puncts "|" then needed (part Pat)
 rule_of PatTop = (part Alternative or part Pat) then repeated (part Alternative)
 -- expressions
@@ -200,7 +205,8 @@ rule_of Jump = part JumpWord then maybe (part JumpValue)
 rule_of PathExpr = part (Path Expression) then maybe macro_argument
 rule_of Primary =
     not_ahead (word "let")
-    then (words ("_" ∷ "true" ∷ "false" ∷ []) or one is_literal or part KeywordBlock or part Jump or any_group or part
+    then (words ("_" ∷ "true" ∷ "false"
+    ∷ []) or one is_literal or part KeywordBlock or part Jump or any_group or part
     PathExpr)
 rule_of Field = puncts "." then (one is_literal or method)
 rule_of Post = puncts "?" or part Field or parenthesis_or_bracket
@@ -212,13 +218,13 @@ rule_of Stmt = part Let or part ItemStmt or part Expr
 rule_of Item = part Vis then (short_item or long_item)
 rule_of Vis = maybe public
 
--- what a part takes
-unfoldable pub takes : Nonterminal → Forest → Step
+-- what a nonterminal consumes
+unfoldable pub takes : Nonterminal → Forest → ParseResult
 takes x f = taken rule_of x f
 
--- ---- what it returns
+-- ---- the results of the grammar
 
--- the part that an entry point asks for
+-- the nonterminal of an entry point
 abbrev pub part_of : PrefixEntryPoint → Nonterminal
 part_of entries.Path = Path Plain
 part_of entries.Expr = Expr
@@ -231,28 +237,36 @@ part_of entries.MetaItem = Meta
 part_of entries.Item = Item
 part_of entries.Vis = Vis
 
--- how many flat tokens of the trees are taken; none with a fault
-abbrev pub front_of : Forest → Step → Front
+-- how many flat tokens are consumed; none with a fault
+abbrev pub front_of : Forest → ParseResult → Front
 front_of f (Ok rest) = record { count = passed f rest; fault = false }
 front_of f (Err miss) = record { count = 0; fault = true }
 
 abbrev pub answer : PrefixEntryPoint → Forest → Front
 answer entry f = front_of f (takes (part_of entry) f)
 
--- the words that an identifier is raw for
+-- identifiers with these texts are written with `r#`
 abbrev pub keywords : List String
 keywords =
-    "abstract" ∷ "as" ∷ "async" ∷ "await" ∷ "become" ∷ "box" ∷ "break" ∷ "const" ∷ "continue" ∷ "crate" ∷ "do" ∷ "dyn"
+    "abstract" ∷ "as" ∷ "async" ∷ "await" ∷ "become" ∷ "box" ∷ "break" ∷ "const" ∷ "continue"
+    ∷ "crate" ∷ "do" ∷ "dyn"
     ∷ "else" ∷ "enum"
-    ∷ "extern" ∷ "false" ∷ "final" ∷ "fn" ∷ "for" ∷ "gen" ∷ "if" ∷ "impl" ∷ "in" ∷ "let" ∷ "loop" ∷ "macro" ∷ "match"
+    ∷ "extern" ∷ "false" ∷ "final" ∷ "fn" ∷ "for" ∷ "gen" ∷ "if" ∷ "impl" ∷ "in" ∷ "let" ∷ "loop"
+    ∷ "macro" ∷ "match"
     ∷ "mod" ∷ "move"
-    ∷ "mut" ∷ "override" ∷ "priv" ∷ "pub" ∷ "ref" ∷ "return" ∷ "self" ∷ "Self" ∷ "static" ∷ "struct" ∷ "super" ∷ "trait"
+    ∷ "mut" ∷ "override" ∷ "priv" ∷ "pub" ∷ "ref" ∷ "return" ∷ "self" ∷ "Self" ∷ "static" ∷ "struct"
+    ∷ "super" ∷ "trait"
     ∷ "true"
-    ∷ "try" ∷ "type" ∷ "typeof" ∷ "unsafe" ∷ "unsized" ∷ "use" ∷ "virtual" ∷ "where" ∷ "while" ∷ "yield" ∷ []
+    ∷ "try" ∷ "type" ∷ "typeof" ∷ "unsafe" ∷ "unsized" ∷ "use" ∷ "virtual" ∷ "where" ∷ "while"
+    ∷ "yield" ∷ []
 
 abbrev pub is_keyword : List ℕ → Bool
 is_keyword text = list_any (bytes_eq text) (map codes keywords)
 
--- the grammar, as what it returns on flat tokens
+-- the grammar as a function of flat tokens
 abbrev pub sample : Grammar
-sample = record { parse = λ entry tokens. answer entry (trees_of_flat tokens); is_keyword = is_keyword }
+sample = record {
+  parse = λ entry tokens. answer entry (trees_of_flat tokens);
+  is_keyword =
+      is_keyword;
+}

@@ -14,11 +14,11 @@ is_name (Leaf_tree (literal x)) = false
 is_name (Group_tree d inside) = false
 
 -- an identifier, a literal or a group
-abbrev pub is_no_punct : Tree → Bool
-is_no_punct (Leaf_tree (ident i)) = true
-is_no_punct (Leaf_tree (punct p)) = false
-is_no_punct (Leaf_tree (literal x)) = true
-is_no_punct (Group_tree d inside) = true
+abbrev pub is_not_punct : Tree → Bool
+is_not_punct (Leaf_tree (ident i)) = true
+is_not_punct (Leaf_tree (punct p)) = false
+is_not_punct (Leaf_tree (literal x)) = true
+is_not_punct (Group_tree d inside) = true
 
 -- the scope of a `pub`: a group in parentheses that begins with `crate`, `self`, `super` or `in`
 abbrev pub is_scope : Tree → Bool

@@ -1,54 +1,57 @@
-// Grammars of fragments. Here is a sample: paths, types, patterns, expressions, statements, items and visibilities, near to Rust's. It is
-// what the program `mbex` hands in, and a model for a caller's own. Beside it are grammars as tables, tables that are read from texts,
-// and Rust's whole grammar as a table.
+// Grammars of fragments: each one tells how many tokens at the front of trees are an expression, a
+// type, an item and so on. `SampleGrammar` is a small grammar written as code, close to Rust's: the
+// program `mbex` uses it, and callers can take it as a model. `tables` has grammars as data: a
+// table of rules and one parser for all tables. `text` reads such a table from a text, and `rust`
+// is Rust's whole grammar as a table.
 #![tactic(auto)]
 
 ghost use Rattle.std.specs.Prelude.{◌≡◌};
 ghost use Rattle.mbe_tt.specs.Views.View.{trees};
 ghost use Rattle.mbe_grammar.specs.SampleGrammar.{takes, part_of, answer};
-ghost use Rattle.mbe_grammar.specs.Tables.Steps.{seen};
+ghost use Rattle.mbe_grammar.specs.Tables.ParseResult.{result_model};
 
-// The step of the first part that is there.
+// The result of the first of these parsers that doesn't return `NoMatch`.
 macro_rules! first_of {
     ($step:expr) => { $step };
     ($step:expr, $($more:expr),+) => {
         match $step {
-            Err(crate::tables::step::Miss::Absent) => first_of!($($more),+),
+            Err(crate::tables::parse_result::ParseFailure::NoMatch) => first_of!($($more),+),
             taken => taken,
         }
     };
 }
 
-mod expressions;
-mod items;
-mod patterns;
+pub mod peg;
 pub mod rust;
+mod sample_expressions;
+mod sample_items;
+mod sample_patterns;
+mod sample_tokens;
+mod sample_types;
 pub mod tables;
-pub mod text;
-mod tokens;
-mod types;
 
-use crate::expressions::expr;
-use crate::items::{block, item, meta, stmt, vis};
-use crate::patterns::{pat, pat_top};
-use crate::tables::step::Step;
+use crate::sample_expressions::expr;
+use crate::sample_items::{block, item, meta, stmt, vis};
+use crate::sample_patterns::{pat, pat_top};
+use crate::sample_types::{PathStyle, path, ty};
+use crate::tables::parse_result::ParseResult;
 use crate::tables::terminals::is_text_of;
-use crate::types::{PathStyle, path, ty};
 use mbe_tt::grammar::{FragmentGrammar, Front, PrefixEntryPoint};
 use mbe_tt::tt::TokenTreesView;
 use std::alloc::{AllocError, Allocator};
 
-/// A part of Rust's grammar, which takes whole trees from the front, as many as each rule of `specs/SampleGrammar` allows.
-/// Branches, loops, closures, struct literals, ranges and casts are left out. The choice of what is in it is the project's own.
+/// A part of Rust's grammar, written as code. It consumes whole trees from the front, as many as
+/// the rules in `specs/SampleGrammar` say. It has no branches, loops, closures, struct literals,
+/// ranges and casts. The choice of what it has is the project's own.
 #[derive(Clone, Copy, Debug, PartialEq, Eq)]
 pub struct SampleGrammar;
 
-// What is left after a fragment.
+// The trees after a fragment.
 fn following<'t, A: Allocator>(
     entry: PrefixEntryPoint,
     tokens: TokenTreesView<'t, A>,
-) -> Step<'t, A>
-    ensures { seen result ≡ takes (part_of entry) (trees tokens.entry) }
+) -> ParseResult<'t, A>
+    ensures { result_model result ≡ takes (part_of entry) (trees tokens.entry) }
 {
     match entry {
         PrefixEntryPoint::Path => path(tokens, PathStyle::Plain),
@@ -64,7 +67,7 @@ fn following<'t, A: Allocator>(
     }
 }
 
-// How much a fragment is. A fault takes nothing.
+// How many flat tokens a fragment has. A fault has none.
 #[tactic(auto, using(crate::proofs::Parts::takes_no_longer))]
 fn front<A: Allocator>(entry: PrefixEntryPoint, tokens: TokenTreesView<'_, A>) -> Front
     ensures { result ≡ answer entry (trees tokens.entry) }
@@ -81,7 +84,7 @@ fn front<A: Allocator>(entry: PrefixEntryPoint, tokens: TokenTreesView<'_, A>) -
     }
 }
 
-// The words that an identifier is raw for.
+// Identifiers with one of these texts are written with `r#` where the expander makes an identifier.
 const KEYWORDS: &[&str] = &[
     "abstract", "as", "async", "await", "become", "box", "break", "const", "continue", "crate",
     "do", "dyn", "else", "enum", "extern", "false", "final", "fn", "for", "gen", "if", "impl",

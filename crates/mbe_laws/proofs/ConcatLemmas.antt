@@ -4,7 +4,7 @@ use Rattle.std.specs.Str.{chars}
 use Rattle.std.proofs.Common.{ap, sym, ◌∙◌}
 use Rattle.std.proofs.Math.Bool.{false≢true}
 use Rattle.unicode_ident.proofs.Computing.{unicode_ident}
-use Rattle.mbe_tt.specs.Fragments.Grammar.{Grammar}
+use Rattle.mbe_tt.specs.Grammars.Grammar.{Grammar}
 use Rattle.mbe_tt.specs.Trees.Leaf.{ident}
 use Rattle.mbe_tt.specs.Trees.Tree.{none, leaf}
 use Rattle.mbe_tt.specs.declared.tt.LitKind.TheVariants.{Str}
@@ -13,13 +13,14 @@ use Rattle.mbe_semantics.specs.Syntax.Op as ops
 use Rattle.mbe_semantics.specs.Syntax.Template.{nothing, token, variable, undated}
 use Rattle.mbe_semantics.specs.Syntax.Definition.{Rule}
 use Rattle.mbe_semantics.specs.Bindings.Environment.{environment_of}
-use Rattle.mbe_semantics.specs.Writing.Substitution.{faults, rawness}
+use Rattle.mbe_semantics.specs.Transcription.Substitution.{faults, rawness}
 use Rattle.mbe_semantics.specs.Expansion.Expansion.{Applies, FirstThatApplies, this_one, a_later_one}
 use Rattle.mbe_semantics.specs.Examples.Sample.{at, ident_of, taken}
 use Rattle.mbe_semantics.specs.Examples.Examples.{ConcatExample, concat_rule, concat_of, foo}
 use Rattle.mbe_laws.proofs.RuleLemmas.{applies_once, faulty_once, parts, defines_one}
 use Rattle.mbe_semantics.specs.Fragments.Kinds as styles
-use Rattle.mbe_semantics.specs.Readings.Item.{Fragment, Item, matched, bound, skipped, rounds, Items, no_items, item, no_rounds, round, items_width}
+use Rattle.mbe_semantics.specs.Readings.Item.{Fragment, Item, matched, bound, skipped, rounds, Items, no_items, item}
+use Rattle.mbe_semantics.specs.Readings.Item.{no_rounds, round, items_width}
 use Rattle.mbe_semantics.specs.Readings.Ambiguity.{IsReading}
 
 abbrev foo_items : Items

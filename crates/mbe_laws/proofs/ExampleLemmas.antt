@@ -1,9 +1,10 @@
 -- Whole expansions of small definitions.
-use Rattle.std.specs.Prelude.{◌≡◌, ◌≢◌, ◌-◌, ◌^◌, ℕ, min, nat_le, Bool, true, false, [], ◌∷◌, None, refl, not, ◌&&◌, ◌==◌, if◌then◌else◌, codes, Option, Some}
+use Rattle.std.specs.Prelude.{◌≡◌, ◌≢◌, ◌-◌, ◌^◌, ℕ, min, nat_le, Bool, true, false, [], ◌∷◌, None, refl, not, ◌&&◌}
+use Rattle.std.specs.Prelude.{◌==◌, if◌then◌else◌, codes, Option, Some}
 use Rattle.std.proofs.Common.{arith, ap, sym, ◌∙◌}
 use Rattle.std.proofs.Math.Bool.{false≢true}
 use Rattle.mbe_tt.specs.Trees.Tree.{Forest, none, flat_len, Cut, cut_flat}
-use Rattle.mbe_tt.specs.Fragments.Grammar.{Grammar, IsLawful}
+use Rattle.mbe_tt.specs.Grammars.Grammar.{Grammar, IsLawful}
 use Rattle.mbe_tt.specs.declared.grammar.Front.{Front}
 use Rattle.mbe_semantics.specs.Expansion.Error.{ExpandError, binding_error}
 use Rattle.mbe_semantics.specs.declared.macro_call_style.MacroCallStyle.{MacroCallStyle}
@@ -13,13 +14,20 @@ use Rattle.mbe_semantics.specs.Syntax.Definition.{separated, unseparated, no_rul
 use Rattle.mbe_semantics.specs.Bindings.Environment.{environment_of, binding_total}
 use Rattle.mbe_semantics.specs.Expansion.Expansion.{Applies, FirstThatApplies, this_one, a_later_one}
 use Rattle.mbe_semantics.specs.Examples.Sample.{taken, at, text_at, joint_at, alone_at}
-use Rattle.mbe_semantics.specs.Examples.Examples.{EndlessExample, endless_rule, simple_rule, one_a, StyledExample, attr_rule, plain_rule, PathExample, path_rule, path_argument, TextExample, literal_rule, raw_rule, UnboundExample, unbound_rule, RefusedExample, TwiceExample, twice_rule, PunctsExample, puncts_rule, DoubleExample, double_rule, sum_argument, LetExample, FrontExample, front_argument, NoRuleExample, let_rule, let_argument}
-use Rattle.mbe_laws.proofs.RuleLemmas.{answer_cut, answer_fragment, by_run, fits_once, applies_once, faulty_once, closest_alone, parts, defines_one, defines_two}
+use Rattle.mbe_semantics.specs.Examples.Examples.{EndlessExample, endless_rule, simple_rule, one_a, StyledExample}
+use Rattle.mbe_semantics.specs.Examples.Examples.{attr_rule, plain_rule, PathExample, path_rule, path_argument}
+use Rattle.mbe_semantics.specs.Examples.Examples.{TextExample, literal_rule, raw_rule, UnboundExample, unbound_rule}
+use Rattle.mbe_semantics.specs.Examples.Examples.{RefusedExample, TwiceExample, twice_rule, PunctsExample, puncts_rule}
+use Rattle.mbe_semantics.specs.Examples.Examples.{DoubleExample, double_rule, sum_argument, LetExample, FrontExample}
+use Rattle.mbe_semantics.specs.Examples.Examples.{front_argument, NoRuleExample, let_rule, let_argument}
+use Rattle.mbe_laws.proofs.RuleLemmas.{answer_cut, answer_fragment, by_run, fits_once, applies_once, faulty_once}
+use Rattle.mbe_laws.proofs.RuleLemmas.{closest_alone, parts, defines_one, defines_two}
 use Rattle.mbe_semantics.specs.Fragments.Kinds as styles
-use Rattle.mbe_semantics.specs.Readings.Item.{Fragment, Item, matched, bound, skipped, rounds, Items, no_items, item, no_rounds, round, items_width}
+use Rattle.mbe_semantics.specs.Readings.Item.{Fragment, Item, matched, bound, skipped, rounds, Items, no_items, item}
+use Rattle.mbe_semantics.specs.Readings.Item.{no_rounds, round, items_width}
 use Rattle.mbe_semantics.specs.Readings.Ambiguity.{IsReading}
-use Rattle.mbe_semantics.specs.declared.kinds.MetaVarKind.TheVariants as kinds
-use Rattle.mbe_semantics.specs.declared.kinds.ExprKind.TheVariants as exprs
+use Rattle.mbe_semantics.specs.declared.fragment_kinds.MetaVarKind.TheVariants as kinds
+use Rattle.mbe_semantics.specs.declared.fragment_kinds.ExprKind.TheVariants as exprs
 use Rattle.mbe_semantics.specs.Readings.Verdict as verdicts
 use Rattle.mbe_semantics.specs.Readings.Verdict.{IsVerdict, stuck}
 use Rattle.mbe_semantics.specs.Matching.Run.{run, verdict}

@@ -2,7 +2,8 @@
 use Rattle.std.specs.Prelude.{None, [], refl}
 use Rattle.mbe_tt.specs.Trees.Tree.{none}
 use Rattle.mbe_semantics.specs.Syntax.Template.{nothing, token, repeated, here}
-use Rattle.mbe_semantics.specs.Syntax.Definition.{no_rule, faulty_rule, unseparated, separated, in_pattern, in_template, faulty}
+use Rattle.mbe_semantics.specs.Syntax.Definition.{no_rule, faulty_rule, unseparated, separated, in_pattern, in_template}
+use Rattle.mbe_semantics.specs.Syntax.Definition.{faulty}
 use Rattle.mbe_semantics.specs.Examples.FurtherExamples.{FaultExamples, SpecifierExamples}
 use Rattle.mbe_laws.proofs.RuleLemmas.{parts, defines_one}
 

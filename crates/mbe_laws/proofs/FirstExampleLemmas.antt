@@ -1,14 +1,16 @@
 -- What the definitions say of small definitions and arguments.
-use Rattle.std.specs.Prelude.{nat_le, not, ◌&&◌, ◌==◌, if◌then◌else◌, codes, ◌≡◌, ◌≢◌, ◌⊎◌, Bool, true, false, [], ◌∷◌, Option, Some, None, refl}
+use Rattle.std.specs.Prelude.{nat_le, not, ◌&&◌, ◌==◌, if◌then◌else◌, codes, ◌≡◌, ◌≢◌, ◌⊎◌, Bool, true, false, [], ◌∷◌}
+use Rattle.std.specs.Prelude.{Option, Some, None, refl}
 use Rattle.std.proofs.Common.{arith, ap, sym, ◌∙◌}
 use Rattle.std.specs.Fmt.{digits}
 use Rattle.std.proofs.Math.Bool.{false≢true}
 use Rattle.mbe_tt.specs.Trees.Tree.{none, group, cut_flat, flat_len}
 use Rattle.mbe_semantics.specs.Syntax.Op as ops
-use Rattle.mbe_semantics.specs.declared.kinds.MetaVarKind.TheVariants.{Vis}
-use Rattle.mbe_semantics.specs.Readings.Item.{Fragment, Item, matched, grouped, skipped, rounds, Items, no_items, item, no_rounds}
+use Rattle.mbe_semantics.specs.declared.fragment_kinds.MetaVarKind.TheVariants.{Vis}
+use Rattle.mbe_semantics.specs.Readings.Item.{Fragment, Item, matched, grouped, skipped, rounds, Items, no_items, item}
+use Rattle.mbe_semantics.specs.Readings.Item.{no_rounds}
 use Rattle.mbe_semantics.specs.Readings.Input.{fragment_of}
-use Rattle.mbe_semantics.specs.Readings.Reading.{within, Beginning, dot}
+use Rattle.mbe_semantics.specs.Readings.Reading.{within, PartialReading, partial}
 use Rattle.mbe_semantics.specs.Readings.Steps.{tree}
 use Rattle.mbe_semantics.specs.Readings.Ambiguity.{IsReading, IsAmbiguousAt, Fits}
 use Rattle.mbe_semantics.specs.Readings.Verdict.{IsVerdict, one_reading, many_readings, ambiguous}
@@ -17,15 +19,24 @@ use Rattle.mbe_semantics.proofs.PlainLemmas as plain
 use Rattle.mbe_laws.proofs.Patterns.WordLemmas.{words_never_ambiguous}
 use Rattle.mbe_laws.proofs.RuleLemmas.{by_run, fits_by_run, closest_alone, parts, defines_one}
 use Rattle.mbe_semantics.specs.Syntax.Op.{Op, Ops, no_ops, op}
-use Rattle.mbe_tt.specs.Fragments.Grammar.{Grammar, IsLawful}
-use Rattle.mbe_semantics.specs.Syntax.Template.{pattern, template, Template, nothing, token, variable, grouped, repeated, undated}
-use Rattle.mbe_semantics.specs.Examples.FirstExamples.{pair_reads, pair_writes, PairExample, pair_rule, pair_argument, pair_items, CastExample, cast_pattern, cast_argument, cast_rule, OptionalExample, twice_pattern, twice_argument, twice_rule, QuoteExample, quote_pattern, quote_argument, quote_rule, RoundsExample, bx_pattern, bx_argument, bx_rule, TemplateExamples, DefinitionExamples, VerdictExamples, group_pattern, list_pattern, x_variable, token_of, comma, in_parentheses, a_then, comma_then, bx_items, of_kind, list_between, quote_then, arrow_pattern}
+use Rattle.mbe_tt.specs.Grammars.Grammar.{Grammar, IsLawful}
+use Rattle.mbe_semantics.specs.Syntax.Template.{pattern, template, Template, nothing, token, variable, grouped}
+use Rattle.mbe_semantics.specs.Syntax.Template.{repeated, undated}
+use Rattle.mbe_semantics.specs.Examples.FirstExamples.{pair_reads, pair_writes, PairExample, pair_rule, pair_argument}
+use Rattle.mbe_semantics.specs.Examples.FirstExamples.{pair_items, CastExample, cast_pattern, cast_argument, cast_rule}
+use Rattle.mbe_semantics.specs.Examples.FirstExamples.{OptionalExample, twice_pattern, twice_argument, twice_rule}
+use Rattle.mbe_semantics.specs.Examples.FirstExamples.{QuoteExample, quote_pattern, quote_argument, quote_rule}
+use Rattle.mbe_semantics.specs.Examples.FirstExamples.{RoundsExample, bx_pattern, bx_argument, bx_rule}
+use Rattle.mbe_semantics.specs.Examples.FirstExamples.{TemplateExamples, DefinitionExamples, VerdictExamples}
+use Rattle.mbe_semantics.specs.Examples.FirstExamples.{group_pattern, list_pattern, x_variable, token_of, comma}
+use Rattle.mbe_semantics.specs.Examples.FirstExamples.{in_parentheses, a_then, comma_then, bx_items, of_kind}
+use Rattle.mbe_semantics.specs.Examples.FirstExamples.{list_between, quote_then, arrow_pattern}
 use Rattle.mbe_semantics.specs.Examples.Sample.{is_2024, delimiter_of, at, word, mark, punct_of}
-use Rattle.mbe_semantics.specs.declared.kinds.MetaVarKind.TheVariants as kinds
-use Rattle.mbe_semantics.specs.declared.kinds.ExprKind.TheVariants as exprs
+use Rattle.mbe_semantics.specs.declared.fragment_kinds.MetaVarKind.TheVariants as kinds
+use Rattle.mbe_semantics.specs.declared.fragment_kinds.ExprKind.TheVariants as exprs
 use Rattle.mbe_tt.specs.declared.tt.LitKind.TheVariants.{Str}
 use Rattle.mbe_tt.specs.declared.tt.Spacing.TheVariants.{Alone, Joint}
-use Rattle.mbe_semantics.specs.declared.kinds.RepeatKind.TheVariants.{ZeroOrOne, ZeroOrMore, OneOrMore}
+use Rattle.mbe_semantics.specs.declared.fragment_kinds.RepeatKind.TheVariants.{ZeroOrOne, ZeroOrMore, OneOrMore}
 use Rattle.mbe_tt.specs.declared.tt.DelimiterKind.TheVariants.{Parenthesis, Brace}
 use Rattle.mbe_semantics.specs.Expansion.Expansion.{Applies, this_one}
 use Rattle.mbe_semantics.specs.declared.macro_call_style.MacroCallStyle.TheVariants.{FnLike}
@@ -151,19 +162,19 @@ optional_example = record {
 
 -- ---- ambiguous places
 
-abbrev is_open : Beginning → Bool
-is_open (dot rest is []) = false
-is_open (dot rest is (f ∷ up)) = true
+abbrev is_open : PartialReading → Bool
+is_open (partial rest is []) = false
+is_open (partial rest is (f ∷ up)) = true
 
-abbrev is_twice_open : Beginning → Bool
-is_twice_open (dot rest is (f ∷ (h ∷ up))) = true
+abbrev is_twice_open : PartialReading → Bool
+is_twice_open (partial rest is (f ∷ (h ∷ up))) = true
 is_twice_open _ = false
 
 cast_verdict : (g : Grammar) → IsVerdict g cast_pattern cast_argument (ambiguous 0)
 cast_verdict g = (
   record {
-    one = dot _ no_items (within _ _ _ _ no_items no_rounds ∷ []);
-    other = dot _ (item no_items (skipped _)) [];
+    one = partial _ no_items (within _ _ _ _ no_items no_rounds ∷ []);
+    other = partial _ (item no_items (skipped _)) [];
     one_at = ((((tt, refl, tt), refl), refl));
     other_at = ((tt, (_, refl, (tt, refl))), refl);
     differ = λ e. false≢true (sym (ap is_open e));
@@ -171,9 +182,9 @@ cast_verdict g = (
     m = 1;
     f = true;
     g = false;
-    one_goes = (_, refl);
-    other_goes = (_, refl);
-    clash = ◌⊎◌.inl refl;
+    one_steps = (_, refl);
+    other_steps = (_, refl);
+    ambiguity = ◌⊎◌.inl refl;
   },
   λ p below w. omega (arith, below),
 )
@@ -189,10 +200,11 @@ cast_example = record {
       (λ is f. absurd (f.0 0 (cast_verdict g).0));
 }
 
-quote_place : (g : Grammar) → IsAmbiguousAt g quote_pattern quote_argument 1
-quote_place g = record {
-  one = dot _ no_items (within _ _ _ _ (item no_items (matched 1)) no_rounds ∷ within _ _ _ _ no_items no_rounds ∷ []);
-  other = dot _ (item (item no_items (matched 1)) (skipped [])) (within _ _ _ _ no_items no_rounds ∷ []);
+quote_offset : (g : Grammar) → IsAmbiguousAt g quote_pattern quote_argument 1
+quote_offset g = record {
+  one = partial _ no_items (within _ _ _ _ (item no_items (matched 1)) no_rounds ∷ within _ _ _ _ no_items no_rounds
+      ∷ []);
+  other = partial _ (item (item no_items (matched 1)) (skipped [])) (within _ _ _ _ no_items no_rounds ∷ []);
   one_at = ((((tt, refl, tt), (_, refl, refl), tt), refl), refl);
   other_at = (((tt, refl, tt), (_, (_, refl, refl), (tt, refl))), refl);
   differ = λ e. false≢true (sym (ap is_twice_open e));
@@ -200,9 +212,9 @@ quote_place g = record {
   m = 2;
   f = false;
   g = false;
-  one_goes = (_, refl);
-  other_goes = (_, refl);
-  clash = ◌⊎◌.inr (◌⊎◌.inr (λ e. omega (arith, e)));
+  one_steps = (_, refl);
+  other_steps = (_, refl);
+  ambiguity = ◌⊎◌.inr (◌⊎◌.inr (λ e. omega (arith, e)));
 }
 
 quote_verdict : (g : Grammar) → IsLawful g → IsVerdict g quote_pattern quote_argument (ambiguous 1)
@@ -215,10 +227,10 @@ quote_example = record {
       (parts refl (repeated _ _ _ _ _ _ _ refl (token _ _ _ _ refl (repeated _ _ _ _ _ _ _ refl
       (token _ _ _ _ refl (nothing _ refl)) (nothing _ refl))) (nothing _ refl))
       (nothing _ refl)) refl refl;
-  place = quote_place;
+  offset = quote_offset;
   verdict = quote_verdict;
   closest = λ g w. closest_alone g FnLike quote_argument quote_rule (ambiguous 1) 0 refl (quote_verdict g w)
-      (λ is f. absurd (f.0 1 (quote_place g)));
+      (λ is f. absurd (f.0 1 (quote_offset g)));
 }
 
 -- ---- one reading, by a run

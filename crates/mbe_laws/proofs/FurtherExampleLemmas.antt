@@ -3,16 +3,17 @@ use Rattle.std.specs.Prelude.{◌≡◌, ◌⊎◌, ◌-◌, ◌^◌, ◌<◌, �
 use Rattle.std.proofs.Common.{arith, ap, sym, ◌∙◌, subst}
 use Rattle.std.proofs.lemmas.Option.{none-some, same_Some}
 use Rattle.mbe_tt.specs.Trees.Tree.{Forest, none, group}
-use Rattle.mbe_tt.specs.Fragments.Grammar.{Grammar, IsLawful}
+use Rattle.mbe_tt.specs.Grammars.Grammar.{Grammar, IsLawful}
 use Rattle.mbe_semantics.specs.declared.macro_call_style.MacroCallStyle.TheVariants.{FnLike}
 use Rattle.mbe_semantics.specs.Syntax.Template.{nothing, token, variable, repeated, undated}
 use Rattle.mbe_semantics.specs.Syntax.Definition.{Rule, ended, separated}
 use Rattle.mbe_semantics.specs.Fragments.Kinds as styles
-use Rattle.mbe_semantics.specs.Readings.Item.{Item, matched, bound, grouped, skipped, rounds, Items, no_items, item, no_rounds, round}
+use Rattle.mbe_semantics.specs.Readings.Item.{Item, matched, bound, grouped, skipped, rounds, Items, no_items, item}
+use Rattle.mbe_semantics.specs.Readings.Item.{no_rounds, round}
 use Rattle.mbe_semantics.specs.Readings.Ambiguity.{IsReading, Fits}
 use Rattle.mbe_semantics.specs.Bindings.Environment.{environment_of, binding_total}
 use Rattle.mbe_semantics.specs.Expansion.Expansion.{Applies, this_one, a_later_one}
-use Rattle.mbe_semantics.specs.Expansion.Recovery.{IsClosest, IsStyledAt, GoesBefore}
+use Rattle.mbe_semantics.specs.Expansion.Recovery.{IsClosest, IsStyledAt, IsCloser}
 use Rattle.mbe_semantics.specs.Readings.Verdict as verdicts
 use Rattle.mbe_semantics.specs.Readings.Verdict.{Verdict, IsVerdict, unmatched}
 use Rattle.mbe_semantics.specs.Matching.Run.{run, verdict}
@@ -20,7 +21,14 @@ use Rattle.mbe_semantics.specs.Readings.Steps.{tree}
 use Rattle.mbe_semantics.specs.Examples.Sample.{taken, text_at, number_at, alone_at, delimiter_of, at}
 use Rattle.std.specs.Fmt.{digits}
 use Rattle.mbe_tt.specs.declared.tt.DelimiterKind.TheVariants.{Parenthesis}
-use Rattle.mbe_semantics.specs.Examples.FurtherExamples.{SignExample, one_rule, two_rule, three_rule, any_literal_rule, signed_argument, spaced_argument, PlusExample, plus_rule, star_argument, InvisibleExample, tree_rule, ident_rule, hidden_rule, hidden_a, NamesExample, one_then_list, list_then_one, two_lists, a_at, MostBindingsExample, one_binding, two_bindings, pq_argument, beside_rule, EarliestExample, earlier_rule, later_rule, p_argument, MarkedExample}
+use Rattle.mbe_semantics.specs.Examples.FurtherExamples.{SignExample, one_rule, two_rule, three_rule, any_literal_rule}
+use Rattle.mbe_semantics.specs.Examples.FurtherExamples.{signed_argument, spaced_argument, PlusExample, plus_rule}
+use Rattle.mbe_semantics.specs.Examples.FurtherExamples.{star_argument, InvisibleExample, tree_rule, ident_rule}
+use Rattle.mbe_semantics.specs.Examples.FurtherExamples.{hidden_rule, hidden_a, NamesExample, one_then_list}
+use Rattle.mbe_semantics.specs.Examples.FurtherExamples.{list_then_one, two_lists, a_at, MostBindingsExample}
+use Rattle.mbe_semantics.specs.Examples.FurtherExamples.{one_binding, two_bindings, pq_argument, beside_rule}
+use Rattle.mbe_semantics.specs.Examples.FurtherExamples.{EarliestExample, earlier_rule, later_rule, p_argument}
+use Rattle.mbe_semantics.specs.Examples.FurtherExamples.{MarkedExample}
 use Rattle.mbe_laws.proofs.RuleLemmas.{by_run, fits_once, applies_once, applies_by_run, parts, defines_one}
 use Rattle.mbe_laws.proofs.Matching.RunLemmas.{one_verdict}
 
@@ -323,7 +331,7 @@ module _ (g : Grammar) (argument : Forest) (r q : Rule) (is js : Items) (r_fits 
       either a b l = grind (arith, l)
 
       goes_before : (m : ℕ) (s : Rule) → IsStyledAt (r ∷ q ∷ []) FnLike m s
-          → GoesBefore (λ x. all_left) (bound_in_rule (number_of is) (number_of js)) 0 m
+          → IsCloser (λ x. all_left) (bound_in_rule (number_of is) (number_of js)) 0 m
       goes_before zero s p = ◌⊎◌.inr (refl, ◌⊎◌.inr (refl, omega arith))
       goes_before (suc m) s p = elim (either (number_of is) (number_of js) h)
           [ ◌⊎◌.inl l ↦ ◌⊎◌.inr (refl, ◌⊎◌.inl l) | ◌⊎◌.inr e ↦ ◌⊎◌.inr (refl, ◌⊎◌.inr (e, omega arith)) ]
@@ -341,7 +349,7 @@ module _ (g : Grammar) (argument : Forest) (r q : Rule) (is js : Items) (r_fits 
       }
     where
       goes_before : (m : ℕ) (s : Rule) → IsStyledAt (r ∷ q ∷ []) FnLike m s
-          → GoesBefore (λ x. all_left) (bound_in_rule (number_of is) (number_of js)) 1 m
+          → IsCloser (λ x. all_left) (bound_in_rule (number_of is) (number_of js)) 1 m
       goes_before zero s p = ◌⊎◌.inr (refl, ◌⊎◌.inl h)
       goes_before (suc m) s p = ◌⊎◌.inr (refl, ◌⊎◌.inr (refl, omega arith))
 
@@ -362,7 +370,7 @@ module _ (g : Grammar) (argument : Forest) (r q : Rule) (is js : Items) (r_fits 
   first_not : number_of is < number_of js → IsClosest g FnLike argument (r ∷ q ∷ []) 0 → ⊥
   first_not h c = go (c.first 1 q (refl, q_styled)) (same_left 0 c) (r_bound 0 c) (q_bound 0 c)
     where
-      go : GoesBefore c.left c.bound 0 1 → c.left 0 ≡ c.left 1 → c.bound 0 ≡ number_of is → c.bound 1 ≡ number_of js → ⊥
+      go : IsCloser c.left c.bound 0 1 → c.left 0 ≡ c.left 1 → c.bound 0 ≡ number_of is → c.bound 1 ≡ number_of js → ⊥
       go (◌⊎◌.inl l) e x y = omega (arith, l, e)
       go (◌⊎◌.inr (d, ◌⊎◌.inl l)) e x y = omega (arith, l, x, y, h)
       go (◌⊎◌.inr (d, ◌⊎◌.inr l)) e x y = let z = l.0 in omega (arith, z, x, y, h)
@@ -370,7 +378,7 @@ module _ (g : Grammar) (argument : Forest) (r q : Rule) (is js : Items) (r_fits 
   second_not : number_of js ≤ number_of is → IsClosest g FnLike argument (r ∷ q ∷ []) 1 → ⊥
   second_not h c = go (c.first 0 r (refl, r_styled)) (same_left 1 c) (r_bound 1 c) (q_bound 1 c)
     where
-      go : GoesBefore c.left c.bound 1 0 → c.left 0 ≡ c.left 1 → c.bound 0 ≡ number_of is → c.bound 1 ≡ number_of js → ⊥
+      go : IsCloser c.left c.bound 1 0 → c.left 0 ≡ c.left 1 → c.bound 0 ≡ number_of is → c.bound 1 ≡ number_of js → ⊥
       go (◌⊎◌.inl l) e x y = omega (arith, l, e)
       go (◌⊎◌.inr (d, ◌⊎◌.inl l)) e x y = omega (arith, l, x, y, h)
       go (◌⊎◌.inr (d, ◌⊎◌.inr l)) e x y = let z = l.1 in omega (arith, z)

@@ -4,7 +4,7 @@ pub mod Definitions
 pub mod Bindings
 pub mod Writing
 pub mod Expansion
-pub mod Dots
+pub mod States
 pub mod Run
 pub mod Loop
 pub mod Orders

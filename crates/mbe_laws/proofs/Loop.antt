@@ -1,7 +1,7 @@
 -- The loops of a program: over the stack at a place, and over places.
-pub mod BoundedPlaces
+pub mod BoundedOffsets
 pub mod BoundedLoop
-pub mod TurnedPlaces
+pub mod TurnedOffsets
 pub mod TurnedLoop
 pub mod FlagLoop
-pub mod FlagPlaces
+pub mod FlagOffsets

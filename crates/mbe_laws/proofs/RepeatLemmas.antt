@@ -4,28 +4,33 @@ use Rattle.std.proofs.Common.{arith, ap, sym, ◌∙◌}
 use Rattle.std.proofs.Math.Bool.{false≢true}
 use Rattle.std.specs.Fmt.{digits}
 use Rattle.mbe_tt.specs.Trees.Tree.{none}
-use Rattle.mbe_tt.specs.Fragments.Grammar.{Grammar}
+use Rattle.mbe_tt.specs.Grammars.Grammar.{Grammar}
 use Rattle.mbe_semantics.specs.declared.macro_call_style.MacroCallStyle.TheVariants.{FnLike}
-use Rattle.mbe_semantics.specs.declared.kinds.MetaVarKind.TheVariants as kinds
+use Rattle.mbe_semantics.specs.declared.fragment_kinds.MetaVarKind.TheVariants as kinds
 use Rattle.mbe_semantics.specs.Syntax.Template.{nothing, token, variable, repeated, undated}
 use Rattle.mbe_tt.specs.declared.grammar.PrefixEntryPoint.TheVariants.{Vis}
 use Rattle.mbe_semantics.specs.Expansion.Expansion.{Applies, this_one, a_later_one}
 use Rattle.mbe_semantics.specs.Examples.Sample.{taken, text_at}
-use Rattle.mbe_semantics.specs.Examples.Examples.{ListExample, list_rule, list_argument, IndexExample, index_rule, two_words, UnknownExample, unknown_rule, any_rule, one_a, EmptyExample, empty_rule, ZipExample, zip_rule, zip_argument, CountExample, count_rule, count_argument}
-use Rattle.mbe_laws.proofs.RuleLemmas.{answer_fragment, fits_by_run, applies_by_run, by_run, closest_alone, parts, defines_one, defines_two}
+use Rattle.mbe_semantics.specs.Examples.Examples.{ListExample, list_rule, list_argument, IndexExample, index_rule}
+use Rattle.mbe_semantics.specs.Examples.Examples.{two_words, UnknownExample, unknown_rule, any_rule, one_a}
+use Rattle.mbe_semantics.specs.Examples.Examples.{EmptyExample, empty_rule, ZipExample, zip_rule, zip_argument}
+use Rattle.mbe_semantics.specs.Examples.Examples.{CountExample, count_rule, count_argument}
+use Rattle.mbe_laws.proofs.RuleLemmas.{answer_fragment, fits_by_run, applies_by_run, by_run, closest_alone, parts}
+use Rattle.mbe_laws.proofs.RuleLemmas.{defines_one, defines_two}
 use Rattle.mbe_semantics.specs.Fragments.Kinds as styles
-use Rattle.mbe_semantics.specs.Readings.Item.{Fragment, Item, matched, bound, skipped, rounds, Items, no_items, item, no_rounds, round, items_width}
+use Rattle.mbe_semantics.specs.Readings.Item.{Fragment, Item, matched, bound, skipped, rounds, Items, no_items, item}
+use Rattle.mbe_semantics.specs.Readings.Item.{no_rounds, round, items_width}
 use Rattle.mbe_semantics.specs.Readings.Ambiguity.{IsReading}
 use Rattle.mbe_semantics.specs.Readings.Input.{input_of}
-use Rattle.mbe_semantics.specs.Readings.Reading.{Beginning}
+use Rattle.mbe_semantics.specs.Readings.Reading.{PartialReading}
 use Rattle.mbe_semantics.specs.Readings.Verdict as verdicts
 use Rattle.mbe_semantics.specs.Readings.Verdict.{IsVerdict, many_readings}
 use Rattle.mbe_semantics.specs.Matching.Run.{run, verdict}
 use Rattle.mbe_semantics.specs.Readings.Steps.{tree}
-use Rattle.mbe_semantics.specs.Readings.Ambiguity.{GoesOn}
+use Rattle.mbe_semantics.specs.Readings.Ambiguity.{StepsOver}
 use Rattle.mbe_laws.proofs.Matching.Moves.{next-takes}
 use Rattle.mbe_semantics.proofs.InputLemmas.{lawful_input}
-use Rattle.mbe_tt.specs.Fragments.Grammar.{IsLawful}
+use Rattle.mbe_tt.specs.Grammars.Grammar.{IsLawful}
 
 -- ---- lists
 
@@ -285,7 +290,8 @@ unfolding skipped_round empty_round
 empty_differ e = false≢true (ap has_round e)
 
 -- nothing goes on in front of no trees
-never_goes : (g : Grammar) → IsLawful g → (q n : ℕ) (f : Bool) (x : Beginning) → GoesOn (input_of g none) q n f x → ⊥
+never_goes : (g : Grammar) → IsLawful g → (q n : ℕ) (f : Bool) (x : PartialReading)
+    → StepsOver (input_of g none) q n f x → ⊥
 never_goes g w q n f x h =
     let l : (0 < n) × (q + n ≤ 0) = next-takes (input_of g none) 0 q n f x h.0 (lawful_input g none w) h.1 in
     let a = l.0 in let b = l.1 in omega (arith, a, b)
@@ -302,7 +308,7 @@ empty_read g e = ((_, refl, (tt, (_, refl, (refl, ap (answer_fragment (Some kind
 empty_verdict : (g : Grammar) → IsLawful g → g.parse Vis [] ≡ record { count = 0; fault = false }
     → IsVerdict g empty_rule.reads none many_readings
 empty_verdict g w e = (
-  (λ q a. never_goes g w q a.n a.f a.one a.one_goes),
+  (λ q a. never_goes g w q a.n a.f a.one a.one_steps),
   (skipped_round, empty_round, empty_skipped g, empty_read g e, empty_differ),
 )
 

@@ -1,22 +1,24 @@
 -- Rules that apply, and rules that are the closest.
-use Rattle.std.specs.Prelude.{◌≡◌, ◌⊎◌, ◌-◌, ◌^◌, ◌&&◌, ◌==◌, not, ℕ, zero, suc, min, if◌then◌else◌, IsTrue, IsFalse, [], ◌∷◌, Option, Some, None, Ok, refl}
+use Rattle.std.specs.Prelude.{◌≡◌, ◌⊎◌, ◌-◌, ◌^◌, ◌&&◌, ◌==◌, not, ℕ, zero, suc, min, if◌then◌else◌, IsTrue, IsFalse}
+use Rattle.std.specs.Prelude.{[], ◌∷◌, Option, Some, None, Ok, refl}
 use Rattle.std.proofs.Common.{arith, subst, sym, ◌∙◌}
 use Rattle.std.proofs.lemmas.Option.{none-some, same_Some}
 use Rattle.mbe_tt.specs.Trees.Tree.{Forest, none, flat_len, Cut, cut_flat}
-use Rattle.mbe_tt.specs.Fragments.Grammar.{Grammar, IsLawful}
+use Rattle.mbe_tt.specs.Grammars.Grammar.{Grammar, IsLawful}
 use Rattle.mbe_tt.specs.declared.grammar.Front.{Front}
 use Rattle.mbe_semantics.specs.declared.macro_call_style.MacroCallStyle.{MacroCallStyle}
 use Rattle.mbe_semantics.specs.Syntax.Op.{Ops, has_no_repetition}
 use Rattle.mbe_semantics.specs.Syntax.Template as read
 use Rattle.mbe_semantics.specs.Syntax.Template.{Template, Fault}
-use Rattle.mbe_semantics.specs.Syntax.Definition.{Rule, RuleTrees, AreParts, ended, separated, IsMacroRules, rule_trees_at, after_separator, with_refusal}
+use Rattle.mbe_semantics.specs.Syntax.Definition.{Rule, RuleTrees, AreParts, ended, separated, IsMacroRules}
+use Rattle.mbe_semantics.specs.Syntax.Definition.{rule_trees_at, after_separator, with_refusal}
 use Rattle.mbe_semantics.specs.Examples.Sample.{Defines, is_2024}
 use Rattle.mbe_semantics.specs.Readings.Verdict.{Verdict, IsVerdict, unmatched}
 use Rattle.mbe_semantics.specs.Bindings.Environment.{environment_of, binding_total}
-use Rattle.mbe_semantics.specs.Writing.Substitution.{faults}
+use Rattle.mbe_semantics.specs.Transcription.Substitution.{faults}
 use Rattle.mbe_semantics.specs.Expansion.Expansion.{Applies}
-use Rattle.mbe_semantics.specs.Expansion.Recovery.{IsClosest, IsStyledAt, GoesBefore}
-use Rattle.mbe_semantics.specs.declared.kinds.MetaVarKind.{MetaVarKind}
+use Rattle.mbe_semantics.specs.Expansion.Recovery.{IsClosest, IsStyledAt, IsCloser}
+use Rattle.mbe_semantics.specs.declared.fragment_kinds.MetaVarKind.{MetaVarKind}
 use Rattle.mbe_semantics.specs.Readings.Item.{Fragment, Items}
 use Rattle.mbe_semantics.specs.Readings.Ambiguity.{IsReading, Fits}
 use Rattle.mbe_semantics.specs.Readings.Input.{fragment_of}
@@ -106,7 +108,7 @@ closest_alone g style argument r v k s w b = record {
         (same_Some r q p.0) (b is) f
     bound_at (suc m) q is p f = absurd (none-some q p.0)
 
-    first_at : (m : ℕ) (q : Rule) → IsStyledAt (r ∷ []) style m q → GoesBefore (λ x. unmatched argument v) (λ x. k) 0 m
+    first_at : (m : ℕ) (q : Rule) → IsStyledAt (r ∷ []) style m q → IsCloser (λ x. unmatched argument v) (λ x. k) 0 m
     first_at m q p = ◌⊎◌.inr (refl, ◌⊎◌.inr (refl, omega arith))
 
 -- the trees of a rule are read

@@ -3,12 +3,12 @@ use Rattle.std.specs.Prelude.{◌≡◌, ◌⊎◌, ◌-◌, ◌^◌, ℕ, zero,
 use Rattle.std.proofs.Common.{arith, ap, sym, ◌∙◌, subst}
 use Rattle.std.proofs.lemmas.Option.{none-some, same_Some}
 use Rattle.mbe_tt.specs.Trees.Tree.{none}
-use Rattle.mbe_tt.specs.Fragments.Grammar.{Grammar, IsLawful}
+use Rattle.mbe_tt.specs.Grammars.Grammar.{Grammar, IsLawful}
 use Rattle.mbe_semantics.specs.declared.macro_call_style.MacroCallStyle.TheVariants.{FnLike}
 use Rattle.mbe_semantics.specs.Syntax.Template.{token, nothing}
 use Rattle.mbe_semantics.specs.Syntax.Definition.{Rule}
 use Rattle.mbe_semantics.specs.Bindings.Environment.{environment_of, binding_total}
-use Rattle.mbe_semantics.specs.Expansion.Recovery.{IsClosest, IsStyledAt, GoesBefore}
+use Rattle.mbe_semantics.specs.Expansion.Recovery.{IsClosest, IsStyledAt, IsCloser}
 use Rattle.mbe_semantics.specs.Examples.Examples.{NearestExample, far_rule, near_rule, near_argument}
 use Rattle.mbe_semantics.specs.Readings.Item.{Items}
 use Rattle.mbe_semantics.specs.Readings.Ambiguity.{IsReading, Fits}
@@ -72,7 +72,7 @@ near_closest g w = record {
         f.1.0))
     bound_at (suc (suc m)) r is p f = absurd (none-some r p.0)
 
-    first_at : (m : ℕ) (r : Rule) → IsStyledAt both_rules FnLike m r → GoesBefore left_by (λ x. 0) 1 m
+    first_at : (m : ℕ) (r : Rule) → IsStyledAt both_rules FnLike m r → IsCloser left_by (λ x. 0) 1 m
     first_at zero r p = ◌⊎◌.inl (omega arith)
     first_at (suc m) r p = ◌⊎◌.inr (refl, ◌⊎◌.inr (refl, omega arith))
 
@@ -93,7 +93,7 @@ far_no g w c = go (c.first 1 near_rule (refl, refl))
     near_left = b.2 ∙ ap (unmatched near_argument)
         (one_verdict g near_rule.reads near_argument b.0 (stuck 2) b.1 (near_verdict g w))
 
-    go : GoesBefore c.left c.bound 0 1 → ⊥
+    go : IsCloser c.left c.bound 0 1 → ⊥
     go (◌⊎◌.inl h) = let x = far_left in let y = near_left in omega (arith, h, x, y)
     go (◌⊎◌.inr h) = let x = far_left in let y = near_left in let z = h.0 in omega (arith, z, x, y)
 

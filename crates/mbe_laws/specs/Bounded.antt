@@ -1,6 +1,6 @@
--- The run that holds at most two beginnings of each dot at each place.
-pub mod Dots
-pub mod TwoEach
+-- The bounded run: it keeps at most two partial readings of each state at each offset.
+pub mod States
+pub mod ClosureTwoEach
 pub mod Run
 pub mod Laws
 pub mod DeepExample

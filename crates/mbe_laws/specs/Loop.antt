@@ -1,2 +1,2 @@
--- What a program's stack gives at a place.
-pub mod Kept
+-- The bounded closure by the program's stack of threads.
+pub mod StackClosure

@@ -1,4 +1,4 @@
--- That run, where what comes to a place is looked at in another order.
+-- The bounded run where the partial readings that arrive at an offset are visited in another order.
 pub mod Order
 pub mod OrderLaws
 pub mod DropExample

@@ -1,3 +1,3 @@
--- What a match that fails reports: the first and the last of each dot.
+-- What a match that fails reports by: the first and the last partial reading of each state.
 pub mod Ends
 pub mod Backward

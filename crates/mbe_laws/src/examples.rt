@@ -1,9 +1,25 @@
-// Small definitions and arguments, and what the definitions say of them. They run nothing.
-ghost use Rattle.mbe_semantics.specs.Examples.Examples.{EndlessExample, StyledExample, PathExample, TextExample, UnboundExample, RefusedExample, TwiceExample, PunctsExample, DoubleExample, LetExample, NoRuleExample, FrontExample, ConcatExample, NearestExample, EmptyExample, CountExample, ZipExample, UnknownExample, IndexExample, ListExample};
-ghost use Rattle.mbe_semantics.specs.Examples.FurtherExamples.{FaultExamples, SignExample, PlusExample, InvisibleExample, NamesExample, MostBindingsExample, EarliestExample, MarkedExample, SpecifierExamples};
+// Worked examples: small definitions and arguments, and what the specification says about them. The
+// functions are empty: each contract states an example. A docstring shows the definition and the
+// argument.
+ghost use Rattle.mbe_semantics.specs.Examples.Examples.{EndlessExample, StyledExample, PathExample};
+ghost use Rattle.mbe_semantics.specs.Examples.Examples.{TextExample, UnboundExample};
+ghost use Rattle.mbe_semantics.specs.Examples.Examples.{RefusedExample, TwiceExample};
+ghost use Rattle.mbe_semantics.specs.Examples.Examples.{PunctsExample, DoubleExample, LetExample};
+ghost use Rattle.mbe_semantics.specs.Examples.Examples.{NoRuleExample, FrontExample, ConcatExample};
+ghost use Rattle.mbe_semantics.specs.Examples.Examples.{NearestExample, EmptyExample, CountExample};
+ghost use Rattle.mbe_semantics.specs.Examples.Examples.{ZipExample, UnknownExample, IndexExample};
+ghost use Rattle.mbe_semantics.specs.Examples.Examples.{ListExample};
+ghost use Rattle.mbe_semantics.specs.Examples.FurtherExamples.{FaultExamples, SignExample};
+ghost use Rattle.mbe_semantics.specs.Examples.FurtherExamples.{PlusExample, InvisibleExample};
+ghost use Rattle.mbe_semantics.specs.Examples.FurtherExamples.{NamesExample, MostBindingsExample};
+ghost use Rattle.mbe_semantics.specs.Examples.FurtherExamples.{EarliestExample, MarkedExample};
+ghost use Rattle.mbe_semantics.specs.Examples.FurtherExamples.{SpecifierExamples};
 ghost use Rattle.mbe_semantics.specs.Examples.LogExamples.{LogExamples, DefaultExamples};
-ghost use Rattle.mbe_tt.specs.Fragments.Grammar.{Grammar, IsLawful};
-ghost use Rattle.mbe_semantics.specs.Examples.FirstExamples.{VerdictExamples, PairExample, CastExample, OptionalExample, QuoteExample, RoundsExample, TemplateExamples, DefinitionExamples};
+ghost use Rattle.mbe_tt.specs.Grammars.Grammar.{Grammar, IsLawful};
+ghost use Rattle.mbe_semantics.specs.Examples.FirstExamples.{VerdictExamples, PairExample};
+ghost use Rattle.mbe_semantics.specs.Examples.FirstExamples.{CastExample, OptionalExample};
+ghost use Rattle.mbe_semantics.specs.Examples.FirstExamples.{QuoteExample, RoundsExample};
+ghost use Rattle.mbe_semantics.specs.Examples.FirstExamples.{TemplateExamples, DefinitionExamples};
 
 /// `($x:ident) => {$($x)*}; ($x:ident) => {$x}` on `a`.
 pub fn endless_example()
@@ -120,12 +136,12 @@ pub fn rounds_example()
     ensures { RoundsExample }
 {}
 
-/// What small templates write.
+/// The expansions of small templates.
 pub fn template_examples()
     ensures { TemplateExamples }
 {}
 
-/// Small definitions, and tokens that fit.
+/// Small definitions, and tokens that match.
 pub fn definition_examples()
     ensures { DefinitionExamples }
 {}
@@ -150,7 +166,7 @@ pub fn log_examples()
     ensures { LogExamples }
 {}
 
-/// What is written for missing variables, and what a joined identifier begins with.
+/// What the expansion has for missing variables, and which identifiers `concat` may join.
 pub fn default_examples()
     ensures { DefaultExamples }
 {}
@@ -160,7 +176,8 @@ pub fn fault_examples()
     ensures { FaultExamples }
 {}
 
-/// `(-1) => {-1}; (- 2) => {- 2}; (- 3.0) => {- 3.0}; (@$lit:literal) => {$lit}` on `@-1` and `- 1`.
+/// `(-1) => {-1}; (- 2) => {- 2}; (- 3.0) => {- 3.0}; (@$lit:literal) => {$lit}` on `@-1` and
+/// `- 1`.
 pub fn sign_example()
     ensures { SignExample }
 {}
@@ -190,12 +207,12 @@ pub fn earliest_example()
     ensures { EarliestExample }
 {}
 
-/// What is written with a marker that sets a context.
+/// Expansions with a marker that sets a syntax context.
 pub fn marked_example()
     ensures { MarkedExample }
 {}
 
-/// Which kind a specifier means, and what the grammar is asked for.
+/// Which kind a specifier means, and with which entry point the grammar is called.
 pub fn specifier_examples()
     ensures { SpecifierExamples }
 {}

@@ -1,5 +1,6 @@
-// Laws about the definitions. They run nothing.
-ghost use Rattle.mbe_semantics.specs.Laws.Laws.{OneReading, ReadingsEnd, BeginningsEndInside};
+// Laws of the specification: of readings, local ambiguity, verdicts, rounds and the log of
+// bindings. The functions are empty: each contract states a law.
+ghost use Rattle.mbe_semantics.specs.Laws.Laws.{OneReading, ReadingsEnd, PartialReadingsEndInside};
 ghost use Rattle.mbe_semantics.specs.Laws.Laws.{NeverAmbiguous, WordsNeverAmbiguous};
 ghost use Rattle.mbe_semantics.specs.Laws.Laws.{RoundsHaveValues, OneAccount};
 ghost use Rattle.mbe_semantics.specs.Laws.Laws.{ListsFitOnce, EntriesHaveAccounts, EntriesFollow};
@@ -11,79 +12,81 @@ pub fn one_reading()
     ensures { OneReading }
 {}
 
-/// A reading of the whole argument is a beginning that ends at the argument's end.
+/// A reading of the whole argument is a partial reading that ends at the end of the argument.
 pub fn readings_end()
     ensures { ReadingsEnd }
 {}
 
-/// A beginning of a reading ends in the argument.
-pub fn beginnings_end_inside()
-    ensures { BeginningsEndInside }
+/// A partial reading ends within the argument.
+pub fn partial_readings_end_inside()
+    ensures { PartialReadingsEndInside }
 {}
 
-/// A pattern without a repetition is ambiguous at no position.
+/// A pattern without a repetition has no local ambiguity at any offset.
 pub fn never_ambiguous()
     ensures { NeverAmbiguous }
 {}
 
-/// A pattern of words is ambiguous at no position.
+/// A pattern of identifiers alone has no local ambiguity at any offset.
 pub fn words_never_ambiguous()
     ensures { WordsNeverAmbiguous }
 {}
 
-/// In a kept round each name of the body leads to a value, if it leads to one outside.
+/// In every round that a repetition has, a name in its body has a value if it has one outside the
+/// repetition.
 pub fn rounds_have_values()
     ensures { RoundsHaveValues }
 {}
 
-/// A handle of a log has one account at most.
+/// A handle of a log has at most one account.
 pub fn one_account()
     ensures { OneAccount }
 {}
 
-/// A pattern that is one repetition, of a body without repetitions, is ambiguous at no position; and it has one reading at
-/// most if the body always takes a token.
+/// A pattern that is one repetition, of a body without repetitions, has no local ambiguity at any
+/// offset. It has at most one reading if the body always consumes a token.
 pub fn lists_fit_once()
     ensures { ListsFitOnce }
 {}
 
-/// What is written at the end of a list comes after what the list gives.
+/// An entry that is added at the end of a list adds its commands after those that the list gives.
 pub fn entries_follow()
     ensures { EntriesFollow }
 {}
 
-/// In a log whose entries stand for earlier ones alone, each handle whose entries are there has an account.
+/// If each entry of a log refers to earlier entries alone, every handle whose entries exist has an
+/// account.
 pub fn entries_have_accounts()
     ensures { EntriesHaveAccounts }
 {}
 
-/// A pattern and an argument have one verdict at most.
+/// A pattern and an argument have at most one verdict.
 pub fn one_verdict()
     ensures { OneVerdict }
 {}
 
-/// Each checked pattern has a verdict on each argument, by a lawful grammar, and one only.
+/// With a lawful grammar, a checked pattern has exactly one verdict on each argument.
 pub fn has_one_verdict()
     ensures { HasOneVerdict }
 {}
 
-/// An argument and a lawful grammar give a lawful input.
+/// An argument and a lawful grammar make a lawful input.
 pub fn lawful_inputs()
     ensures { LawfulInputs }
 {}
 
-/// Of a checked pattern and a lawful grammar: at each position that a run comes to, what is held are the beginnings that end
-/// there, each once, and none is missing.
+/// With a checked pattern and a lawful grammar, at each offset that a run reaches, the closure is
+/// exactly the partial readings that end there, each once.
 pub fn matcher_law()
     ensures { MatcherLaw }
 {}
 
-/// Of a checked pattern and a lawful grammar: what a run over the positions returns is the verdict.
+/// With a checked pattern and a lawful grammar, a run over the offsets returns the verdict.
 pub fn runs_are_right()
     ensures { RunsAreRight }
 {}
 
-/// What a log binds by the commands of a reading is what the reading binds.
+/// The commands of a reading bind, in a log, the same values as the reading does.
 pub fn commands_bind_alike()
     ensures { CommandsBindAlike }
 {}

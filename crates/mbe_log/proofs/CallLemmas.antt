@@ -1,35 +1,47 @@
 -- What the calls of a log do, on its lists.
-use Rattle.std.specs.Prelude.{◌≡◌, ◌≢◌, ◌<◌, ◌≤◌, ℕ, zero, suc, List, [], ◌∷◌, ◌++◌, length, take, slice_get, Some, refl}
+use Rattle.std.specs.Prelude.{◌≡◌, ◌≢◌, ◌<◌, ◌≤◌, ℕ, zero, suc, List, [], ◌∷◌, ◌++◌, length, take, slice_get, Some}
+use Rattle.std.specs.Prelude.{refl}
 use Rattle.std.proofs.Common.{arith, sym, ap, subst, ◌∙◌, ◌⊎◌, inl, inr, length-append}
-use Rattle.mbe_semantics.specs.declared.log.Part.{Part}
-use Rattle.mbe_semantics.specs.Bindings.Account.{Account, pushed, pushed_default, Command, Commands, CommandRounds, no_commands, command, no_command_rounds, command_round, Entry, RoundEntry, Log, Handle, IsIn, HasEntriesOf, Gives, GivesRounds, PartGives, PartGivesRounds, gives_nothing, gives_binding, gives_empty, gives_skip, gives_missing, gives_nested, gives_link, gives_no_rounds, gives_round, gives_linked_rounds, part_gives, part_gives_rounds, IsAccount}
-use Rattle.mbe_log.specs.Shared.{IsWhole, IsGiven, IsChanged, appended, with_list, with_round_list}
+use Rattle.mbe_semantics.specs.declared.list_prefix.ListPrefix.{ListPrefix}
+use Rattle.mbe_semantics.specs.Bindings.Account.{Account, pushed, pushed_default, Command, Commands, CommandRounds}
+use Rattle.mbe_semantics.specs.Bindings.Account.{no_commands, command, no_command_rounds, command_round, Entry}
+use Rattle.mbe_semantics.specs.Bindings.Account.{RoundEntry, Log, Handle, IsIn, HasEntriesOf, Gives, GivesRounds}
+use Rattle.mbe_semantics.specs.Bindings.Account.{PartGives, PartGivesRounds, gives_nothing, gives_binding, gives_empty}
+use Rattle.mbe_semantics.specs.Bindings.Account.{gives_skip, gives_missing, gives_nested, gives_link, gives_no_rounds}
+use Rattle.mbe_semantics.specs.Bindings.Account.{gives_round, gives_linked_rounds, part_gives, part_gives_rounds}
+use Rattle.mbe_semantics.specs.Bindings.Account.{IsAccount}
+use Rattle.mbe_log.specs.HandleChanges.{IsWhole, IsNewHandle, IsUpdatedHandle, appended, with_list, with_round_list}
 use Rattle.mbe_log.specs.Sound.{depth, command_depth, rounds_depth, IsGrounded, GivesCommand}
 use Rattle.mbe_semantics.proofs.GivesLemmas.{follow, rounds_follow}
-use Rattle.mbe_log.proofs.LogLemmas.{get-front, get-last, get-more, get-appended, take-whole, appended-same, appended-other, HasMore, more-itself, more-list, more-entry, gives, rounds, part_rounds, kept, gives_one, whole, whole_rounds}
+use Rattle.mbe_log.proofs.LogLemmas.{get-front, get-last, get-more, get-appended, take-whole, appended-same}
+use Rattle.mbe_log.proofs.LogLemmas.{appended-other, HasMore, more-itself, more-list, more-entry, gives, rounds}
+use Rattle.mbe_log.proofs.LogLemmas.{part_rounds, kept, gives_one, whole, whole_rounds}
 use Rattle.mbe_log.proofs.SeenLemmas.{take-none, deeper, deeper_rounds}
 use Rattle.mbe_log.proofs.ClientLemmas.{in_of, lists_there}
-use Rattle.mbe_log.proofs.OrderLemmas.{adds-none, adds-list, adds-entry, within, rounds-within, command-within, order-stays}
+use Rattle.mbe_log.proofs.OrderLemmas.{adds-none, adds-list, adds-entry, within, rounds-within, command-within}
+use Rattle.mbe_log.proofs.OrderLemmas.{order-stays}
 
 -- ---- the first entries of a list give something where the list does
 
-pub cut : {log : Log} {ds all : Commands} {es : List Entry} → Gives log ds es all → (n : ℕ)
+pub prefix : {log : Log} {ds all : Commands} {es : List Entry} → Gives log ds es all → (n : ℕ)
     → (mid : Commands) × Gives log ds (take n es) mid × (depth mid ≤ depth all)
-cut {log} {ds} {all} {es} h zero = (
+prefix {log} {ds} {all} {es} h zero = (
   ds,
   subst (λ x. Gives log ds x ds) (sym (take-none es)) (gives_nothing ds),
   deeper h,
 )
-cut (gives_nothing cs) (suc n) = (cs, gives_nothing cs, omega arith)
-cut (gives_binding cs name x es all h) (suc n) = let k =
-    cut h n in (k.0, gives_binding cs name x (take n es) k.0 k.1, k.2)
-cut (gives_empty cs name es all h) (suc n) = let k = cut h n in (k.0, gives_empty cs name (take n es) k.0 k.1, k.2)
-cut (gives_skip cs name es all h) (suc n) = let k = cut h n in (k.0, gives_skip cs name (take n es) k.0 k.1, k.2)
-cut (gives_missing cs name kind es all h) (suc n) = let k =
-    cut h n in (k.0, gives_missing cs name kind (take n es) k.0 k.1, k.2)
-cut (gives_nested cs finished current es rs ds all p q h) (suc n) = let k =
-    cut h n in (k.0, gives_nested cs finished current (take n es) rs ds k.0 p q k.1, k.2)
-cut (gives_link cs p es ds all q h) (suc n) = let k = cut h n in (k.0, gives_link cs p (take n es) ds k.0 q k.1, k.2)
+prefix (gives_nothing cs) (suc n) = (cs, gives_nothing cs, omega arith)
+prefix (gives_binding cs name x es all h) (suc n) = let k =
+    prefix h n in (k.0, gives_binding cs name x (take n es) k.0 k.1, k.2)
+prefix (gives_empty cs name es all h) (suc n) = let k =
+    prefix h n in (k.0, gives_empty cs name (take n es) k.0 k.1, k.2)
+prefix (gives_skip cs name es all h) (suc n) = let k = prefix h n in (k.0, gives_skip cs name (take n es) k.0 k.1, k.2)
+prefix (gives_missing cs name kind es all h) (suc n) = let k =
+    prefix h n in (k.0, gives_missing cs name kind (take n es) k.0 k.1, k.2)
+prefix (gives_nested cs finished current es rs ds all p q h) (suc n) = let k =
+    prefix h n in (k.0, gives_nested cs finished current (take n es) rs ds k.0 p q k.1, k.2)
+prefix (gives_link cs p es ds all q h) (suc n) = let k =
+    prefix h n in (k.0, gives_link cs p (take n es) ds k.0 q k.1, k.2)
 
 pub cut_rounds : {log : Log} {ds all : CommandRounds} {es : List RoundEntry} → GivesRounds log ds es all → (n : ℕ) →
     (mid : CommandRounds) × GivesRounds log ds (take n es) mid × (rounds_depth mid ≤ rounds_depth all)
@@ -42,14 +54,14 @@ cut_rounds (gives_linked_rounds rs p es qs all q h) (suc n) = let k =
     cut_rounds h n in (k.0, gives_linked_rounds rs p (take n es) qs k.0 q k.1, k.2)
 
 module _ (log : Log) (n : ℕ) (g : IsGrounded log n) where
-  pub grounded-part : (p : Part) → IsIn log.commands p
+  pub grounded-part : (p : ListPrefix) → IsIn log.commands p
       → (cs : Commands) × PartGives log no_commands p cs × (depth cs ≤ n)
   grounded-part p i =
       let a = g.commands p.list i.0 i.1 in
-      let k = cut a.1 p.first in
+      let k = prefix a.1 p.first in
       (k.0, part_gives no_commands p k.0 i.0 i.1 i.2 k.1, let b = a.2 in let c = k.2 in omega (arith, b, c))
 
-  pub grounded-rounds-part : (p : Part) → IsIn log.rounds p
+  pub grounded-rounds-part : (p : ListPrefix) → IsIn log.rounds p
       → (rs : CommandRounds) × PartGivesRounds log no_command_rounds p rs × (rounds_depth rs ≤ n)
   grounded-rounds-part p i =
       let a = g.rounds p.list i.0 i.1 in
@@ -69,10 +81,10 @@ module _ (log : Log) (n : ℕ) (g : IsGrounded log n) where
 
 -- ---- parts that are whole
 
-pub whole-in : {E : Type 0} (ess : List (List E)) (p : Part) → IsWhole ess p → IsIn ess p
+pub whole-in : {E : Type 0} (ess : List (List E)) (p : ListPrefix) → IsWhole ess p → IsIn ess p
 whole-in ess p w = (w.0, w.1, let e = w.2 in omega (arith, e))
 
-module _ (log : Log) (p : Part) where
+module _ (log : Log) (p : ListPrefix) where
   of-whole : (es : List Entry) (cs : Commands) → slice_get log.commands p.list ≡ Some es → p.first ≡ length es
       → PartGives log no_commands p cs → Gives log no_commands es cs
   of-whole es cs i w (part_gives _ _ _ fs j l h) = let k : fs ≡ es = cc in
@@ -152,7 +164,7 @@ module _ (log : Log) (es : List Entry) (fs : List RoundEntry) where
   given_entries : HasEntriesOf with_lists next_handle
   given_entries = ((es, get-last log.commands es, omega arith), (fs, get-last log.rounds fs, omega arith))
 
-  pub given : IsGiven log with_lists next_handle
+  pub given : IsNewHandle log with_lists next_handle
   given = record {
     live = lists_there with_lists next_handle given_entries;
     entries = given_entries;
@@ -215,11 +227,11 @@ module _ (log : Log) (at : ℕ) (e : Entry) where
           )
 
 -- one round by itself
-round_one : (log : Log) (rs : CommandRounds) (p : Part) (cs : Commands) → PartGives log no_commands p cs
+round_one : (log : Log) (rs : CommandRounds) (p : ListPrefix) (cs : Commands) → PartGives log no_commands p cs
     → GivesRounds log rs (RoundEntry.finishes p ∷ []) (command_round rs cs)
 round_one log rs p cs q = gives_round rs p [] cs (command_round rs cs) q (gives_no_rounds (command_round rs cs))
 
-module _ (log : Log) (at : ℕ) (p : Part) where
+module _ (log : Log) (at : ℕ) (p : ListPrefix) where
   abbrev with_round : Log
   with_round = record log { rounds = appended log.rounds at (RoundEntry.finishes p) }
 
@@ -258,12 +270,12 @@ module _ (log : Log) (at : ℕ) (p : Part) where
 -- ---- a part has one entry more
 
 -- in place at the end of its list, or in a new list, which begins with what stands for the part
-abbrev pub IsStep : {E : Type 0} → List (List E) → List (List E) → Part → Part → List E → E → Type 0
+abbrev pub IsStep : {E : Type 0} → List (List E) → List (List E) → ListPrefix → ListPrefix → List E → E → Type 0
 IsStep {E} old new p q front e =
     (IsWhole old p × (new ≡ appended old p.list e) × (q ≡ record { list = p.list; first = suc p.first }))
     ⊎ ((new ≡ old ++ (front ++ e ∷ []) ∷ []) × (q ≡ record { list = length old; first = suc (length front) }))
 
-module _ {E : Type 0} (old new : List (List E)) (p q : Part) (front : List E) (e : E) where
+module _ {E : Type 0} (old new : List (List E)) (p q : ListPrefix) (front : List E) (e : E) where
   pub step-more : IsStep old new p q front e → HasMore old new
   step-more (inl s) = subst (HasMore old) (sym s.1) (more-entry old p.list e)
   step-more (inr s) = subst (HasMore old) (sym s.0) (more-list old (front ++ e ∷ []))
@@ -294,11 +306,11 @@ module _ {E : Type 0} (old new : List (List E)) (p q : Part) (front : List E) (e
   step-whole (inl s) = let t = step-in-place s.0 s.1 s.2 in (s.0.0 ++ e ∷ [], t.0, t.1)
   step-whole (inr s) = let t = step-forked s.0 s.1 in (front ++ e ∷ [], t.0, t.1)
 
-  pub step-far : IsStep old new p q front e → (k : Part) → k.list < length old → p.list ≢ k.list → q.list ≢ k.list
+  pub step-far : IsStep old new p q front e → (k : ListPrefix) → k.list < length old → p.list ≢ k.list → q.list ≢ k.list
   step-far (inl s) k i n = λ h. n (sym (ap (λ r. r.list) s.2) ∙ h)
   step-far (inr s) k i n = λ h. let b = ap (λ r. r.list) s.1 in omega (arith, i, b, h)
 
-  pub step-still : IsStep old new p q front e → (k : Part) → p.list ≢ k.list → IsWhole old k → IsWhole new k
+  pub step-still : IsStep old new p q front e → (k : ListPrefix) → p.list ≢ k.list → IsWhole old k → IsWhole new k
   step-still (inl s) k n w = (
     w.0,
     ap (λ ess. slice_get ess k.list) s.1 ∙ appended-other old p.list k.list e n
@@ -312,7 +324,7 @@ module _ {E : Type 0} (old new : List (List E)) (p q : Part) (front : List E) (e
     w.2,
   )
 
-module _ (log : Log) (h : Handle) (more : List (List Entry)) (q : Part) (front : List Entry) (e : Entry)
+module _ (log : Log) (h : Handle) (more : List (List Entry)) (q : ListPrefix) (front : List Entry) (e : Entry)
     (s : IsStep log.commands more h.current q front e) (c : Command)
     (g : GivesCommand log e c) (f : (cs : Commands) → PartGives log no_commands h.current cs
     → Gives log no_commands front cs) where
@@ -338,7 +350,7 @@ module _ (log : Log) (h : Handle) (more : List (List Entry)) (q : Part) (front :
   step-entries : HasEntriesOf log h → HasEntriesOf with_more (record h { current = q })
   step-entries l = (whole-in more q (step-whole log.commands more h.current q front e s), l.1)
 
-  pub step-changes : HasEntriesOf log h → IsChanged log with_more h (record h { current = q }) (pushed c)
+  pub step-changes : HasEntriesOf log h → IsUpdatedHandle log with_more h (record h { current = q }) (pushed c)
   step-changes l = record {
     live = lists_there with_more (record h { current = q }) (step-entries l);
     entries = step-entries l;
@@ -372,7 +384,7 @@ module _ (log : Log) (h : Handle) (more : List (List Entry)) (q : Part) (front :
 
 -- ---- a round more, and an empty list
 
-module _ (log : Log) (h : Handle) (more : List (List RoundEntry)) (q : Part) (front : List RoundEntry)
+module _ (log : Log) (h : Handle) (more : List (List RoundEntry)) (q : ListPrefix) (front : List RoundEntry)
     (s : IsStep log.rounds more h.finished q front (RoundEntry.finishes h.current))
     (f : (rs : CommandRounds) → PartGivesRounds log no_command_rounds h.finished rs
     → GivesRounds log no_command_rounds front rs) where
@@ -414,7 +426,7 @@ module _ (log : Log) (h : Handle) (more : List (List RoundEntry)) (q : Part) (fr
     whole-in more q (step-whole log.rounds more h.finished q front (RoundEntry.finishes h.current) s),
   )
 
-  pub default-changes : HasEntriesOf log h → IsChanged log with_default h default_handle pushed_default
+  pub default-changes : HasEntriesOf log h → IsUpdatedHandle log with_default h default_handle pushed_default
   default-changes l = record {
     live = lists_there with_default default_handle default-entries;
     entries = default-entries;

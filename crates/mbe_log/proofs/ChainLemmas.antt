@@ -1,11 +1,12 @@
 -- A list that is found, and one with an entry more.
-use Rattle.std.proofs.Common.{◌≡◌, ◌<◌, ◌≤◌, ℕ, zero, suc, List, [], ◌∷◌, ◌++◌, length, Option, Some, None, sym, ◌∙◌, ap, subst, arith, get_or}
+use Rattle.std.proofs.Common.{◌≡◌, ◌<◌, ◌≤◌, ℕ, zero, suc, List, [], ◌∷◌, ◌++◌, length, Option, Some, None, sym, ◌∙◌}
+use Rattle.std.proofs.Common.{ap, subst, arith, get_or}
 use Rattle.std.specs.Prelude.{slice_get, ◌↔◌, IsTrue, nat_le, nat_lt}
 use Rattle.std.proofs.Common.{set, inl, inr}
 use Rattle.std.proofs.lemmas.Bool.Decides.{nat_tests}
 use Rattle.std.proofs.lemmas.List.{get_or-set_same}
 use Rattle.std.proofs.lemmas.Option.{slice_get-get_or}
-use Rattle.mbe_semantics.specs.declared.log.Part.{Part}
+use Rattle.mbe_semantics.specs.declared.list_prefix.ListPrefix.{ListPrefix}
 use Rattle.mbe_log.specs.Chain.{Chain, chain_len, link_to, longer, forked, IsExtended, IsWithin, link_in}
 
 pub got : {X : Type 0} (xs : List X) (i : ℕ) (x d : X) → slice_get xs i ≡ Some x → get_or xs i d ≡ x
@@ -18,13 +19,13 @@ in_range [] i x h = absurd (let e : ⊥ = cc in e)
 in_range (y ∷ xs) zero x h = omega arith
 in_range (y ∷ xs) (suc i) x h = let k = in_range xs i x h in omega (arith, k)
 
-pub link_some : (k : Option Part) (n : ℕ) (q : Part) → link_in k n ≡ Some q → k ≡ Some q
+pub link_some : (k : Option ListPrefix) (n : ℕ) (q : ListPrefix) → link_in k n ≡ Some q → k ≡ Some q
 link_some None n q h = absurd (let e : ⊥ = cc in e)
 link_some (Some p) zero q h = absurd (let e : ⊥ = cc in e)
 link_some (Some p) (suc n) q h = h
 
 module _ {T : Type 0} (lists : List (Chain T)) where
-  pub same_list : (part : Part) (l : Chain T) → IsWithin lists part → l ≡ get_or lists part.list l
+  pub same_list : (part : ListPrefix) (l : Chain T) → IsWithin lists part → l ≡ get_or lists part.list l
       → slice_get lists part.list ≡ Some l
   same_list part l w e = w.1 ∙ ap Some (sym (e ∙ got lists part.list w.0 l w.1))
 
@@ -32,16 +33,16 @@ module _ {T : Type 0} (lists : List (Chain T)) where
 
 module _ {T : Type 0} (lists : List (Chain T)) where
   -- the list of a part is there
-  pub part_there : (part : Part) → IsWithin lists part → part.list < length lists
+  pub part_there : (part : ListPrefix) → IsWithin lists part → part.list < length lists
   part_there part w = in_range lists part.list w.0 w.1
 
   -- where a part's list is found twice it is the same
-  same_found : (part : Part) (a b : Chain T) → IsWithin lists part → a ≡ get_or lists part.list a
+  same_found : (part : ListPrefix) (a b : Chain T) → IsWithin lists part → a ≡ get_or lists part.list a
       → b ≡ get_or lists part.list b → a ≡ b
   same_found part a b w e f = (e ∙ got lists part.list w.0 a w.1) ∙ sym (f ∙ got lists part.list w.0 b w.1)
 
   -- the part is within its list by that list's length
-  pub within_if : (part : Part) (l : Chain T) (n : ℕ) → part.list < length lists → l ≡ get_or lists part.list l
+  pub within_if : (part : ListPrefix) (l : Chain T) (n : ℕ) → part.list < length lists → l ≡ get_or lists part.list l
       → n ≡ chain_len l → IsTrue (nat_le part.first n) ↔ IsWithin lists part
   within_if part l n h e len =
       let there : slice_get lists part.list ≡ Some l =
@@ -54,7 +55,7 @@ module _ {T : Type 0} (lists : List (Chain T)) where
       )
 
   -- a list that isn't there has no part
-  pub within_unless : (part : Part) → length lists ≤ part.list
+  pub within_unless : (part : ListPrefix) → length lists ≤ part.list
       → IsTrue (nat_lt part.list (length lists)) ↔ IsWithin lists part
   within_unless part h = (
     λ t. absurd (let f : part.list < length lists = grind (arith, nat_tests) in omega (arith, f, h)),
@@ -62,7 +63,7 @@ module _ {T : Type 0} (lists : List (Chain T)) where
   )
 
   -- one entry more in place: the list is found to be no longer than the part, then for writing, and then for its length
-  pub extended_here : (part : Part) (short at after new : Chain T) (x : T) (len first : ℕ) → IsWithin lists part
+  pub extended_here : (part : ListPrefix) (short at after new : Chain T) (x : T) (len first : ℕ) → IsWithin lists part
       → short ≡ get_or lists part.list short → len ≡ chain_len short → len ≤ part.first
       → at ≡ get_or lists part.list at → new ≡ longer at x
       → after ≡ get_or (set lists part.list new) part.list after → first ≡ chain_len after
@@ -84,14 +85,15 @@ module _ {T : Type 0} (lists : List (Chain T)) where
       )
 
   -- the list with that link and that entry goes on from the part
-  pub forked_by : (part : Part) (at empty list : Chain T) (x : T) (link : Option Part) → link ≡ link_to part at
+  pub forked_by : (part : ListPrefix) (at empty list : Chain T) (x : T) (link : Option ListPrefix) → link
+      ≡ link_to part at
       → empty ≡ record { link = link; own = [] } → list ≡ longer empty x → list ≡ forked part at x
   forked_by part at empty list x link k e n =
-      let with : Option Part → Chain T = λ it. record { link = it; own = x ∷ [] } in
+      let with : Option ListPrefix → Chain T = λ it. record { link = it; own = x ∷ [] } in
       n ∙ (ap (λ c. longer c x) e ∙ ap with k)
 
   -- one entry more in a new list: the list is found to be longer than the part, and then for its link
-  pub extended_apart : (part : Part) (long at list : Chain T) (new : List (Chain T)) (x : T) (len count first : ℕ)
+  pub extended_apart : (part : ListPrefix) (long at list : Chain T) (new : List (Chain T)) (x : T) (len count first : ℕ)
       → IsWithin lists part → long ≡ get_or lists part.list long → len ≡ chain_len long → part.first < len
       → at ≡ get_or lists part.list at → list ≡ forked part at x → new ≡ lists ++ list ∷ []
       → count ≡ length lists → first ≡ chain_len list

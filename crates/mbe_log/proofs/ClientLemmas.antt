@@ -1,17 +1,21 @@
 -- For one who holds handles: what each call leaves of them, in one step for any number of them.
 use Rattle.std.specs.Prelude.{List, [], ◌∷◌}
 use Rattle.std.proofs.Common.{arith, sym, subst}
-use Rattle.mbe_semantics.specs.Bindings.Account.{Account, no_commands, no_command_rounds, Log, Handle, IsLive, HasEntriesOf, IsAccount, Gives, GivesRounds, gives_nothing, gives_no_rounds, part_gives, part_gives_rounds, PartGives, PartGivesRounds, Commands, CommandRounds, IsIn}
-use Rattle.mbe_semantics.specs.declared.log.Part.{Part}
-use Rattle.mbe_log.specs.Shared.{IsKept, IsEmptied}
-use Rattle.mbe_log.specs.Accounts.{Every, Held, HasAccounts}
+use Rattle.mbe_semantics.specs.Bindings.Account.{Account, no_commands, no_command_rounds, Log, Handle, IsLive}
+use Rattle.mbe_semantics.specs.Bindings.Account.{HasEntriesOf, IsAccount, Gives, GivesRounds, gives_nothing}
+use Rattle.mbe_semantics.specs.Bindings.Account.{gives_no_rounds, part_gives, part_gives_rounds, PartGives}
+use Rattle.mbe_semantics.specs.Bindings.Account.{PartGivesRounds, Commands, CommandRounds, IsIn}
+use Rattle.mbe_semantics.specs.declared.list_prefix.ListPrefix.{ListPrefix}
+use Rattle.mbe_log.specs.HandleChanges.{KeepsHandles, IsEmptied}
+use Rattle.mbe_log.specs.Accounts.{Every, HandleAccounts, HasAccounts}
 use Rattle.mbe_log.proofs.ChainLemmas.{in_range}
 use Rattle.mbe_log.proofs.SeenLemmas.{take-none}
 
-pub in_of : (log : Log) {p : Part} {ds cs : Commands} → PartGives log ds p cs → IsIn log.commands p
+pub in_of : (log : Log) {p : ListPrefix} {ds cs : Commands} → PartGives log ds p cs → IsIn log.commands p
 in_of log (part_gives ds p cs es i l h) = (es, i, l)
 
-pub in_of_rounds : (log : Log) {p : Part} {ds rs : CommandRounds} → PartGivesRounds log ds p rs → IsIn log.rounds p
+pub in_of_rounds : (log : Log) {p : ListPrefix} {ds rs : CommandRounds} → PartGivesRounds log ds p rs
+    → IsIn log.rounds p
 in_of_rounds log (part_gives_rounds ds p rs es i l h) = (es, i, l)
 
 -- who has an account has its entries
@@ -30,12 +34,12 @@ pub every : {X : Type 0} (P Q : X → Type 0) → ((x : X) → P x → Q x) → 
 every P Q f [] h = tt
 every P Q f (x ∷ xs) h = (f x h.0, every P Q f xs h.1)
 
-module _ (old new : Log) (k : IsKept old new) where
-  pub all_accounts : (held : Held) → HasAccounts old held → HasAccounts new held
+module _ (old new : Log) (k : KeepsHandles old new) where
+  pub all_accounts : (held : HandleAccounts) → HasAccounts old held → HasAccounts new held
   all_accounts held a = every (λ x. IsAccount old x.0 x.1) (λ x. IsAccount new x.0 x.1) (λ x. k.others x.0 x.1) held a
 
 -- one call after another
-pub kept-on : (old middle new : Log) → IsKept old middle → IsKept middle new → IsKept old new
+pub kept-on : (old middle new : Log) → KeepsHandles old middle → KeepsHandles middle new → KeepsHandles old new
 kept-on old middle new k l = record {
   stays = λ h a. l.stays h (k.stays h a);
   entries = λ h a. l.entries h (k.entries h a);

@@ -1,38 +1,45 @@
 -- The calls of a log, on the code's lists.
-use Rattle.std.specs.Prelude.{◌≡◌, ◌≤◌, ◌+◌, ℕ, suc, List, [], ◌∷◌, ◌++◌, length, map, slice_get, Option, Some, None, refl}
+use Rattle.std.specs.Prelude.{◌≡◌, ◌≤◌, ◌+◌, ℕ, suc, List, [], ◌∷◌, ◌++◌, length, map, slice_get, Option, Some, None}
+use Rattle.std.specs.Prelude.{refl}
 use Rattle.std.proofs.Common.{arith, sym, ap, subst, ◌∙◌, get_or}
-use Rattle.mbe_semantics.specs.declared.log.Part.{Part}
+use Rattle.mbe_semantics.specs.declared.list_prefix.ListPrefix.{ListPrefix}
 use Rattle.mbe_log.specs.declared.log.Command as code
-use Rattle.mbe_log.specs.Chain.{Chain, IsChained, IsWithin, IsExtended, chain_len, link_len, link_to, with_link, last_part}
-use Rattle.mbe_log.specs.Entries.{commands_seen, rounds_seen, first_link, first_round_link, entry_seen, log_of}
-use Rattle.mbe_semantics.specs.Bindings.Account.{Account, pushed, pushed_nested, pushed_default, Command, no_commands, no_command_rounds, command_round, Log, Handle, IsIn, HasEntriesOf, Gives, GivesRounds, IsAccount, HasOneListMore}
-use Rattle.mbe_log.specs.Shared.{IsGiven, IsChanged, IsAtEnd, IsWhole, WritesOne, WritesRound, current_len, finished_len, len_at, IsPlain}
+use Rattle.mbe_log.specs.Chain.{Chain, IsChained, IsWithin, IsExtended, chain_len, link_len, link_to, with_link}
+use Rattle.mbe_log.specs.Chain.{last_part}
+use Rattle.mbe_log.specs.LogEntries.{commands_seen, rounds_seen, first_link, first_round_link, entry_seen, log_of}
+use Rattle.mbe_semantics.specs.Bindings.Account.{Account, pushed, pushed_nested, pushed_default, Command, no_commands}
+use Rattle.mbe_semantics.specs.Bindings.Account.{no_command_rounds, command_round, Log, Handle, IsIn, HasEntriesOf}
+use Rattle.mbe_semantics.specs.Bindings.Account.{Gives, GivesRounds, IsAccount, HasOneListMore}
+use Rattle.mbe_log.specs.HandleChanges.{IsNewHandle, IsUpdatedHandle, IsAtEnd, IsWhole, WritesOne, WritesRound}
+use Rattle.mbe_log.specs.HandleChanges.{current_len, finished_len, len_at, IsPlain}
 use Rattle.mbe_log.specs.Sound.{IsSound, HasOrder, IsGrounded, GivesCommand, command_depth}
 use Rattle.mbe_log.proofs.ChainLemmas.{got}
 use Rattle.mbe_log.proofs.SeenLemmas.{map-get, get-map, commands_len, rounds_len}
-use Rattle.mbe_log.proofs.CallLemmas.{grounded-part, grounded-rounds-part, with_lists, next_handle, given, given-account, step-changes, step-grounded, default-changes, default-grounded}
-use Rattle.mbe_log.proofs.SoundLemmas.{sound-copy, seen-lists, linked, linked_rounds, plain_command, chained-more, chained-extended, at-end, step-of, step-of-rounds}
+use Rattle.mbe_log.proofs.CallLemmas.{grounded-part, grounded-rounds-part, with_lists, next_handle, given}
+use Rattle.mbe_log.proofs.CallLemmas.{given-account, step-changes, step-grounded, default-changes, default-grounded}
+use Rattle.mbe_log.proofs.SoundLemmas.{sound-copy, seen-lists, from_link, linked_rounds, plain_command, chained-more}
+use Rattle.mbe_log.proofs.SoundLemmas.{chained-extended, at-end, step-of, step-of-rounds}
 
 length-mapped : {X Y : Type 0} (f : X → Y) (xs : List X) → length (map f xs) ≡ length xs
 length-mapped f [] = refl
 length-mapped f (x ∷ xs) = ap suc (length-mapped f xs)
 
-within-at : {T : Type 0} (lists : List (Chain T)) (p : Part) (x : Chain T) → IsWithin lists p
+within-at : {T : Type 0} (lists : List (Chain T)) (p : ListPrefix) (x : Chain T) → IsWithin lists p
     → x ≡ get_or lists p.list x → slice_get lists p.list ≡ Some x
 within-at lists p x w e = w.1 ∙ ap Some (sym (e ∙ got lists p.list w.0 x w.1))
 
-module _ {A : Type 0} (C : List (Chain (code.Command A))) (R : List (Chain Part)) where
-  in-within : (p : Part) → IsIn (map commands_seen C) p → IsWithin C p
+module _ {A : Type 0} (C : List (Chain (code.Command A))) (R : List (Chain ListPrefix)) where
+  in-within : (p : ListPrefix) → IsIn (map commands_seen C) p → IsWithin C p
   in-within p i =
       let k = get-map commands_seen C p.list i.0 i.1 in
       (k.0, k.1, let a = ap length k.2 in let b = commands_len C R k.0 in let c = i.2 in omega (arith, a, b, c))
 
-  in-rounds-within : (p : Part) → IsIn (map rounds_seen R) p → IsWithin R p
+  in-rounds-within : (p : ListPrefix) → IsIn (map rounds_seen R) p → IsWithin R p
   in-rounds-within p i =
       let k = get-map rounds_seen R p.list i.0 i.1 in
       (k.0, k.1, let a = ap length k.2 in let b = rounds_len C R k.0 in let c = i.2 in omega (arith, a, b, c))
 
-  within-in : (p : Part) → IsWithin C p → IsIn (map commands_seen C) p
+  within-in : (p : ListPrefix) → IsWithin C p → IsIn (map commands_seen C) p
   within-in p w = (
     commands_seen w.0,
     map-get commands_seen C p.list w.0 w.1,
@@ -40,7 +47,7 @@ module _ {A : Type 0} (C : List (Chain (code.Command A))) (R : List (Chain Part)
         let b = w.2 in omega (arith, a, b),
   )
 
-  within-in-rounds : (p : Part) → IsWithin R p → IsIn (map rounds_seen R) p
+  within-in-rounds : (p : ListPrefix) → IsWithin R p → IsIn (map rounds_seen R) p
   within-in-rounds p w = (
     rounds_seen w.0,
     map-get rounds_seen R p.list w.0 w.1,
@@ -48,18 +55,20 @@ module _ {A : Type 0} (C : List (Chain (code.Command A))) (R : List (Chain Part)
         let b = w.2 in omega (arith, a, b),
   )
 
-  whole-len : (p : Part) (l : Chain (code.Command A)) → IsWhole (map commands_seen C) p → slice_get C p.list ≡ Some l
+  whole-len : (p : ListPrefix) (l : Chain (code.Command A)) → IsWhole (map commands_seen C) p → slice_get C p.list
+      ≡ Some l
       → p.first ≡ chain_len l
   whole-len p l w s = let a = map-get commands_seen C p.list l s in let b = w.1 in let k : w.0 ≡ commands_seen l =
       cc in w.2 ∙ ap length k ∙ commands_len C R l
 
-  whole-rounds-len : (p : Part) (l : Chain Part) → IsWhole (map rounds_seen R) p → slice_get R p.list ≡ Some l
+  whole-rounds-len : (p : ListPrefix) (l : Chain ListPrefix) → IsWhole (map rounds_seen R) p → slice_get R p.list
+      ≡ Some l
       → p.first ≡ chain_len l
   whole-rounds-len p l w s = let a = map-get rounds_seen R p.list l s in let b = w.1 in let k : w.0 ≡ rounds_seen l =
       cc in w.2 ∙ ap length k ∙ rounds_len C R l
 
   -- a handle's parts, as the code holds them
-  module _ (log : Log) (seen : log_of C R ≡ log) (current finished : Part) (h : Handle)
+  module _ (log : Log) (seen : log_of C R ≡ log) (current finished : ListPrefix) (h : Handle)
       (view : record { current = current; finished = finished } ≡ h) where
     entries_held : HasEntriesOf log h → HasEntriesOf (log_of C R) (record { current = current; finished = finished })
     entries_held l = subst (λ x. HasEntriesOf x (record { current = current; finished = finished })) (sym seen)
@@ -81,19 +90,20 @@ module _ {A : Type 0} (C : List (Chain (code.Command A))) (R : List (Chain Part)
         (subst (HasEntriesOf (log_of C R)) view (within-in current c, within-in-rounds finished r))
 
     -- one entry more
-    pub push-changes : (new : List (Chain (code.Command A))) (q : Part) (x : code.Command A)
+    pub push-changes : (new : List (Chain (code.Command A))) (q : ListPrefix) (x : code.Command A)
         → IsExtended C new current q x → HasEntriesOf log h → (c : Command) → GivesCommand log (entry_seen x) c →
-        IsChanged log (log_of new R) h (record { current = q; finished = finished }) (pushed c)
+        IsUpdatedHandle log (log_of new R) h (record { current = q; finished = finished }) (pushed c)
     push-changes new q x e l c g =
-        subst (λ k. IsChanged log (log_of new R) k (record { current = q; finished = finished }) (pushed c)) view
-        (subst (λ y. IsChanged y (log_of new R) (record { current = current; finished = finished })
+        subst (λ k. IsUpdatedHandle log (log_of new R) k (record { current = q; finished = finished }) (pushed c)) view
+        (subst (λ y. IsUpdatedHandle y (log_of new R) (record { current = current; finished = finished })
         (record { current = q; finished = finished }) (pushed c)) seen
         (step-changes (log_of C R) (record { current = current; finished = finished }) (map commands_seen new) q
         (first_link (link_to current e.0)) (entry_seen x) (step-of C R new current q x e) c
-        (subst (λ y. GivesCommand y (entry_seen x) c) (sym seen) g) (λ cs k. linked C R current e.0 cs e.1 k)
+        (subst (λ y. GivesCommand y (entry_seen x) c) (sym seen) g) (λ cs k. from_link C R current e.0 cs e.1 k)
         (entries_held l)))
 
-    pub push-sound : (n m : ℕ) (new : List (Chain (code.Command A))) (q : Part) (x : code.Command A) → IsSound C R n
+    pub push-sound : (n m : ℕ) (new : List (Chain (code.Command A))) (q : ListPrefix) (x : code.Command A)
+        → IsSound C R n
         → n ≤ m → IsExtended C new current q x → HasEntriesOf log h →
         (c : Command) → GivesCommand (log_of C R) (entry_seen x) c → command_depth c ≤ m → IsSound new R m
     push-sound n m new q x s w e l c g d = record {
@@ -101,16 +111,18 @@ module _ {A : Type 0} (C : List (Chain (code.Command A))) (R : List (Chain Part)
       round_links = s.round_links;
       grounded = step-grounded (log_of C R) (record { current = current; finished = finished }) (map commands_seen new)
           q (first_link (link_to current e.0)) (entry_seen x) (step-of C R new current q x e)
-          c g (λ cs k. linked C R current e.0 cs e.1 k) n m s.grounded w d (entries_held l).0;
+          c g (λ cs k. from_link C R current e.0 cs e.1 k) n m s.grounded w d (entries_held l).0;
     }
 
-    pub plain-sound : (n : ℕ) (new : List (Chain (code.Command A))) (q : Part) (x : code.Command A) → IsSound C R n
+    pub plain-sound : (n : ℕ) (new : List (Chain (code.Command A))) (q : ListPrefix) (x : code.Command A)
+        → IsSound C R n
         → IsExtended C new current q x → HasEntriesOf log h → IsPlain (entry_seen x) → IsSound new R n
     plain-sound n new q x s e l p = let k =
         plain_command C R x p in push-sound n n new q x s (omega arith) e l k.0 k.1 (let z = k.2 in omega (arith, z))
 
     -- a nested command, whose child has these parts
-    pub nested-sound : (n m : ℕ) (new : List (Chain (code.Command A))) (q : Part) (child-current child-finished : Part)
+    pub nested-sound : (n m : ℕ) (new : List (Chain (code.Command A))) (q : ListPrefix)
+        (child-current child-finished : ListPrefix)
         → IsSound C R n → m ≡ n + 1 →
         IsExtended C new current q (code.TheVariants.Nested child-finished child-current) → HasEntriesOf log h
         → IsIn (map commands_seen C) child-current → IsIn (map rounds_seen R) child-finished → IsSound new R m
@@ -121,10 +133,10 @@ module _ {A : Type 0} (C : List (Chain (code.Command A))) (R : List (Chain Part)
         (Command.nests (command_round r.0 p.0)) (r.0, p.0, r.1, p.1, refl)
         (let f = p.2 in let g = r.2 in omega (arith, w, f, g))
 
-    pub nested-changes : (new : List (Chain (code.Command A))) (q cc cf : Part) (child : Handle)
+    pub nested-changes : (new : List (Chain (code.Command A))) (q cc cf : ListPrefix) (child : Handle)
         → record { current = cc; finished = cf } ≡ child →
         IsExtended C new current q (code.TheVariants.Nested cf cc) → HasEntriesOf log h → (b : Account)
-        → IsAccount log child b → IsChanged log (log_of new R) h (record { current = q; finished = finished })
+        → IsAccount log child b → IsUpdatedHandle log (log_of new R) h (record { current = q; finished = finished })
         (λ a. pushed_nested a b)
     nested-changes new q cc cf child v e l b k =
         let m = subst (λ x. IsAccount log x b) (sym v) k in
@@ -138,19 +150,21 @@ module _ {A : Type 0} (C : List (Chain (code.Command A))) (R : List (Chain Part)
     child-finished l = (entries_held l).1
 
     -- a finished round
-    pub default-changed : (D : List (Chain (code.Command A))) (S : List (Chain Part)) (q : Part) (i : ℕ)
+    pub default-changed : (D : List (Chain (code.Command A))) (S : List (Chain ListPrefix)) (q : ListPrefix) (i : ℕ)
         → D ≡ C ++ record { link = None; own = [] } ∷ [] → i ≡ length C → IsExtended R S finished q current
         → HasEntriesOf log h →
-        IsChanged log (log_of D S) h (record { current = record { list = i; first = 0 }; finished = q }) pushed_default
+        IsUpdatedHandle log (log_of D S) h (record { current = record { list = i; first = 0 }; finished = q })
+        pushed_default
     default-changed D S q i d j e l =
-        subst (λ k. IsChanged log (log_of D S) k (record { current = record { list = i; first = 0 }; finished = q })
+        subst (λ k. IsUpdatedHandle log (log_of D S) k
+        (record { current = record { list = i; first = 0 }; finished = q })
         pushed_default) view
-        (subst (λ y. IsChanged y (log_of D S) (record { current = current; finished = finished })
+        (subst (λ y. IsUpdatedHandle y (log_of D S) (record { current = current; finished = finished })
         (record { current = record { list = i; first = 0 }; finished = q }) pushed_default) seen
-        (subst (λ y. IsChanged (log_of C R) y (record { current = current; finished = finished })
+        (subst (λ y. IsUpdatedHandle (log_of C R) y (record { current = current; finished = finished })
         (record { current = record { list = i; first = 0 }; finished = q }) pushed_default)
         (ap (λ x. record { commands = x; rounds = map rounds_seen S }) (sym (default_commands D d)))
-        (subst (λ n. IsChanged (log_of C R) (record {
+        (subst (λ n. IsUpdatedHandle (log_of C R) (record {
           commands = map commands_seen C
               ++ [] ∷ [];
           rounds = map rounds_seen S;
@@ -165,7 +179,7 @@ module _ {A : Type 0} (C : List (Chain (code.Command A))) (R : List (Chain Part)
             → map commands_seen D ≡ map commands_seen C ++ [] ∷ []
         default_commands D d = ap (map commands_seen) d ∙ ap (λ x. x.commands) (seen-lists C R None None)
 
-    pub default-sound : (n : ℕ) (D : List (Chain (code.Command A))) (S : List (Chain Part)) (q : Part)
+    pub default-sound : (n : ℕ) (D : List (Chain (code.Command A))) (S : List (Chain ListPrefix)) (q : ListPrefix)
         → D ≡ C ++ record { link = None; own = [] } ∷ [] → IsExtended R S finished q current → HasEntriesOf log h →
         IsSound C R n → IsSound D S n
     default-sound n D S q d e l k = record {
@@ -200,13 +214,13 @@ module _ {A : Type 0} (C : List (Chain (code.Command A))) (R : List (Chain Part)
     at_end_held l = subst (λ x. IsAtEnd x (record { current = current; finished = finished })) (sym seen)
         (subst (IsAtEnd log) (sym view) l)
 
-    pub push-writes : (new : List (Chain (code.Command A))) (q : Part) (x : code.Command A)
+    pub push-writes : (new : List (Chain (code.Command A))) (q : ListPrefix) (x : code.Command A)
         → IsExtended C new current q x → WritesOne log h (record { current = q; finished = finished })
     push-writes new q x e w =
         subst (λ k. (q ≡ record { list = k.current.list; first = k.current.first + 1 }) × (finished ≡ k.finished)) view
         (at-end C new current q x e (whole-len current e.0 (at_end_held w).0 e.1), refl)
 
-    pub default-writes : (S : List (Chain Part)) (q x : Part) (i : ℕ) → IsExtended R S finished q x
+    pub default-writes : (S : List (Chain ListPrefix)) (q x : ListPrefix) (i : ℕ) → IsExtended R S finished q x
         → WritesRound log h (record { current = record { list = i; first = 0 }; finished = q })
     default-writes S q x i e w = (
       refl,
@@ -215,11 +229,11 @@ module _ {A : Type 0} (C : List (Chain (code.Command A))) (R : List (Chain Part)
     )
 
     -- a copy, which links to what is there
-    module _ (l : Chain (code.Command A)) (r : Chain Part) (live : HasEntriesOf log h)
+    module _ (l : Chain (code.Command A)) (r : Chain ListPrefix) (live : HasEntriesOf log h)
         (at : l ≡ get_or C current.list l) (round_at : r ≡ get_or R finished.list r)
-        (link round_link : Option Part) (is : link ≡ link_to current l)
+        (link round_link : Option ListPrefix) (is : link ≡ link_to current l)
         (round_is : round_link ≡ link_to finished r) where
-      pub copy-sound : (n : ℕ) (D : List (Chain (code.Command A))) (S : List (Chain Part)) → IsSound C R n
+      pub copy-sound : (n : ℕ) (D : List (Chain (code.Command A))) (S : List (Chain ListPrefix)) → IsSound C R n
           → D ≡ with_link C link → S ≡ with_link R round_link → IsSound D S n
       copy-sound n D S s d e =
           subst (λ x. IsSound x S n) (sym (d ∙ ap (with_link C) is))
@@ -233,34 +247,35 @@ module _ {A : Type 0} (C : List (Chain (code.Command A))) (R : List (Chain Part)
           × GivesRounds (log_of C R) no_command_rounds (first_round_link round_link) a.finished
       copy-gives a k = let m = account_held a k in (
         subst (λ x. Gives (log_of C R) no_commands (first_link x) a.current) (sym is)
-            (linked C R current l a.current (within-at C current l (current_within live) at) m.current),
+            (from_link C R current l a.current (within-at C current l (current_within live) at) m.current),
         subst (λ x. GivesRounds (log_of C R) no_command_rounds (first_round_link x) a.finished) (sym round_is)
             (linked_rounds C R finished r a.finished (within-at R finished r (finished_within live) round_at)
             m.finished),
       )
 
 -- the order of a log, as clients see it
-pub order-seen : {A : Type 0} (C : List (Chain (code.Command A))) (R : List (Chain Part)) (log : Log) (n : ℕ)
+pub order-seen : {A : Type 0} (C : List (Chain (code.Command A))) (R : List (Chain ListPrefix)) (log : Log) (n : ℕ)
     → log_of C R ≡ log → IsSound C R n → HasOrder log
 order-seen C R log n seen s = subst HasOrder seen s.grounded.ordered
 
-link-few : (k : Option Part) → link_len k ≤ 3
+link-few : (k : Option ListPrefix) → link_len k ≤ 3
 link-few None = omega arith
 link-few (Some p) = omega arith
 
 -- ---- two lists more
 
-module _ {A : Type 0} (C : List (Chain (code.Command A))) (R : List (Chain Part)) (log : Log) (seen : log_of C R ≡ log)
-    (l r : Option Part) (D : List (Chain (code.Command A))) (S : List (Chain Part))
+module _ {A : Type 0} (C : List (Chain (code.Command A))) (R : List (Chain ListPrefix)) (log : Log) (seen : log_of C R
+    ≡ log)
+    (l r : Option ListPrefix) (D : List (Chain (code.Command A))) (S : List (Chain ListPrefix))
     (d : D ≡ with_link C l) (e : S ≡ with_link R r) where
   new_log : log_of D S ≡ with_lists (log_of C R) (first_link l) (first_round_link r)
   new_log = ap (λ x. log_of x S) d ∙ ap (log_of (C ++ record { link = l; own = [] } ∷ [])) e ∙ seen-lists C R l r
 
-  link_short : (k : Option Part) → length (first_link k) ≤ 3
+  link_short : (k : Option ListPrefix) → length (first_link k) ≤ 3
   link_short None = omega arith
   link_short (Some p) = omega arith
 
-  round_link_short : (k : Option Part) → length (first_round_link k) ≤ 3
+  round_link_short : (k : Option ListPrefix) → length (first_round_link k) ≤ 3
   round_link_short None = omega arith
   round_link_short (Some p) = omega arith
 
@@ -280,15 +295,15 @@ module _ {A : Type 0} (C : List (Chain (code.Command A))) (R : List (Chain Part)
         ∙ ap (λ x. x.rounds ++ first_round_link r ∷ []) seen,
   )
 
-  first_len : (k : Option Part) → length (first_link k) ≡ link_len k
+  first_len : (k : Option ListPrefix) → length (first_link k) ≡ link_len k
   first_len None = refl
   first_len (Some p) = refl
 
-  first_round_len : (k : Option Part) → length (first_round_link k) ≡ link_len k
+  first_round_len : (k : Option ListPrefix) → length (first_round_link k) ≡ link_len k
   first_round_len None = refl
   first_round_len (Some p) = refl
 
-  part_is : (p : Part) (n m : ℕ) → p.list ≡ n → p.first ≡ m → p ≡ record { list = n; first = m }
+  part_is : (p : ListPrefix) (n m : ℕ) → p.list ≡ n → p.first ≡ m → p ≡ record { list = n; first = m }
   part_is p n m a b = ap (λ x. record { list = x; first = p.first }) a ∙ ap (λ x. record { list = n; first = x }) b
 
   current_is : record { list = length (map commands_seen C); first = length (first_link l) } ≡ last_part C l
@@ -307,11 +322,12 @@ module _ {A : Type 0} (C : List (Chain (code.Command A))) (R : List (Chain Part)
     }) current_is
         ∙ ap (λ p. record { current = last_part C l; finished = p }) finished_is ∙ sym is
 
-    pub lists-given : IsGiven log (log_of D S) h
+    pub lists-given : IsNewHandle log (log_of D S) h
     lists-given =
-        subst (λ x. IsGiven x (log_of D S) h) seen
-        (subst (λ x. IsGiven (log_of C R) x h) (sym new_log)
-        (subst (λ k. IsGiven (log_of C R) (with_lists (log_of C R) (first_link l) (first_round_link r)) k) new_handle
+        subst (λ x. IsNewHandle x (log_of D S) h) seen
+        (subst (λ x. IsNewHandle (log_of C R) x h) (sym new_log)
+        (subst (λ k. IsNewHandle (log_of C R) (with_lists (log_of C R) (first_link l) (first_round_link r)) k)
+        new_handle
         (given (log_of C R) (first_link l) (first_round_link r))))
 
     pub lists-account : (a : Account) → Gives (log_of C R) no_commands (first_link l) a.current

@@ -1,9 +1,14 @@
 -- What stays and what changes when a log grows.
-use Rattle.std.specs.Prelude.{◌≡◌, ◌≢◌, ◌<◌, ◌≤◌, ℕ, zero, suc, List, [], ◌∷◌, ◌++◌, length, take, slice_get, Some, refl}
+use Rattle.std.specs.Prelude.{◌≡◌, ◌≢◌, ◌<◌, ◌≤◌, ℕ, zero, suc, List, [], ◌∷◌, ◌++◌, length, take, slice_get, Some}
+use Rattle.std.specs.Prelude.{refl}
 use Rattle.std.proofs.Common.{arith, sym, ap, subst, ◌∙◌, ◌⊎◌, inl, inr, append-nil, length-append}
-use Rattle.mbe_semantics.specs.declared.log.Part.{Part}
-use Rattle.mbe_semantics.specs.Bindings.Account.{Command, Commands, CommandRounds, command, Entry, RoundEntry, Log, IsIn, Gives, GivesRounds, PartGives, PartGivesRounds, gives_nothing, gives_binding, gives_empty, gives_skip, gives_missing, gives_nested, gives_link, gives_no_rounds, gives_round, gives_linked_rounds, part_gives, part_gives_rounds}
-use Rattle.mbe_log.specs.Shared.{IsKept, appended}
+use Rattle.mbe_semantics.specs.declared.list_prefix.ListPrefix.{ListPrefix}
+use Rattle.mbe_semantics.specs.Bindings.Account.{Command, Commands, CommandRounds, command, Entry, RoundEntry, Log}
+use Rattle.mbe_semantics.specs.Bindings.Account.{IsIn, Gives, GivesRounds, PartGives, PartGivesRounds, gives_nothing}
+use Rattle.mbe_semantics.specs.Bindings.Account.{gives_binding, gives_empty, gives_skip, gives_missing, gives_nested}
+use Rattle.mbe_semantics.specs.Bindings.Account.{gives_link, gives_no_rounds, gives_round, gives_linked_rounds}
+use Rattle.mbe_semantics.specs.Bindings.Account.{part_gives, part_gives_rounds}
+use Rattle.mbe_log.specs.HandleChanges.{KeepsHandles, appended}
 use Rattle.mbe_log.specs.Sound.{GivesCommand}
 use Rattle.mbe_log.proofs.ChainLemmas.{in_range}
 
@@ -121,7 +126,7 @@ more-entry {E} ess i e = record { more = λ j es h. go j es h (same_or_not i j) 
     )
     go j es h (inr n) = ([], appended-other ess i j e n ∙ h ∙ ap Some (sym (append-nil es)))
 
-pub in-more : {E : Type 0} {old new : List (List E)} → HasMore old new → (p : Part) → IsIn old p → IsIn new p
+pub in-more : {E : Type 0} {old new : List (List E)} → HasMore old new → (p : ListPrefix) → IsIn old p → IsIn new p
 in-more m p i = let k = m.more p.list i.0 i.1 in
     (i.0 ++ k.0, k.1, let l = length-append i.0 k.0 in let b = i.2 in omega (arith, l, b))
 
@@ -151,20 +156,21 @@ module _ (old new : Log) (c : HasMore old.commands new.commands) (r : HasMore ol
     rounds (gives_round rs p es cs all q h) = gives_round rs p es cs all (part q) (rounds h)
     rounds (gives_linked_rounds rs p es qs all q h) = gives_linked_rounds rs p es qs all (part_rounds q) (rounds h)
 
-    pub part : {cs all : Commands} {p : Part} → PartGives old cs p all → PartGives new cs p all
+    pub part : {cs all : Commands} {p : ListPrefix} → PartGives old cs p all → PartGives new cs p all
     part (part_gives cs p all es e l h) =
         let m = c.more p.list es e in
         part_gives cs p all (es ++ m.0) m.1 (let k = length-append es m.0 in omega (arith, l, k))
         (subst (λ x. Gives new cs x all) (sym (take-front p.first es m.0 l)) (gives h))
 
-    pub part_rounds : {rs all : CommandRounds} {p : Part} → PartGivesRounds old rs p all → PartGivesRounds new rs p all
+    pub part_rounds : {rs all : CommandRounds} {p : ListPrefix} → PartGivesRounds old rs p all
+        → PartGivesRounds new rs p all
     part_rounds (part_gives_rounds rs p all es e l h) =
         let m = r.more p.list es e in
         part_gives_rounds rs p all (es ++ m.0) m.1 (let k = length-append es m.0 in omega (arith, l, k))
         (subst (λ x. GivesRounds new rs x all) (sym (take-front p.first es m.0 l)) (rounds h))
 
   -- all handles are as they were
-  pub kept : IsKept old new
+  pub kept : KeepsHandles old new
   kept = record {
     stays = λ k l. (
       let a = l.0 in let b = longer c in omega (arith, a, b),

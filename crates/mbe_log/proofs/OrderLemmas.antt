@@ -1,10 +1,15 @@
 -- A log that grows stays in the order of writing: what is written stands for what was there.
-use Rattle.std.specs.Prelude.{◌≡◌, ◌<◌, ◌+◌, ℕ, zero, suc, List, [], ◌∷◌, ◌++◌, length, slice_get, Option, Some, None, refl}
+use Rattle.std.specs.Prelude.{◌≡◌, ◌<◌, ◌+◌, ℕ, zero, suc, List, [], ◌∷◌, ◌++◌, length, slice_get, Option, Some, None}
+use Rattle.std.specs.Prelude.{refl}
 use Rattle.std.proofs.Common.{arith, sym, ap, subst, ◌∙◌, ◌⊎◌, inl, inr}
-use Rattle.mbe_semantics.specs.declared.log.Part.{Part}
-use Rattle.mbe_semantics.specs.Bindings.Account.{Command, Commands, CommandRounds, Entry, RoundEntry, Log, Order, IsIn, Gives, GivesRounds, gives_nothing, gives_binding, gives_empty, gives_skip, gives_missing, gives_nested, gives_link, gives_no_rounds, gives_round, gives_linked_rounds, IsBelow, AreRoundsBelow, NamesLower, RoundNamesLower, IsOrdered}
+use Rattle.mbe_semantics.specs.declared.list_prefix.ListPrefix.{ListPrefix}
+use Rattle.mbe_semantics.specs.Bindings.Account.{Command, Commands, CommandRounds, Entry, RoundEntry, Log, Order, IsIn}
+use Rattle.mbe_semantics.specs.Bindings.Account.{Gives, GivesRounds, gives_nothing, gives_binding, gives_empty}
+use Rattle.mbe_semantics.specs.Bindings.Account.{gives_skip, gives_missing, gives_nested, gives_link, gives_no_rounds}
+use Rattle.mbe_semantics.specs.Bindings.Account.{gives_round, gives_linked_rounds, IsBelow, AreRoundsBelow, NamesLower}
+use Rattle.mbe_semantics.specs.Bindings.Account.{RoundNamesLower, IsOrdered}
 use Rattle.mbe_log.specs.Accounts.{Every}
-use Rattle.mbe_log.specs.Shared.{appended}
+use Rattle.mbe_log.specs.HandleChanges.{appended}
 use Rattle.mbe_log.specs.Sound.{HasOrder, GivesCommand}
 use Rattle.mbe_log.proofs.ClientLemmas.{in_of, in_of_rounds}
 use Rattle.mbe_log.proofs.LogLemmas.{get-more, there, get-appended, HasMore, in-more}
@@ -163,7 +168,7 @@ module _ (old new : Log) (order : Order) (o : IsOrdered old order) (c : HasMore 
     rounds = λ i j. numbered (entry_in old.rounds i j) (order.rounds i j);
   }
 
-  below : (n : ℕ) (p : Part) → IsIn old.commands p
+  below : (n : ℕ) (p : ListPrefix) → IsIn old.commands p
       → ((j : ℕ) (e : Entry) → j < p.first → entry_in old.commands p.list j ≡ Some e → order.commands p.list j < n)
       → IsBelow new later n p
   below n p i b = (in-more c p i, λ j l. go j l)
@@ -176,7 +181,7 @@ module _ (old new : Log) (order : Order) (o : IsOrdered old order) (c : HasMore 
           ap (λ x. numbered x (order.commands p.list j)) f in
           let a = b j t.0 l f in omega (arith, s, a)
 
-  rounds_below : (n : ℕ) (p : Part) → IsIn old.rounds p
+  rounds_below : (n : ℕ) (p : ListPrefix) → IsIn old.rounds p
       → ((j : ℕ) (e : RoundEntry) → j < p.first → entry_in old.rounds p.list j ≡ Some e → order.rounds p.list j < n)
       → AreRoundsBelow new later n p
   rounds_below n p i b = (in-more r p i, λ j l. go j l)
@@ -189,16 +194,16 @@ module _ (old new : Log) (order : Order) (o : IsOrdered old order) (c : HasMore 
           let a = b j t.0 l f in omega (arith, s, a)
 
   -- what was below a number is so still, and all that was there is below the latest
-  still : (n : ℕ) (p : Part) → IsBelow old order n p → IsBelow new later n p
+  still : (n : ℕ) (p : ListPrefix) → IsBelow old order n p → IsBelow new later n p
   still n p b = below n p b.0 (λ j e l f. b.1 j l)
 
-  rounds_still : (n : ℕ) (p : Part) → AreRoundsBelow old order n p → AreRoundsBelow new later n p
+  rounds_still : (n : ℕ) (p : ListPrefix) → AreRoundsBelow old order n p → AreRoundsBelow new later n p
   rounds_still n p b = rounds_below n p b.0 (λ j e l f. b.1 j l)
 
-  before : (p : Part) → IsIn old.commands p → IsBelow new later latest p
+  before : (p : ListPrefix) → IsIn old.commands p → IsBelow new later latest p
   before p i = below latest p i (λ j e l f. let a = commands_above.1 p.list j e f in omega (arith, a))
 
-  rounds_before : (p : Part) → IsIn old.rounds p → AreRoundsBelow new later latest p
+  rounds_before : (p : ListPrefix) → IsIn old.rounds p → AreRoundsBelow new later latest p
   rounds_before p i = rounds_below latest p i (λ j e l f. let a = rounds_above.1 p.list j e f in omega (arith, a))
 
   still_lower : (n : ℕ) (e : Entry) → NamesLower old order n e → NamesLower new later n e

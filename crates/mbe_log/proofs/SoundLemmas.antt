@@ -1,13 +1,18 @@
 -- The lists of a log stay sound.
-use Rattle.std.specs.Prelude.{◌≡◌, ◌<◌, ◌≤◌, ◌+◌, ℕ, zero, suc, List, [], ◌∷◌, ◌++◌, length, map, take, slice_get, Option, Some, None, refl}
+use Rattle.std.specs.Prelude.{◌≡◌, ◌<◌, ◌≤◌, ◌+◌, ℕ, zero, suc, List, [], ◌∷◌, ◌++◌, length, map, take, slice_get}
+use Rattle.std.specs.Prelude.{Option, Some, None, refl}
 use Rattle.std.proofs.Common.{arith, sym, ap, subst, ◌∙◌, ◌⊎◌, inl, inr, append-nil, length-append, append_assoc, set}
 use Rattle.std.proofs.lemmas.List.{map-append}
-use Rattle.mbe_semantics.specs.declared.log.Part.{Part}
+use Rattle.mbe_semantics.specs.declared.list_prefix.ListPrefix.{ListPrefix}
 use Rattle.mbe_log.specs.declared.log.Command as code
-use Rattle.mbe_log.specs.Chain.{Chain, IsChained, IsWithin, IsExtended, chain_len, link_len, link_in, own_in, link_or, link_to, longer, forked}
-use Rattle.mbe_log.specs.Entries.{commands_seen, rounds_seen, first_link, first_round_link, entry_seen, log_of}
-use Rattle.mbe_semantics.specs.Bindings.Account.{Command, Commands, CommandRounds, no_commands, no_command_rounds, Entry, RoundEntry, Log, Handle, HasEntriesOf, Gives, GivesRounds, PartGives, PartGivesRounds, gives_nothing, gives_link, gives_no_rounds, gives_linked_rounds, part_gives, part_gives_rounds}
-use Rattle.mbe_log.specs.Shared.{appended, IsPlain}
+use Rattle.mbe_log.specs.Chain.{Chain, IsChained, IsWithin, IsExtended, chain_len, link_len, link_in, own_in, link_or}
+use Rattle.mbe_log.specs.Chain.{link_to, longer, forked}
+use Rattle.mbe_log.specs.LogEntries.{commands_seen, rounds_seen, first_link, first_round_link, entry_seen, log_of}
+use Rattle.mbe_semantics.specs.Bindings.Account.{Command, Commands, CommandRounds, no_commands, no_command_rounds}
+use Rattle.mbe_semantics.specs.Bindings.Account.{Entry, RoundEntry, Log, Handle, HasEntriesOf, Gives, GivesRounds}
+use Rattle.mbe_semantics.specs.Bindings.Account.{PartGives, PartGivesRounds, gives_nothing, gives_link, gives_no_rounds}
+use Rattle.mbe_semantics.specs.Bindings.Account.{gives_linked_rounds, part_gives, part_gives_rounds}
+use Rattle.mbe_log.specs.HandleChanges.{appended, IsPlain}
 use Rattle.mbe_log.specs.Sound.{depth, command_depth, rounds_depth, IsGrounded, IsSound, GivesCommand}
 use Rattle.mbe_log.proofs.ChainLemmas.{in_range, link_some}
 use Rattle.mbe_log.proofs.LogLemmas.{get-front, get-more}
@@ -36,12 +41,13 @@ sound-none {A} = record {
 -- ---- links
 
 module _ {T : Type 0} where
-  within-more : (lists : List (Chain T)) (l : Chain T) (p : Part) → IsWithin lists p → IsWithin (lists ++ l ∷ []) p
+  within-more : (lists : List (Chain T)) (l : Chain T) (p : ListPrefix) → IsWithin lists p
+      → IsWithin (lists ++ l ∷ []) p
   within-more lists l p w = (w.0, get-front lists (l ∷ []) p.list w.0 w.1, w.2)
 
   -- one list more, whose link goes to one of the others
   pub chained-more : (lists : List (Chain T)) (l : Chain T) → IsChained lists
-      → ((p : Part) → l.link ≡ Some p → (p.list < length lists) × IsWithin lists p) → IsChained (lists ++ l ∷ [])
+      → ((p : ListPrefix) → l.link ≡ Some p → (p.list < length lists) × IsWithin lists p) → IsChained (lists ++ l ∷ [])
   chained-more lists l ch new i k p h e = go (get-more lists l k i h)
     where
       go : (slice_get lists i ≡ Some k) ⊎ ((i ≡ length lists) × (l ≡ k)) → (p.list < i) × IsWithin (lists ++ l ∷ []) p
@@ -51,8 +57,8 @@ module _ {T : Type 0} where
           (let u = a.0 in let v = s.0 in omega (arith, u, v), within-more lists l p a.1)
 
   -- where the link to a part goes
-  pub link_to-within : (lists : List (Chain T)) (p : Part) (l : Chain T) → IsChained lists
-      → slice_get lists p.list ≡ Some l → IsWithin lists p → (q : Part) → link_to p l ≡ Some q →
+  pub link_to-within : (lists : List (Chain T)) (p : ListPrefix) (l : Chain T) → IsChained lists
+      → slice_get lists p.list ≡ Some l → IsWithin lists p → (q : ListPrefix) → link_to p l ≡ Some q →
       (q.list < length lists) × IsWithin lists q
   link_to-within lists p l ch s w q h = go (own_in l.link p.first) h
     where
@@ -65,7 +71,7 @@ module _ {T : Type 0} where
 -- ---- what stands for a part gives the same
 
 -- a part without entries of its own
-front_of : {A : Type 0} (k : Option Part) (own : List (code.Command A)) (n : ℕ) → own_in k n ≡ 0
+front_of : {A : Type 0} (k : Option ListPrefix) (own : List (code.Command A)) (n : ℕ) → own_in k n ≡ 0
     → take n (first_link k ++ map entry_seen own) ≡ first_link (link_in k n)
 front_of None own zero h = take-none (map entry_seen own)
 front_of None own (suc n) h = absurd (omega (arith, h))
@@ -74,7 +80,7 @@ front_of (Some p) own (suc n) h =
     let m : n ≡ 0 = omega (arith, h) in ap (λ j. Entry.links p ∷ take j (map entry_seen own)) m
     ∙ ap (λ t. Entry.links p ∷ t) (take-none (map entry_seen own))
 
-front_of_rounds : (k : Option Part) (own : List Part) (n : ℕ) → own_in k n ≡ 0
+front_of_rounds : (k : Option ListPrefix) (own : List ListPrefix) (n : ℕ) → own_in k n ≡ 0
     → take n (first_round_link k ++ map RoundEntry.finishes own) ≡ first_round_link (link_in k n)
 front_of_rounds None own zero h = take-none (map RoundEntry.finishes own)
 front_of_rounds None own (suc n) h = absurd (omega (arith, h))
@@ -84,22 +90,23 @@ front_of_rounds (Some p) own (suc n) h =
     ap (λ j. RoundEntry.links p ∷ take j (map RoundEntry.finishes own)) m
     ∙ ap (λ t. RoundEntry.links p ∷ t) (take-none (map RoundEntry.finishes own))
 
-entries_of_part : (log : Log) {p : Part} {cs : Commands} (es : List Entry) → slice_get log.commands p.list ≡ Some es
+entries_of_part : (log : Log) {p : ListPrefix} {cs : Commands} (es : List Entry) → slice_get log.commands p.list
+    ≡ Some es
     → PartGives log no_commands p cs → Gives log no_commands (take p.first es) cs
 entries_of_part log {p} {cs} es i (part_gives _ _ _ fs j l h) = let k : fs ≡ es =
     cc in subst (λ x. Gives log no_commands (take p.first x) cs) k h
 
-rounds_of_part : (log : Log) {p : Part} {rs : CommandRounds} (es : List RoundEntry)
+rounds_of_part : (log : Log) {p : ListPrefix} {rs : CommandRounds} (es : List RoundEntry)
     → slice_get log.rounds p.list ≡ Some es → PartGivesRounds log no_command_rounds p rs →
     GivesRounds log no_command_rounds (take p.first es) rs
 rounds_of_part log {p} {rs} es i (part_gives_rounds _ _ _ fs j l h) = let k : fs ≡ es =
     cc in subst (λ x. GivesRounds log no_command_rounds (take p.first x) rs) k h
 
-module _ {A : Type 0} (C : List (Chain (code.Command A))) (R : List (Chain Part)) where
-  pub linked : (p : Part) (l : Chain (code.Command A)) (cs : Commands) → slice_get C p.list ≡ Some l
+module _ {A : Type 0} (C : List (Chain (code.Command A))) (R : List (Chain ListPrefix)) where
+  pub from_link : (p : ListPrefix) (l : Chain (code.Command A)) (cs : Commands) → slice_get C p.list ≡ Some l
       → PartGives (log_of C R) no_commands p cs →
       Gives (log_of C R) no_commands (first_link (link_to p l)) cs
-  linked p l cs s h = go (own_in l.link p.first) refl
+  from_link p l cs s h = go (own_in l.link p.first) refl
     where
       go : (n : ℕ) → own_in l.link p.first ≡ n
           → Gives (log_of C R) no_commands (first_link (link_or p n (link_in l.link p.first))) cs
@@ -107,7 +114,7 @@ module _ {A : Type 0} (C : List (Chain (code.Command A))) (R : List (Chain Part)
           (entries_of_part (log_of C R) (commands_seen l) (map-get commands_seen C p.list l s) h)
       go (suc n) e = gives_link no_commands p [] cs cs h (gives_nothing cs)
 
-  pub linked_rounds : (p : Part) (l : Chain Part) (rs : CommandRounds) → slice_get R p.list ≡ Some l
+  pub linked_rounds : (p : ListPrefix) (l : Chain ListPrefix) (rs : CommandRounds) → slice_get R p.list ≡ Some l
       → PartGivesRounds (log_of C R) no_command_rounds p rs →
       GivesRounds (log_of C R) no_command_rounds (first_round_link (link_to p l)) rs
   linked_rounds p l rs s h = go (own_in l.link p.first) refl
@@ -120,7 +127,7 @@ module _ {A : Type 0} (C : List (Chain (code.Command A))) (R : List (Chain Part)
 
   -- ---- two lists more
 
-  pub seen-lists : (l : Option Part) (r : Option Part)
+  pub seen-lists : (l : Option ListPrefix) (r : Option ListPrefix)
       → log_of (C ++ record { link = l; own = [] } ∷ []) (R ++ record { link = r; own = [] } ∷ [])
       ≡ with_lists (log_of C R) (first_link l) (first_round_link r)
   seen-lists l r =
@@ -131,9 +138,9 @@ module _ {A : Type 0} (C : List (Chain (code.Command A))) (R : List (Chain Part)
       (map-append rounds_seen R (record { link = r; own = [] } ∷ [])
       ∙ ap (λ es. map rounds_seen R ++ es ∷ []) (append-nil (first_round_link r)))
 
-  pub sound-lists : (n : ℕ) (l r : Option Part) → IsSound C R n
-      → ((p : Part) → l ≡ Some p → (p.list < length C) × IsWithin C p)
-      → ((p : Part) → r ≡ Some p → (p.list < length R) × IsWithin R p) →
+  pub sound-lists : (n : ℕ) (l r : Option ListPrefix) → IsSound C R n
+      → ((p : ListPrefix) → l ≡ Some p → (p.list < length C) × IsWithin C p)
+      → ((p : ListPrefix) → r ≡ Some p → (p.list < length R) × IsWithin R p) →
       (cs : Commands) → Gives (log_of C R) no_commands (first_link l) cs → depth cs ≤ n → (rs : CommandRounds)
       → GivesRounds (log_of C R) no_command_rounds (first_round_link r) rs → rounds_depth rs ≤ n →
       IsSound (C ++ record { link = l; own = [] } ∷ []) (R ++ record { link = r; own = [] } ∷ []) n
@@ -151,7 +158,7 @@ module _ {A : Type 0} (C : List (Chain (code.Command A))) (R : List (Chain Part)
       no_commands (gives_nothing no_commands) (omega arith) no_command_rounds (gives_no_rounds no_command_rounds)
       (omega arith)
 
-  pub sound-copy : (n : ℕ) (h : Handle) (l : Chain (code.Command A)) (r : Chain Part) → IsSound C R n
+  pub sound-copy : (n : ℕ) (h : Handle) (l : Chain (code.Command A)) (r : Chain ListPrefix) → IsSound C R n
       → HasEntriesOf (log_of C R) h → slice_get C h.current.list ≡ Some l → slice_get R h.finished.list ≡ Some r →
       IsSound (C ++ record { link = link_to h.current l; own = [] } ∷ [])
       (R ++ record { link = link_to h.finished r; own = [] } ∷ []) n
@@ -161,7 +168,7 @@ module _ {A : Type 0} (C : List (Chain (code.Command A))) (R : List (Chain Part)
       sound-lists n (link_to h.current l) (link_to h.finished r) s
       (link_to-within C h.current l s.links a (is_within C R c.1))
       (link_to-within R h.finished r s.round_links b (is_rounds_within C R d.1))
-      c.0 (linked h.current l c.0 a c.1) c.2 d.0 (linked_rounds h.finished r d.0 b d.1) d.2
+      c.0 (from_link h.current l c.0 a c.1) c.2 d.0 (linked_rounds h.finished r d.0 b d.1) d.2
 
 -- ---- one entry more
 
@@ -239,7 +246,8 @@ length-mapped : {X Y : Type 0} (f : X → Y) (xs : List X) → length (map f xs)
 length-mapped f [] = refl
 length-mapped f (x ∷ xs) = ap suc (length-mapped f xs)
 
-pub seen-round : (R : List (Chain Part)) (i : ℕ) (l : Chain Part) (x : Part) → slice_get R i ≡ Some l →
+pub seen-round : (R : List (Chain ListPrefix)) (i : ℕ) (l : Chain ListPrefix) (x : ListPrefix) → slice_get R i ≡ Some l
+    →
     map rounds_seen (set R i (longer l x)) ≡ appended (map rounds_seen R) i (RoundEntry.finishes x)
 seen-round [] i l x h = cc
 seen-round (k ∷ R) zero l x h =
@@ -250,7 +258,7 @@ seen-round (k ∷ R) zero l x h =
     ∙ ap (λ m. rounds_seen m ++ RoundEntry.finishes x ∷ []) (sym e))
 seen-round (k ∷ R) (suc i) l x h = ap (λ es. rounds_seen k ∷ es) (seen-round R i l x h)
 
-module _ {A : Type 0} (C : List (Chain (code.Command A))) (R : List (Chain Part)) where
+module _ {A : Type 0} (C : List (Chain (code.Command A))) (R : List (Chain ListPrefix)) where
   -- a plain entry gives a command by itself
   pub plain_command : (x : code.Command A) → IsPlain (entry_seen x)
       → (c : Command) × GivesCommand (log_of C R) (entry_seen x) c × (command_depth c ≡ 0)
@@ -262,18 +270,18 @@ module _ {A : Type 0} (C : List (Chain (code.Command A))) (R : List (Chain Part)
 
 -- ---- a part has one entry more
 
-pub chained-extended : {T : Type 0} (lists new : List (Chain T)) (p q : Part) (x : T) → IsChained lists
+pub chained-extended : {T : Type 0} (lists new : List (Chain T)) (p q : ListPrefix) (x : T) → IsChained lists
     → IsWithin lists p → IsExtended lists new p q x → IsChained new
 chained-extended lists new p q x ch w (l, s, inl k) =
     subst (λ y. IsChained y) (sym k.1) (chained-longer lists p.list l x ch s)
 chained-extended lists new p q x ch w (l, s, inr k) =
     subst (λ y. IsChained y) (sym k.1) (chained-more lists (forked p l x) ch (link_to-within lists p l ch s w))
 
-fork_len : (k : Option Part) → link_len k + 1 ≡ suc (length (first_link k))
+fork_len : (k : Option ListPrefix) → link_len k + 1 ≡ suc (length (first_link k))
 fork_len None = refl
 fork_len (Some p) = refl
 
-fork_round_len : (k : Option Part) → link_len k + 1 ≡ suc (length (first_round_link k))
+fork_round_len : (k : Option ListPrefix) → link_len k + 1 ≡ suc (length (first_round_link k))
 fork_round_len None = refl
 fork_round_len (Some p) = refl
 
@@ -281,15 +289,15 @@ longer_len : {T : Type 0} (l : Chain T) (x : T) (n : ℕ) → n ≡ chain_len l 
 longer_len l x n h = let k = length-append l.own (x ∷ []) in omega (arith, h, k)
 
 -- at the end of its list it is longer by one in place
-pub at-end : {T : Type 0} (lists new : List (Chain T)) (p q : Part) (x : T) (e : IsExtended lists new p q x)
+pub at-end : {T : Type 0} (lists new : List (Chain T)) (p q : ListPrefix) (x : T) (e : IsExtended lists new p q x)
     → p.first ≡ chain_len e.0 → q ≡ record { list = p.list; first = p.first + 1 }
 at-end lists new p q x (l, s, inl k) h =
     let m : chain_len (longer l x) ≡ p.first + 1 = let a =
     longer_len l x p.first k.0 in omega (arith, a) in k.2 ∙ ap (λ n. record { list = p.list; first = n }) m
 at-end lists new p q x (l, s, inr k) h = absurd (let a = k.0 in omega (arith, a, h))
 
-pub step-of : {A : Type 0} (C : List (Chain (code.Command A))) (R : List (Chain Part))
-    (new : List (Chain (code.Command A))) (p q : Part) (x : code.Command A) (e : IsExtended C new p q x) →
+pub step-of : {A : Type 0} (C : List (Chain (code.Command A))) (R : List (Chain ListPrefix))
+    (new : List (Chain (code.Command A))) (p q : ListPrefix) (x : code.Command A) (e : IsExtended C new p q x) →
     IsStep (map commands_seen C) (map commands_seen new) p q (first_link (link_to p e.0)) (entry_seen x)
 step-of C R new p q x (l, s, inl k) = inl (
   (commands_seen l, map-get commands_seen C p.list l s, k.0 ∙ sym (commands_len C R l)),
@@ -302,7 +310,8 @@ step-of C R new p q x (l, s, inr k) = inr (
       ∙ ap (λ n. record { list = length (map commands_seen C); first = n }) (fork_len (link_to p l)),
 )
 
-pub step-of-rounds : {A : Type 0} (C : List (Chain (code.Command A))) (R new : List (Chain Part)) (p q x : Part)
+pub step-of-rounds : {A : Type 0} (C : List (Chain (code.Command A))) (R new : List (Chain ListPrefix))
+    (p q x : ListPrefix)
     (e : IsExtended R new p q x) →
     IsStep (map rounds_seen R) (map rounds_seen new) p q (first_round_link (link_to p e.0)) (RoundEntry.finishes x)
 step-of-rounds C R new p q x (l, s, inl k) = inl (

@@ -1,7 +1,7 @@
 pub mod Accounts
 pub mod Chain
-pub mod Entries
+pub mod LogEntries
 pub mod FragmentViews
-pub mod Printed
-pub mod Shared
+pub mod DebugText
+pub mod HandleChanges
 pub mod Sound

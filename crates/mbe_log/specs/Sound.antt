@@ -1,14 +1,16 @@
--- What is true of a log at all times: each list gives commands, with no more levels than nested commands were written,
--- and
--- each entry stands for earlier ones alone.
+-- Invariants of a log: each list gives commands, they nest no deeper than nested commands were
+-- written, and each entry stands for earlier ones alone.
 use Rattle.std.specs.Prelude.{◌≡◌, ◌≤◌, ℕ, suc, max, List, slice_get, Some}
-use Rattle.mbe_semantics.specs.declared.log.Part.{Part}
+use Rattle.mbe_semantics.specs.declared.list_prefix.ListPrefix.{ListPrefix}
 use Rattle.mbe_log.specs.declared.log.Command as code
 use Rattle.mbe_log.specs.Chain.{Chain, IsChained}
-use Rattle.mbe_semantics.specs.Bindings.Account.{Command, Commands, CommandRounds, no_commands, command, no_command_rounds, command_round, Entry, RoundEntry, Log, Order, IsOrdered, Gives, GivesRounds, PartGives, PartGivesRounds}
-use Rattle.mbe_log.specs.Entries.{log_of}
+use Rattle.mbe_semantics.specs.Bindings.Account.{Command, Commands, CommandRounds, no_commands}
+use Rattle.mbe_semantics.specs.Bindings.Account.{command, no_command_rounds, command_round, Entry}
+use Rattle.mbe_semantics.specs.Bindings.Account.{RoundEntry, Log, Order, IsOrdered, Gives}
+use Rattle.mbe_semantics.specs.Bindings.Account.{GivesRounds, PartGives, PartGivesRounds}
+use Rattle.mbe_log.specs.LogEntries.{log_of}
 
--- how many levels of nested commands there are
+-- how deep commands nest
 abbrev mutual
   pub command_depth : Command → ℕ
   command_depth (Command.binds name x) = 0
@@ -25,11 +27,11 @@ abbrev mutual
   rounds_depth no_command_rounds = 0
   rounds_depth (command_round rs cs) = max (rounds_depth rs) (depth cs)
 
--- its entries have an order of writing
+-- the entries have an order of writing
 abbrev pub HasOrder : Log → Type 0
 HasOrder log = (order : Order) × IsOrdered log order
 
--- each list gives commands, or rounds, and the entries have an order
+-- each list gives commands or rounds, and the entries have an order of writing
 pub record IsGrounded (log : Log) (most : ℕ) : Type 0 where
   pub commands : (i : ℕ) (es : List Entry) → slice_get log.commands i ≡ Some es
       → (cs : Commands) × Gives log no_commands es cs × (depth cs ≤ most)
@@ -37,13 +39,14 @@ pub record IsGrounded (log : Log) (most : ℕ) : Type 0 where
       → (rs : CommandRounds) × GivesRounds log no_command_rounds es rs × (rounds_depth rs ≤ most)
   pub ordered : HasOrder log
 
-pub record IsSound {A : Type 0} (commands : List (Chain (code.Command A))) (rounds : List (Chain Part))
+pub record IsSound {A : Type 0} (commands : List (Chain (code.Command A)))
+    (rounds : List (Chain ListPrefix))
     (most : ℕ) : Type 0 where
   pub links : IsChained commands
   pub round_links : IsChained rounds
   pub grounded : IsGrounded (log_of commands rounds) most
 
--- what an entry gives that isn't a link
+-- the command that an entry gives, unless the entry is a link
 abbrev pub GivesCommand : Log → Entry → Command → Type 0
 GivesCommand log (Entry.binds name x) c = c ≡ Command.binds name x
 GivesCommand log (Entry.binds_nothing name) c = c ≡ Command.binds_nothing name

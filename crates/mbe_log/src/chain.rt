@@ -1,23 +1,27 @@
-// A list that may begin with the first entries of another.
+// Lists that share a prefix. A list may begin with a link: the link stands for the first entries of
+// another list. A `ListPrefix` names a list and how many of its first entries are meant. `extend`
+// adds an
+// entry to a part and leaves every other part as it is.
 ghost use Rattle.std.specs.Prelude.{◌≡◌, ◌↔◌, IsTrue, ◌<◌, [], ◌∷◌, ◌++◌, length, slice_get, Some};
 ghost use Rattle.std.specs.Prelude.{None, IfOk, OnOk, OnErr};
 ghost use Rattle.mbe_log.specs.Chain.{chain_len, link_to, link_in, own_in, IsWithin, IsExtended};
 
-use mbe_semantics::log::Part;
+use mbe_semantics::list_prefix::ListPrefix;
 use std::alloc::{AllocError, Allocator, Global};
 use std::marker::Model;
 
-/// A link, which counts as an entry, and entries of its own after it.
+/// A list: a link, if there is one, and the list's own entries after it. The link counts as one
+/// entry.
 #[derive(Drop)]
-pub struct Linked<T, A: Allocator = Global> {
-    link: Option<Part>,
-    // Most lists keep one entry, which needs no memory beside the list's own.
+pub struct ChainList<T, A: Allocator = Global> {
+    link: Option<ListPrefix>,
+    // Most lists have one entry of their own. It is kept here and takes no further memory.
     first: Option<T>,
-    // Those after the first.
+    // The own entries after the first.
     more: Vec<T, A>,
 }
 
-impl<T, A: Allocator> Model for Linked<T, A> {
+impl<T, A: Allocator> Model for ChainList<T, A> {
     ghost use Rattle.std.specs.Prelude.{◌+◌, ◌<◌, ◌^◌, length};
     ghost use Rattle.mbe_log.specs.Chain.{Chain, chain_code, own_entries, AreAfter};
 
@@ -30,29 +34,30 @@ impl<T, A: Allocator> Model for Linked<T, A> {
     ghost invariant = { λ l. (length l.more.items + 2 < 2 ^ 64) × AreAfter l.first l.more.items };
 }
 
-impl<T, A: Allocator> Linked<T, A> {
-    /// A list that may begin with a link.
+impl<T, A: Allocator> ChainList<T, A> {
+    /// Makes a list that begins with this link, if there is one, and has no entry of its own.
     #[inline(always)]
-    pub fn linked(alloc: A, link: Option<Part>) -> Linked<T, A>
+    pub fn from_link(alloc: A, link: Option<ListPrefix>) -> ChainList<T, A>
         ensures { result ≡ record { link = link; own = [] } }
     {
-        Linked {
+        ChainList {
             link,
             first: None,
             more: Vec::new(alloc),
         }
     }
 
-    /// The link that another list begins with to have a part of this one. A part that has only the link gives that link.
+    /// Returns the link that stands for a part of this list. A part without an own entry is
+    /// replaced by the link that it consists of, if there is one.
     #[inline(always)]
-    pub fn link_to(&self, part: Part) -> Option<Part>
+    pub fn link_to(&self, part: ListPrefix) -> Option<ListPrefix>
         ensures { result ≡ link_to part self.now }
     {
-        let (link, own) = self.cut(part.first);
+        let (link, own) = self.prefix(part.first);
         if own == 0 { link } else { Some(part) }
     }
 
-    /// How many entries it has.
+    /// Returns the number of entries. A link counts as one.
     #[inline(always)]
     pub fn len(&self) -> usize
         ensures { result ≡ chain_len self.now }
@@ -63,7 +68,7 @@ impl<T, A: Allocator> Linked<T, A> {
         }
     }
 
-    /// How many entries of its own it has.
+    /// Returns the number of the list's own entries.
     #[inline(always)]
     pub fn own_len(&self) -> usize
         ensures { result ≡ length self.now.own }
@@ -74,9 +79,9 @@ impl<T, A: Allocator> Linked<T, A> {
         }
     }
 
-    /// The link among the first so many entries, and how many others are among them.
+    /// Splits the first entries into the link, if it is among them, and the number of own entries.
     #[inline(always)]
-    pub fn cut(&self, first: usize) -> (Option<Part>, usize)
+    pub fn prefix(&self, first: usize) -> (Option<ListPrefix>, usize)
         ensures link { result.0 ≡ link_in self.now.link first }
         ensures own { result.1 ≡ own_in self.now.link first }
     {
@@ -87,7 +92,7 @@ impl<T, A: Allocator> Linked<T, A> {
         }
     }
 
-    /// The entry of its own at the index.
+    /// Returns the own entry at the index.
     #[inline(always)]
     pub fn own_at(&self, index: usize) -> &T
         requires { index < length self.now.own }
@@ -100,8 +105,8 @@ impl<T, A: Allocator> Linked<T, A> {
     }
 }
 
-impl<T: Drop, A: Allocator> Linked<T, A> {
-    /// One entry more at the end. `AllocError` if out of memory.
+impl<T: Drop, A: Allocator> ChainList<T, A> {
+    /// Adds an entry at the end. `AllocError` if out of memory.
     #[inline(always)]
     pub fn push(&mut self, entry: T) -> Result<(), AllocError>
         ensures ok { OnOk result (self.new ≡ record self.old { own = self.old.own ++ entry ∷ [] }) }
@@ -114,7 +119,7 @@ impl<T: Drop, A: Allocator> Linked<T, A> {
         if self.more.len() >= usize::MAX - 2 {
             return Err(AllocError);
         }
-        // Few lists have a third entry: the second takes room for itself alone.
+        // Few lists get a third entry, so the second takes room for one entry.
         if self.more.is_empty() {
             self.more.reserve_exact(1)?;
         }
@@ -123,31 +128,32 @@ impl<T: Drop, A: Allocator> Linked<T, A> {
     }
 }
 
-/// Whether the part's list is there, and has so many entries.
-pub fn is_within<T, A: Allocator>(lists: &[Linked<T, A>], part: Part) -> bool
+/// Returns whether the part's list exists and has that many entries.
+pub fn is_within<T, A: Allocator>(lists: &[ChainList<T, A>], part: ListPrefix) -> bool
     ensures { IsTrue result ↔ IsWithin lists.now part }
 {
     part.list < lists.len() && part.first <= lists[part.list].len()
 }
 
-/// The part with one entry more: in its own list where it goes up to the end of that, else in a new list that links to the
-/// part. `AllocError` if out of memory.
+/// Adds an entry to the part and returns the longer part. The entry goes into the same list if the
+/// part ends where the list ends, and else into a new list that links to the part. `AllocError` if
+/// out of memory.
 #[inline]
 pub fn extend<T: Drop, A: Allocator + Copy>(
     alloc: A,
-    lists: &mut Vec<Linked<T, A>, A>,
-    part: Part,
+    lists: &mut Vec<ChainList<T, A>, A>,
+    part: ListPrefix,
     entry: T,
-) -> Result<Part, AllocError>
+) -> Result<ListPrefix, AllocError>
     requires { IsWithin lists.old.items part }
     ensures ok { IfOk result (λ longer.
         IsExtended lists.old.items lists.new.items part longer entry) }
     ensures err { OnErr result (lists.new.items ≡ lists.old.items) }
 {
     if part.first < lists[part.list].len() {
-        let mut list = Linked::linked(alloc, lists[part.list].link_to(part));
+        let mut list = ChainList::from_link(alloc, lists[part.list].link_to(part));
         list.push(entry)?;
-        let longer = Part {
+        let longer = ListPrefix {
             list: lists.len(),
             first: list.len(),
         };
@@ -156,7 +162,7 @@ pub fn extend<T: Drop, A: Allocator + Copy>(
     }
     lists[part.list].push(entry)?;
     let first = lists[part.list].len();
-    Ok(Part {
+    Ok(ListPrefix {
         list: part.list,
         first,
     })

@@ -1,37 +1,40 @@
-// What a variable took.
+// Fragments: the token runs that variables are bound to. The kind of a variable decides which
+// `Fragment` it gets, and the `Fragment` decides how a template writes it.
 ghost use Rattle.std.specs.Prelude.{◌≡◌, IfOk};
 ghost use Rattle.mbe_tt.specs.Views.View.{trees};
 ghost use Rattle.mbe_semantics.specs.Fragments.Kinds.{style_of};
 ghost use Rattle.mbe_log.specs.FragmentViews.{fragment_seen};
 
-use mbe_semantics::kinds::MetaVarKind;
+use mbe_semantics::fragment_kinds::MetaVarKind;
 use mbe_tt::tt::{TokenTreesView, TopSubtree};
 use std::alloc::{AllocError, Allocator, Global};
 
-/// Whether tokens were taken as such, or because the grammar found a fragment in them.
+/// Whether a variable is bound to tokens as they are (`Raw`), or to a fragment that the grammar
+/// parsed (`Ast`).
 #[derive(Clone, Copy, Debug, Drop, PartialEq, Eq)]
 pub enum TokensOrigin {
     Raw,
     Ast,
 }
 
-/// What a variable took, by how a template writes it.
+/// A fragment that a variable is bound to. The variants differ in how a template writes the
+/// fragment.
 #[derive_where(Debug, PartialEq, Eq)]
 #[derive(Drop)]
 pub enum Fragment<'a, A: Allocator = Global> {
-    /// No tokens. Nothing is written.
+    /// No tokens. The template writes nothing.
     Empty,
-    /// Trees that are written as they are but for a last punct, which is `Alone`; `Raw` ones without one invisible group
-    /// around them.
+    /// Trees that are written as they are, except for a last punct, which becomes `Alone`. `Raw`
+    /// trees lose one invisible group around all of them.
     Tokens {
         tree: TokenTreesView<'a, A>,
         origin: TokensOrigin,
     },
-    /// An expression, which is written in parentheses unless it needs none.
+    /// An expression. It is written in parentheses unless it needs none.
     Expr(TokenTreesView<'a, A>),
-    /// A path, which is written with `::` before its generic arguments.
+    /// A path. It is written with `::` before its generic arguments.
     Path(TokenTreesView<'a, A>),
-    /// A group that no buffer of the caller's holds. It is written as it is.
+    /// A group that no buffer of the caller holds. It is written as it is.
     TokensOwned(TopSubtree<A>),
 }
 
@@ -54,8 +57,8 @@ impl<'a, A: Allocator + Copy> Fragment<'a, A> {
     }
 }
 
-/// What a variable of the kind took.
-pub fn of_kind<'a, A: Allocator>(
+/// Makes the fragment of a variable of this kind that is bound to these trees.
+pub fn fragment_of_kind<'a, A: Allocator>(
     kind: Option<MetaVarKind>,
     tree: TokenTreesView<'a, A>,
 ) -> Fragment<'a, A>

@@ -1,4 +1,5 @@
-// The log of bindings that the positions of a match share. A layer of `mbe`: use that crate.
+// The log of bindings that the threads of a match share, and the fragments that variables are bound
+// to. A layer of `mbe`: use that crate.
 #![tactic(auto)]
 
 pub mod chain;

@@ -1,14 +1,17 @@
-// The log of bindings that the positions of a match share. Its structure follows rust-analyzer's `BindingsBuilder`; that a
-// finished round and a handle have a length as links do, and that a list without an entry of its own hands its link on,
-// are the project's own.
+// The log of bindings that the threads of a match share. Its structure follows rust-analyzer's
+// `BindingsBuilder`. Two things are this project's own: a finished round and a handle have a
+// length, as links do, and a list without an entry of its own hands its link on.
 //
-// What it is for: while an argument is matched, several positions of the pattern may be possible at once, and each has bound
-// some names. Copying all bindings for each position would cost their number at every token. So all positions write into
-// one log, each knows how much of it is its own, and only the position that the match ends with is built into bindings.
+// Why a log: while an argument is matched, several threads may be possible at once, and each has
+// bound some names. A copy of all bindings for each thread would cost their number at every token.
+// So all threads write into one log, and each has a handle that says which entries are its own.
+// Only the thread that the match ends with is built into bindings.
 //
-// A log holds lists of commands and lists of finished rounds. A handle names a list of each sort, and how many of its first
-// entries are the handle's. A push goes on in place where the handle's entries end the list, and else begins a list that
-// links to them; so what a handle stands for never changes. Of the commands alone, `0,1` for the first entry of list 0:
+// A log holds lists of commands and lists of finished rounds. A handle names one list of each sort,
+// and how many of its first entries are the handle's. A push adds to the same list if the handle's
+// entries end that list. Else it begins a new list that links to them. So what a handle stands for
+// never changes. Here is an example with lists of commands alone, where `0,1` is the first entry of
+// list 0:
 //
 //     push x to h    h = 0,1            0: x
 //     c = copy h     h = 0,1  c = 1,1   0: x    1: ->0,1
@@ -18,40 +21,42 @@
 //     push v to h    h = 0,3            0: x y v
 //     push w to k    k = 2,2            0: x y v  2: ->0,2 w
 //
-// What the entries of a handle bind is built by `mbe_bindings`.
+// `mbe_bindings` builds the bindings of a handle.
 ghost use Rattle.std.specs.Prelude.{◌≡◌, ◌↔◌, ◌≤◌, length, IsTrue, IfOk, OnOk, OnErr};
 ghost use Rattle.mbe_semantics.specs.Bindings.Account.{Account, IsLive, HasEntriesOf, Order};
 ghost use Rattle.mbe_semantics.specs.Bindings.Account.{IsOrdered, IsAccount, no_account, no_lists};
 ghost use Rattle.mbe_semantics.specs.Bindings.Account.{pushed, pushed_nested, pushed_default};
 ghost use Rattle.mbe_semantics.specs.Bindings.Account.{Command as Written, HasOneListMore};
-ghost use Rattle.mbe_log.specs.Shared.{IsGiven, IsChanged, IsAtEnd, WritesOne, WritesRound};
-ghost use Rattle.mbe_log.specs.Shared.{current_len, finished_len, IsPlain, IsEmptied};
+ghost use Rattle.mbe_log.specs.HandleChanges.{IsNewHandle, IsUpdatedHandle, IsAtEnd, WritesOne};
+ghost use Rattle.mbe_log.specs.HandleChanges.{WritesRound};
+ghost use Rattle.mbe_log.specs.HandleChanges.{current_len, finished_len, IsPlain, IsEmptied};
 ghost use Rattle.mbe_log.specs.Chain.{with_link, last_part};
-ghost use Rattle.mbe_log.specs.Entries.{entry_seen, log_of};
+ghost use Rattle.mbe_log.specs.LogEntries.{entry_seen, log_of};
 ghost use Rattle.mbe_log.specs.Sound.{GivesCommand, IsSound};
 ghost use Rattle.mbe_log.specs.FragmentViews.{fragment_seen};
 
-use crate::chain::{Linked, extend, is_within};
+use crate::chain::{ChainList, extend, is_within};
 use crate::fragment::Fragment;
-use mbe_semantics::kinds::MetaVarKind;
-use mbe_semantics::log::Part;
+use mbe_semantics::fragment_kinds::MetaVarKind;
+use mbe_semantics::list_prefix::ListPrefix;
 use mbe_tt::symbol::Symbol;
 use std::alloc::{AllocError, Allocator, Global};
 use std::default::MadeWith;
 use std::fmt;
 use std::marker::Model;
 
-/// What a position has of a log: the first so many entries of two lists. A push gives it another value; what the old one stood
-/// for stays. So one handle may serve many holders by `&Handle`.
+/// The entries of a log that belong to one thread: the first entries of a list of commands and of a
+/// list of finished rounds. A push returns a longer handle through `&mut`. What the old handle
+/// stood for doesn't change, so several holders may share one handle by `&Handle`.
 #[derive(Debug, Drop, PartialEq, Eq)]
 pub struct Handle {
-    pub(crate) current: Part,
-    pub(crate) finished: Part,
+    pub(crate) current: ListPrefix,
+    pub(crate) finished: ListPrefix,
 }
 
 impl Model for Handle {
     ghost use Rattle.mbe_semantics.specs.Bindings.Account as account;
-    ghost use Rattle.mbe_log.specs.Entries.{handle_code};
+    ghost use Rattle.mbe_log.specs.LogEntries.{handle_code};
 
     ghost Value = { account.Handle };
 
@@ -62,10 +67,10 @@ impl Model for Handle {
     ghost inverse = { λ h. record { current = h.current; finished = h.finished } };
 }
 
-/// A handle that no log gave: it fills the places of a `SmallVec` that nothing is in.
+/// A handle that belongs to no log. A `SmallVec` needs it for its unused slots.
 impl<A: Copy> MadeWith<A> for Handle {
     fn made_with(_alloc: A) -> Handle {
-        let nothing = Part { list: 0, first: 0 };
+        let nothing = ListPrefix { list: 0, first: 0 };
         Handle {
             current: nothing,
             finished: nothing,
@@ -73,7 +78,7 @@ impl<A: Copy> MadeWith<A> for Handle {
     }
 }
 
-/// The same entries once more. A push to one of the two leaves the other as it is.
+/// Returns a second handle of the same entries. A push to one of them doesn't change the other.
 #[inline(always)]
 pub fn again(handle: &Handle) -> Handle
     ensures { result ≡ handle.now }
@@ -84,78 +89,81 @@ pub fn again(handle: &Handle) -> Handle
     }
 }
 
-/// Which parts a handle is of: of a list of commands, and of a list of finished rounds.
+/// Returns the parts of a handle: of its list of commands, and of its list of finished rounds.
 #[inline(always)]
-pub fn parts(handle: &Handle) -> (Part, Part)
+pub fn handle_parts(handle: &Handle) -> (ListPrefix, ListPrefix)
     ensures current { result.0 ≡ handle.now.current }
     ensures finished { result.1 ≡ handle.now.finished }
 {
     (handle.current, handle.finished)
 }
 
-/// The handle of these parts.
+/// Makes the handle of these parts.
 #[inline(always)]
-pub fn handle_of(current: Part, finished: Part) -> Handle
+pub fn handle_from_parts(current: ListPrefix, finished: ListPrefix) -> Handle
     ensures { result ≡ record { current = current; finished = finished } }
 {
     Handle { current, finished }
 }
 
-/// None of the entries: nothing is bound, and no list is needed for it.
+/// Returns a handle of no entries, in the same lists. It binds nothing and takes no memory.
 #[inline(always)]
-pub fn emptied(handle: &Handle) -> Handle
+pub fn empty_handle(handle: &Handle) -> Handle
     ensures { IsEmptied handle.now result }
 {
     Handle {
-        current: Part {
+        current: ListPrefix {
             list: handle.current.list,
             first: 0,
         },
-        finished: Part {
+        finished: ListPrefix {
             list: handle.finished.list,
             first: 0,
         },
     }
 }
 
-/// What is written into a list.
+/// An entry of a list of commands.
 #[derive(Drop)]
 pub enum Command<'a, A: Allocator = Global> {
     Fragment(Symbol<A>, Fragment<'a, A>),
     Optional(Symbol<A>),
     Empty(Symbol<A>),
     Missing(Symbol<A>, MetaVarKind),
-    Nested { finished: Part, current: Part },
+    Nested {
+        finished: ListPrefix,
+        current: ListPrefix,
+    },
 }
 
-/// How many lists a log has.
+/// The number of lists in a log, by sort.
 #[derive(Clone, Copy, Debug, Drop, PartialEq, Eq)]
-pub struct Extent {
+pub struct LogSize {
     pub commands: usize,
     pub rounds: usize,
 }
 
-/// What a log is made of, for those who build bindings from it, or write another log.
-pub struct Lists<'l, 'a, A: Allocator = Global> {
+/// The contents of a log, for code that builds bindings from it or makes another log.
+pub struct LogLists<'l, 'a, A: Allocator = Global> {
     pub alloc: A,
-    pub commands: &'l [Linked<Command<'a, A>, A>],
-    pub rounds: &'l [Linked<Part, A>],
-    /// How many nested commands were written: none has more levels inside.
+    pub commands: &'l [ChainList<Command<'a, A>, A>],
+    pub rounds: &'l [ChainList<ListPrefix, A>],
+    /// The number of nested commands that were written. Commands nest at most that deep.
     pub nested: usize,
 }
 
-/// What positions bind, each by a handle of its own.
+/// A log of bindings. Each thread has a handle of it.
 pub struct BindingLog<'a, A: Allocator = Global> {
     alloc: A,
-    commands: Vec<Linked<Command<'a, A>, A>, A>,
-    rounds: Vec<Linked<Part, A>, A>,
-    // How many nested commands were written: none has more levels inside.
+    commands: Vec<ChainList<Command<'a, A>, A>, A>,
+    rounds: Vec<ChainList<ListPrefix, A>, A>,
+    // The number of nested commands that were written. Commands nest at most that deep.
     nested: usize,
 }
 
 impl<'a, A: Allocator> Model for BindingLog<'a, A> {
     ghost use Rattle.mbe_semantics.specs.Bindings.Account.{Log};
-    ghost use Rattle.mbe_log.specs.Entries.{log_code, log_of};
+    ghost use Rattle.mbe_log.specs.LogEntries.{log_code, log_of};
     ghost use Rattle.mbe_log.specs.Sound.{IsSound};
 
     ghost Value = { Log };
@@ -175,15 +183,15 @@ impl<A: Allocator> Drop for BindingLog<'_, A> {
             rounds,
             nested: _,
         } = self;
-        release(commands);
-        release(rounds);
+        drop_lists(commands);
+        drop_lists(rounds);
     }
 }
 
-/// How many lists it has of each sort: what they hold is for handles alone.
+/// Prints the number of lists of each sort. Their contents are only seen by handles.
 impl<A: Allocator> fmt::Debug for BindingLog<'_, A> {
     ghost use Rattle.std.specs.Prelude.{Some};
-    ghost use Rattle.mbe_log.specs.Printed.{log_text};
+    ghost use Rattle.mbe_log.specs.DebugText.{log_text};
 
     ghost debug_output = { λ log. Some (log_text log) };
 
@@ -195,7 +203,7 @@ impl<A: Allocator> fmt::Debug for BindingLog<'_, A> {
 }
 
 impl<'a, A: Allocator + Copy> BindingLog<'a, A> {
-    /// A log without lists.
+    /// Makes a log without lists.
     pub fn new(alloc: A) -> BindingLog<'a, A>
         ensures { result ≡ no_lists }
     {
@@ -207,22 +215,22 @@ impl<'a, A: Allocator + Copy> BindingLog<'a, A> {
         }
     }
 
-    /// A handle with an empty account. `AllocError` if out of memory.
+    /// Returns a new handle with an empty account. `AllocError` if out of memory.
     #[inline]
     pub fn alloc(&mut self) -> Result<Handle, AllocError>
-        ensures given { IfOk result (λ h. IsGiven self.old self.new h) }
+        ensures given { IfOk result (λ h. IsNewHandle self.old self.new h) }
         ensures account { IfOk result (λ h. IsAccount self.new h no_account) }
         ensures empty { IfOk result (λ h. h.current.first ≡ 0 × h.finished.first ≡ 0) }
         ensures err { OnErr result (self.new ≡ self.old) }
     {
-        let handle = begin(self.alloc, &mut self.commands, &mut self.rounds, None, None)?;
+        let handle = new_handle(self.alloc, &mut self.commands, &mut self.rounds, None, None)?;
         Ok(handle)
     }
 
-    /// A handle with an equal account. `AllocError` if out of memory.
+    /// Returns a new handle with an equal account. `AllocError` if out of memory.
     pub fn copy(&mut self, handle: &Handle) -> Result<Handle, AllocError>
         requires { HasEntriesOf self.old handle.now }
-        ensures given { IfOk result (λ h. IsGiven self.old self.new h) }
+        ensures given { IfOk result (λ h. IsNewHandle self.old self.new h) }
         ensures account { IfOk result (λ h. (a : Account)
             → IsAccount self.old handle.now a → IsAccount self.new h a) }
         ensures commands { OnOk result (HasOneListMore self.old.commands self.new.commands) }
@@ -232,7 +240,7 @@ impl<'a, A: Allocator + Copy> BindingLog<'a, A> {
     {
         let link = self.commands[handle.current.list].link_to(handle.current);
         let round_link = self.rounds[handle.finished.list].link_to(handle.finished);
-        let given = begin(
+        let given = new_handle(
             self.alloc,
             &mut self.commands,
             &mut self.rounds,
@@ -242,7 +250,7 @@ impl<'a, A: Allocator + Copy> BindingLog<'a, A> {
         Ok(given)
     }
 
-    /// The name is bound to the fragment. `AllocError` if out of memory.
+    /// Binds the name to the fragment. `AllocError` if out of memory.
     #[inline(always)]
     pub fn push_fragment(
         &mut self,
@@ -251,7 +259,7 @@ impl<'a, A: Allocator + Copy> BindingLog<'a, A> {
         fragment: Fragment<'a, A>,
     ) -> Result<(), AllocError>
         requires { HasEntriesOf self.old handle.old }
-        ensures ok { OnOk result (IsChanged self.old self.new handle.old handle.new
+        ensures ok { OnOk result (IsUpdatedHandle self.old self.new handle.old handle.new
             (pushed (Written.binds name.now (fragment_seen fragment.entry)))) }
         ensures written { OnOk result (WritesOne self.old handle.old handle.new) }
         ensures err { OnErr result (self.new ≡ self.old × handle.new ≡ handle.old) }
@@ -260,11 +268,11 @@ impl<'a, A: Allocator + Copy> BindingLog<'a, A> {
         Ok(())
     }
 
-    /// The name is bound to a fragment that took nothing. `AllocError` if out of memory.
+    /// Binds the name to a fragment without tokens. `AllocError` if out of memory.
     #[inline(always)]
     pub fn push_optional(&mut self, handle: &mut Handle, name: &Symbol<A>) -> Result<(), AllocError>
         requires { HasEntriesOf self.old handle.old }
-        ensures ok { OnOk result (IsChanged self.old self.new handle.old handle.new
+        ensures ok { OnOk result (IsUpdatedHandle self.old self.new handle.old handle.new
             (pushed (Written.binds_nothing name.now))) }
         ensures written { OnOk result (WritesOne self.old handle.old handle.new) }
         ensures err { OnErr result (self.new ≡ self.old × handle.new ≡ handle.old) }
@@ -273,11 +281,11 @@ impl<'a, A: Allocator + Copy> BindingLog<'a, A> {
         Ok(())
     }
 
-    /// The name is in a repetition that had no rounds. `AllocError` if out of memory.
+    /// Notes that the name is in a repetition without rounds. `AllocError` if out of memory.
     #[inline(always)]
     pub fn push_empty(&mut self, handle: &mut Handle, name: &Symbol<A>) -> Result<(), AllocError>
         requires { HasEntriesOf self.old handle.old }
-        ensures ok { OnOk result (IsChanged self.old self.new handle.old handle.new
+        ensures ok { OnOk result (IsUpdatedHandle self.old self.new handle.old handle.new
             (pushed (Written.skips name.now))) }
         ensures written { OnOk result (WritesOne self.old handle.old handle.new) }
         ensures err { OnErr result (self.new ≡ self.old × handle.new ≡ handle.old) }
@@ -286,7 +294,8 @@ impl<'a, A: Allocator + Copy> BindingLog<'a, A> {
         Ok(())
     }
 
-    /// Nothing fits the name, so the match failed there. `AllocError` if out of memory.
+    /// Notes that the match failed at the name: nothing there fits its kind. `AllocError` if out of
+    /// memory.
     #[inline(always)]
     pub fn push_missing(
         &mut self,
@@ -295,7 +304,7 @@ impl<'a, A: Allocator + Copy> BindingLog<'a, A> {
         kind: MetaVarKind,
     ) -> Result<(), AllocError>
         requires { HasEntriesOf self.old handle.old }
-        ensures ok { OnOk result (IsChanged self.old self.new handle.old handle.new
+        ensures ok { OnOk result (IsUpdatedHandle self.old self.new handle.old handle.new
             (pushed (Written.misses name.now kind))) }
         ensures written { OnOk result (WritesOne self.old handle.old handle.new) }
         ensures err { OnErr result (self.new ≡ self.old × handle.new ≡ handle.old) }
@@ -304,13 +313,13 @@ impl<'a, A: Allocator + Copy> BindingLog<'a, A> {
         Ok(())
     }
 
-    // One command more after the handle's current ones, which isn't nested.
+    // Adds a command after the handle's current ones. The command isn't nested.
     #[inline(always)]
     fn push(&mut self, handle: &mut Handle, command: Command<'a, A>) -> Result<(), AllocError>
         requires entries { HasEntriesOf self.old handle.old }
         requires plain { IsPlain (entry_seen command) }
         ensures ok { OnOk result ((c : Written) → GivesCommand self.old (entry_seen command.entry) c
-            → IsChanged self.old self.new handle.old handle.new (pushed c)) }
+            → IsUpdatedHandle self.old self.new handle.old handle.new (pushed c)) }
         ensures written { OnOk result (WritesOne self.old handle.old handle.new) }
         ensures err { OnErr result (self.new ≡ self.old × handle.new ≡ handle.old) }
     {
@@ -319,13 +328,14 @@ impl<'a, A: Allocator + Copy> BindingLog<'a, A> {
         Ok(())
     }
 
-    /// The child's finished rounds, and its current commands as the last round, as they are now. `AllocError` if out of memory.
+    /// Adds one command to the parent: the child's finished rounds, with the child's current
+    /// commands as the last round. It holds them as they are now. `AllocError` if out of memory.
     #[inline]
     pub fn push_nested(&mut self, parent: &mut Handle, child: &Handle) -> Result<(), AllocError>
         requires parent { HasEntriesOf self.old parent.old }
         requires child { HasEntriesOf self.old child.now }
         ensures ok { OnOk result ((b : Account) → IsAccount self.old child.now b
-            → IsChanged self.old self.new parent.old parent.new (λ a. pushed_nested a b)) }
+            → IsUpdatedHandle self.old self.new parent.old parent.new (λ a. pushed_nested a b)) }
         ensures written { OnOk result (WritesOne self.old parent.old parent.new) }
         ensures err { OnErr result (self.new ≡ self.old × parent.new ≡ parent.old) }
     {
@@ -343,11 +353,12 @@ impl<'a, A: Allocator + Copy> BindingLog<'a, A> {
         Ok(())
     }
 
-    /// The current commands are a finished round now, and an empty list begins. `AllocError` if out of memory.
+    /// Makes the current commands a finished round and begins an empty list. `AllocError` if out of
+    /// memory.
     #[inline]
     pub fn push_default(&mut self, handle: &mut Handle) -> Result<(), AllocError>
         requires { HasEntriesOf self.old handle.old }
-        ensures ok { OnOk result (IsChanged self.old self.new handle.old handle.new
+        ensures ok { OnOk result (IsUpdatedHandle self.old self.new handle.old handle.new
             pushed_default) }
         ensures written { OnOk result (WritesRound self.old handle.old handle.new) }
         ensures err { OnErr result (self.new ≡ self.old × handle.new ≡ handle.old) }
@@ -358,18 +369,18 @@ impl<'a, A: Allocator + Copy> BindingLog<'a, A> {
         handle.finished = finished;
         let list = self.commands.len();
         self.commands
-            .push_reserved(Linked::linked(self.alloc, None));
-        handle.current = Part { list, first: 0 };
+            .push_reserved(ChainList::from_link(self.alloc, None));
+        handle.current = ListPrefix { list, first: 0 };
         Ok(())
     }
 
-    /// The lists.
+    /// Returns the contents of the log.
     #[inline(always)]
-    pub fn lists(&self) -> Lists<'_, 'a, A>
+    pub fn lists(&self) -> LogLists<'_, 'a, A>
         ensures seen { log_of result.commands.now result.rounds.now ≡ self.now }
         ensures sound { IsSound result.commands.now result.rounds.now result.nested }
     {
-        Lists {
+        LogLists {
             alloc: self.alloc,
             commands: &self.commands,
             rounds: &self.rounds,
@@ -377,11 +388,11 @@ impl<'a, A: Allocator + Copy> BindingLog<'a, A> {
         }
     }
 
-    /// The log of these lists.
-    pub fn of_lists(
+    /// Makes a log of these contents.
+    pub fn from_lists(
         alloc: A,
-        commands: Vec<Linked<Command<'a, A>, A>, A>,
-        rounds: Vec<Linked<Part, A>, A>,
+        commands: Vec<ChainList<Command<'a, A>, A>, A>,
+        rounds: Vec<ChainList<ListPrefix, A>, A>,
         nested: usize,
     ) -> BindingLog<'a, A>
         requires { IsSound commands.items rounds.items nested }
@@ -397,44 +408,46 @@ impl<'a, A: Allocator + Copy> BindingLog<'a, A> {
 }
 
 impl<'a, A: Allocator> BindingLog<'a, A> {
-    /// Whether both lists of the handle exist in this log.
+    /// Returns whether both lists of the handle exist in this log.
     pub fn is_live(&self, handle: &Handle) -> bool
         ensures { IsTrue result ↔ IsLive self.now handle.now }
     {
         handle.current.list < self.commands.len() && handle.finished.list < self.rounds.len()
     }
 
-    /// Whether both lists of the handle exist in this log, with as many entries as the handle says: what `copy`, the pushes,
-    /// `build` and `entries_of` ask for. So it is with a handle of this log.
+    /// Returns whether both lists of the handle exist in this log and have as many entries as the
+    /// handle says. `copy`, the pushes, `build` and `entries_of` require this. Every handle of this
+    /// log has it.
     pub fn has_entries_of(&self, handle: &Handle) -> bool
         ensures { IsTrue result ↔ HasEntriesOf self.now handle.now }
     {
         is_within(&self.commands, handle.current) && is_within(&self.rounds, handle.finished)
     }
 
-    /// Runs nothing: the entries of a log have an order of writing, in which each stands for earlier ones alone.
+    /// A law that runs nothing: the entries of a log have an order of writing, in which each entry
+    /// stands for earlier ones alone.
     pub fn keeps_order(&self)
         ensures { (order : Order) × IsOrdered self.now order }
     {
         let _ = &self.alloc;
     }
 
-    /// How many lists it has of each sort.
+    /// Returns the number of lists of each sort.
     #[inline(always)]
-    pub fn extent(&self) -> Extent
+    pub fn extent(&self) -> LogSize
         ensures { result ≡ record {
           commands = length self.now.commands;
           rounds = length self.now.rounds;
         } }
     {
-        Extent {
+        LogSize {
             commands: self.commands.len(),
             rounds: self.rounds.len(),
         }
     }
 
-    /// How many entries of its current list are the handle's, and of its list of finished rounds: all, if nothing else was
-    /// pushed there.
+    /// Returns how many entries of the current list are the handle's, and how many of the list of
+    /// finished rounds. These are all entries of the lists if nothing else was pushed there.
     pub fn entries_of(&self, handle: &Handle) -> (usize, usize)
         requires { HasEntriesOf self.now handle.now }
         ensures current { result.0 ≡ handle.now.current.first }
@@ -449,14 +462,14 @@ impl<'a, A: Allocator> BindingLog<'a, A> {
     }
 }
 
-// A handle of two new lists, which have nothing but these links. `AllocError` if out of memory.
+// Makes a handle of two new lists, which have only these links. `AllocError` if out of memory.
 #[inline(always)]
-fn begin<'a, A: Allocator + Copy>(
+fn new_handle<'a, A: Allocator + Copy>(
     alloc: A,
-    commands: &mut Vec<Linked<Command<'a, A>, A>, A>,
-    rounds: &mut Vec<Linked<Part, A>, A>,
-    link: Option<Part>,
-    round_link: Option<Part>,
+    commands: &mut Vec<ChainList<Command<'a, A>, A>, A>,
+    rounds: &mut Vec<ChainList<ListPrefix, A>, A>,
+    link: Option<ListPrefix>,
+    round_link: Option<ListPrefix>,
 ) -> Result<Handle, AllocError>
     ensures commands { OnOk result (commands.new.items ≡ with_link commands.old.items link) }
     ensures rounds { OnOk result (rounds.new.items ≡ with_link rounds.old.items round_link) }
@@ -469,14 +482,14 @@ fn begin<'a, A: Allocator + Copy>(
 {
     commands.reserve(1)?;
     rounds.reserve(1)?;
-    let current = Linked::linked(alloc, link);
-    let finished = Linked::linked(alloc, round_link);
+    let current = ChainList::from_link(alloc, link);
+    let finished = ChainList::from_link(alloc, round_link);
     let handle = Handle {
-        current: Part {
+        current: ListPrefix {
             list: commands.len(),
             first: current.len(),
         },
-        finished: Part {
+        finished: ListPrefix {
             list: rounds.len(),
             first: finished.len(),
         },
@@ -486,6 +499,6 @@ fn begin<'a, A: Allocator + Copy>(
     Ok(handle)
 }
 
-fn release<T: Drop, A: Allocator>(lists: Vec<Linked<T, A>, A>) {
+fn drop_lists<T: Drop, A: Allocator>(lists: Vec<ChainList<T, A>, A>) {
     let _lists = lists;
 }

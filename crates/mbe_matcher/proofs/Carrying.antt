@@ -1,59 +1,63 @@
 -- What was made of a log and of open items has what positions, and reports, stand for.
-use Rattle.std.proofs.Common.{◌≡◌, ◌∙◌, ◌<◌, ◌++◌, ◌⊎◌, inl, inr, ℕ, List, [], ◌∷◌, Option, Some, None, option_map, option_to_list, length, refl, sym, ap, subst, append-nil, length-append, arith}
+use Rattle.std.proofs.Common.{◌≡◌, ◌∙◌, ◌<◌, ◌++◌, ◌⊎◌, inl, inr, ℕ, List, [], ◌∷◌, Option, Some, None, option_map}
+use Rattle.std.proofs.Common.{option_to_list, length, refl, sym, ap, subst, append-nil, length-append, arith}
 use Rattle.std.specs.Prelude.{IfSome, slice_get}
 use Rattle.std.proofs.lemmas.Option.{none-some, same_Some}
 use Rattle.mbe_tt.specs.Trees.Tree.{Forest}
 use Rattle.mbe_semantics.specs.Readings.Input.{Input}
 use Rattle.mbe_semantics.specs.Bindings.Account.{Log, Handle}
-use Rattle.mbe_semantics.specs.Matching.Outline.{Edge, gate, outline}
-use Rattle.mbe_bindings.specs.declared.compact.Moves.{Moves}
-use Rattle.mbe_bindings.specs.Compacting.{Sends}
+use Rattle.mbe_semantics.specs.Matching.ThreadModel.{ModelFrame, group_frame, thread_model}
+use Rattle.mbe_bindings.specs.declared.log_compaction.HandleMap.{HandleMap}
+use Rattle.mbe_bindings.specs.LogCompaction.{Maps}
 use Rattle.mbe_log.proofs.LogLemmas.{get-last, get-more}
 use Rattle.mbe_ops.specs.Views.{ops_of}
-use Rattle.mbe_places.specs.declared.position.Outer.{Outer}
-use Rattle.mbe_places.specs.declared.position.Position.{Position}
-use Rattle.mbe_places.specs.declared.position.Rounds.{Rounds}
-use Rattle.mbe_matcher.specs.declared.compacting.Moved.{Moved}
-use Rattle.mbe_matcher.specs.declared.ends.Visit as declared
-use Rattle.mbe_matcher.specs.declared.ends.Visit.TheVariants as variants
-use Rattle.mbe_matcher.specs.declared.report.Last.{Last}
-use Rattle.mbe_matcher.specs.declared.report.Report.{Report}
-use Rattle.mbe_matcher.specs.Positions.{Each, Both, IsBelow, AreRounds, edge_in, AreEdges, none_open, group_open, repetition_open, Shows, Keeps}
-use Rattle.mbe_matcher.specs.EndsMatched.{VisitShows}
+use Rattle.mbe_threads.specs.declared.thread.ThreadFrame.{ThreadFrame}
+use Rattle.mbe_threads.specs.declared.thread.Thread.{Thread}
+use Rattle.mbe_threads.specs.declared.thread.OpenRepetition.{OpenRepetition}
+use Rattle.mbe_matcher.specs.declared.compaction.CompactedThreads.{CompactedThreads}
+use Rattle.mbe_matcher.specs.declared.report_pass.Visit as declared
+use Rattle.mbe_matcher.specs.declared.report_pass.Visit.TheVariants as variants
+use Rattle.mbe_matcher.specs.declared.match_report.ReportedThread.{ReportedThread}
+use Rattle.mbe_matcher.specs.declared.match_report.MatchReport.{MatchReport}
+use Rattle.mbe_matcher.specs.Threads.{Each, Both, IsBelow, AreRounds, frame_in, AreFrames, none_open, group_open}
+use Rattle.mbe_matcher.specs.Threads.{repetition_open, Shows, Keeps}
+use Rattle.mbe_matcher.specs.ReportPass.{VisitShows}
 use Rattle.mbe_matcher.specs.Failures.{Source, failed, ended, source_of}
 use Rattle.mbe_matcher.specs.Reports.{IsSource, IsReportOf}
-use Rattle.mbe_matcher.specs.TwoEnds.{Visit, enter, leave}
-use Rattle.mbe_matcher.specs.Compacting.{AreHandles, IsNumbered, AreSent, IsCarried, AreCarried, Carries, CarriesPosition, CarriesVisit, CarriesReport, PositionsStay, VisitsStay}
+use Rattle.mbe_matcher.specs.FirstAndLast.{Visit, enter, leave}
+use Rattle.mbe_matcher.specs.Compaction.{AreHandles, IsNumbered, AreSent, IsCarried, AreCarried, Carries, CarriesThread}
+use Rattle.mbe_matcher.specs.Compaction.{CarriesVisit, CarriesReport, ThreadsStay, VisitsStay}
 use Rattle.mbe_matcher.proofs.Keeping.{kept_not, edges_keep}
 use Rattle.mbe_matcher.proofs.StepLemmas.{none_around, in_group, in_rounds}
 
 -- ---- open items
 
-module _ {A : Type 0} (old new : Log) (before after : List (Outer A)) (moves : Moves A) (numbers : List (Option ℕ))
+module _ {A : Type 0} (old new : Log) (before after : List (ThreadFrame A)) (moves : HandleMap A)
+    (numbers : List (Option ℕ))
     (handles : AreHandles moves old new) (c : AreCarried old new before after numbers) where
   -- what is around an item is there
-  pub carried_around : (u v : Option ℕ) (es : List Edge) → IsNumbered numbers u v → AreEdges old before u es
-      → IsBelow v (length after) × AreEdges new after v es
+  pub carried_around : (u v : Option ℕ) (es : List ModelFrame) → IsNumbered numbers u v → AreFrames old before u es
+      → IsBelow v (length after) × AreFrames new after v es
   carried_around None v es e around =
-      subst (λ (w : Option ℕ). IsBelow w (length after) × AreEdges new after w es) (sym e)
-      (tt, subst (AreEdges new after None) (sym (none_around old before None es around refl)) none_open)
+      subst (λ (w : Option ℕ). IsBelow w (length after) × AreFrames new after w es) (sym e)
+      (tt, subst (AreFrames new after None) (sym (none_around old before None es around refl)) none_open)
   carried_around (Some n) v es (m, at, e) around =
-      subst (λ (w : Option ℕ). IsBelow w (length after) × AreEdges new after w es) (sym e)
+      subst (λ (w : Option ℕ). IsBelow w (length after) × AreFrames new after w es) (sym e)
       (c.below n m at, c.edges n m at es around)
 
-  grown : (p : Outer A) → Keeps new new after (after ++ p ∷ [])
-  grown p = record { log = kept_not new; outers = (p ∷ [], refl) }
+  grown : (p : ThreadFrame A) → Keeps new new after (after ++ p ∷ [])
+  grown p = record { log = kept_not new; frames = (p ∷ [], refl) }
 
-  module _ (n : ℕ) (o p : Outer A) (at : slice_get before n ≡ Some o) (i : IsCarried moves numbers o p) where
+  module _ (n : ℕ) (o p : ThreadFrame A) (at : slice_get before n ≡ Some o) (i : IsCarried moves numbers o p) where
     -- the item that is added is that one
-    carried_item : (rs qs : Option (Rounds A)) → o.rounds ≡ rs → p.rounds ≡ qs → Both (AreSent moves) rs qs
-        → (es : List Edge) → AreEdges old before (Some n) es
-        → AreEdges new (after ++ p ∷ []) (Some (length after)) es
+    carried_item : (rs qs : Option (OpenRepetition A)) → o.rounds ≡ rs → p.rounds ≡ qs → Both (AreSent moves) rs qs
+        → (es : List ModelFrame) → AreFrames old before (Some n) es
+        → AreFrames new (after ++ p ∷ []) (Some (length after)) es
     carried_item None None e f b es edges =
         let g = in_group old before (Some n) es n o edges refl at e in
         let a = carried_around o.up p.up g.up i.up g.around in
-        subst (AreEdges new (after ++ p ∷ []) (Some (length after))) (sym g.is)
-        (subst (λ x. AreEdges new (after ++ p ∷ []) (Some (length after)) (gate (ops_of x.now) ∷ g.up)) i.rest
+        subst (AreFrames new (after ++ p ∷ []) (Some (length after))) (sym g.is)
+        (subst (λ x. AreFrames new (after ++ p ∷ []) (Some (length after)) (group_frame (ops_of x.now) ∷ g.up)) i.rest
         (group_open (length after) p g.up (get-last after p) f a.0
         (edges_keep new new after (after ++ p ∷ []) (grown p) a.1)))
     carried_item (Some r) (Some s) e f (k, sent, same) es edges =
@@ -63,9 +67,9 @@ module _ {A : Type 0} (old new : Log) (before after : List (Outer A)) (moves : M
           account = (handles r.outside k sent).account w.outside w.rounds.account;
           front = w.rounds.front;
         } in
-        subst (AreEdges new (after ++ p ∷ []) (Some (length after))) (sym w.is)
-        (subst (λ x. AreEdges new (after ++ p ∷ []) (Some (length after))
-        (edge_in r (ops_of x.now) w.began w.outside ∷ w.up)) i.rest
+        subst (AreFrames new (after ++ p ∷ []) (Some (length after))) (sym w.is)
+        (subst (λ x. AreFrames new (after ++ p ∷ []) (Some (length after))
+        (frame_in r (ops_of x.now) w.began w.outside ∷ w.up)) i.rest
         (repetition_open (length after) p (record r { outside = k }) w.began w.outside w.up (get-last after p)
         (f ∙ ap (λ x. Some x) same)
         (subst (λ x. AreRounds new (record r { outside = k }) (ops_of x.now) w.outside w.up) (sym i.rest) rounds) a.0
@@ -84,7 +88,7 @@ module _ {A : Type 0} (old new : Log) (before after : List (Outer A)) (moves : M
       got : (n m : ℕ) → slice_get (numbers ++ None ∷ []) n ≡ Some (Some m) → slice_get numbers n ≡ Some (Some m)
       got n m e = was n m (get-more numbers None (Some m) n e)
 
-  carried_some : (o p : Outer A) → slice_get before (length numbers) ≡ Some o → IsCarried moves numbers o p
+  carried_some : (o p : ThreadFrame A) → slice_get before (length numbers) ≡ Some o → IsCarried moves numbers o p
       → AreCarried old new before (after ++ p ∷ []) (numbers ++ Some (length after) ∷ [])
   carried_some o p at i = record {
     below = λ n m e. within n m (get-more numbers (Some (length after)) (Some m) n e);
@@ -102,18 +106,19 @@ module _ {A : Type 0} (old new : Log) (before after : List (Outer A)) (moves : M
           let more = length-append after (p ∷ []) in
           omega (arith, same, more)
 
-      there : (n m : ℕ) (es : List Edge) → (slice_get numbers n ≡ Some (Some m))
-          ⊎ ((n ≡ length numbers) × (Some (length after) ≡ Some m)) → AreEdges old before (Some n) es
-          → AreEdges new (after ++ p ∷ []) (Some m) es
+      there : (n m : ℕ) (es : List ModelFrame) → (slice_get numbers n ≡ Some (Some m))
+          ⊎ ((n ≡ length numbers) × (Some (length after) ≡ Some m)) → AreFrames old before (Some n) es
+          → AreFrames new (after ++ p ∷ []) (Some m) es
       there n m es (inl h) edges =
           edges_keep new new after (after ++ p ∷ []) (grown p) (c.edges n m h es edges)
       there n m es (inr h) edges =
-          subst (λ (k : ℕ). AreEdges new (after ++ p ∷ []) (Some k) es) (same_Some (length after) m h.1)
+          subst (λ (k : ℕ). AreFrames new (after ++ p ∷ []) (Some k) es) (same_Some (length after) m h.1)
           (carried_item (length numbers) o p at i o.rounds p.rounds refl refl i.rounds es
-          (subst (λ (k : ℕ). AreEdges old before (Some k) es) h.0 edges))
+          (subst (λ (k : ℕ). AreFrames old before (Some k) es) h.0 edges))
 
   -- one item more was looked at
-  pub carried_more : (o : Outer A) (given : Option (Outer A)) (longer : List (Outer A)) (more : List (Option ℕ))
+  pub carried_more : (o : ThreadFrame A) (given : Option (ThreadFrame A)) (longer : List (ThreadFrame A))
+      (more : List (Option ℕ))
       → slice_get before (length numbers) ≡ Some o → IfSome given (IsCarried moves numbers o)
       → longer ≡ after ++ option_to_list given
       → more ≡ numbers ++ option_map (λ _. length after) given ∷ [] → AreCarried old new before longer more
@@ -126,14 +131,14 @@ module _ {A : Type 0} (old new : Log) (before after : List (Outer A)) (moves : M
 
 -- ---- positions
 
-pub position_carried : {A : Type 0} (m : Moved A) (p : Position A) (v : Option ℕ) (k : Handle)
-    → IsNumbered m.numbers.items p.up v → Sends m.moves p.handle k
-    → CarriesPosition m p (record p { up = v; handle = k })
-position_carried m p v k up sent old before c (outline rest a es) s = record {
-  dot = s.dot;
+pub thread_carried : {A : Type 0} (m : CompactedThreads A) (p : Thread A) (v : Option ℕ) (k : Handle)
+    → IsNumbered m.numbers.items p.up v → Maps m.moves p.handle k
+    → CarriesThread m p (record p { up = v; handle = k })
+thread_carried m p v k up sent old before c (thread_model rest a es) s = record {
+  tail = s.tail;
   number = s.number;
   account = (c.handles p.handle k sent).account a s.account;
-  around = (carried_around old m.log before m.outers.items m.moves m.numbers.items c.handles c.items p.up v es up
+  around = (carried_around old m.log before m.frames.items m.moves m.numbers.items c.handles c.items p.up v es up
       s.around).1;
 }
 
@@ -147,52 +152,56 @@ each_through P Q R h (x ∷ xs) [] zs p q = absurd p
 each_through P Q R h (x ∷ xs) (y ∷ ys) [] p q = absurd q
 each_through P Q R h (x ∷ xs) (y ∷ ys) (z ∷ zs) p q = (h x y z p.0 q.0, each_through P Q R h xs ys zs p.1 q.1)
 
-pub positions_carried : {A : Type 0} (m : Moved A) (old : Log) (before : List (Outer A)) → Carries old before m
-    → (ps qs : List (Position A)) → Each (CarriesPosition m) ps qs
-    → PositionsStay old m.log before m.outers.items ps qs
-positions_carried m old before c ps qs each os shown =
-    each_through (CarriesPosition m) (Shows old before) (Shows m.log m.outers.items)
+pub threads_carried : {A : Type 0} (m : CompactedThreads A) (old : Log) (before : List (ThreadFrame A))
+    → Carries old before m
+    → (ps qs : List (Thread A)) → Each (CarriesThread m) ps qs
+    → ThreadsStay old m.log before m.frames.items ps qs
+threads_carried m old before c ps qs each os shown =
+    each_through (CarriesThread m) (Shows old before) (Shows m.log m.frames.items)
     (λ p q o h s. h old before c o s) ps qs os each shown
 
-visit_carried : {A : Type 0} (m : Moved A) (old : Log) (before : List (Outer A)) → Carries old before m
+visit_carried : {A : Type 0} (m : CompactedThreads A) (old : Log) (before : List (ThreadFrame A)) → Carries old before m
     → (i : Input) (here : Forest) (q : ℕ) (u v : declared.Visit A) (o : Visit) → CarriesVisit m u v
-    → VisitShows i here q old before u o → VisitShows i here q m.log m.outers.items v o
+    → VisitShows i here q old before u o → VisitShows i here q m.log m.frames.items v o
 visit_carried m old before c i here q (variants.Enter p) (variants.Enter r) (enter o) h s = h old before c o s
 visit_carried m old before c i here q (variants.Enter p) (variants.Enter r) (leave o) h s = absurd s
 visit_carried m old before c i here q (variants.Enter p) (variants.Leave l) o h s = absurd h
 visit_carried m old before c i here q (variants.Leave l) v o h s = absurd h
 
-pub visits_carried : {A : Type 0} (m : Moved A) (old : Log) (before : List (Outer A)) → Carries old before m
+pub visits_carried : {A : Type 0} (m : CompactedThreads A) (old : Log) (before : List (ThreadFrame A))
+    → Carries old before m
     → (us vs : List (declared.Visit A)) → Each (CarriesVisit m) us vs
-    → VisitsStay old m.log before m.outers.items us vs
+    → VisitsStay old m.log before m.frames.items us vs
 visits_carried m old before c us vs each i here q os shown =
-    each_through (CarriesVisit m) (VisitShows i here q old before) (VisitShows i here q m.log m.outers.items)
+    each_through (CarriesVisit m) (VisitShows i here q old before) (VisitShows i here q m.log m.frames.items)
     (visit_carried m old before c i here q) us vs os each shown
 
 -- ---- reports
 
-source_carried : {A : Type 0} (old new : Log) (argument : Forest) (moves : Moves A) → AreHandles moves old new
-    → (l : Last A) (k : Handle) → Sends moves l.handle k → (s : Source) → IsSource old argument l s
+source_carried : {A : Type 0} (old new : Log) (argument : Forest) (moves : HandleMap A) → AreHandles moves old new
+    → (l : ReportedThread A) (k : Handle) → Maps moves l.handle k → (s : Source) → IsSource old argument l s
     → IsSource new argument (record l { handle = k }) s
 source_carried old new argument moves handles l k sent (failed s) (m, held) =
     (m, (held.0, (handles l.handle k sent).account held.0 held.1, held.2))
 source_carried old new argument moves handles l k sent (ended cs) (m, held) =
     (m, (held.0, (handles l.handle k sent).account held.0 held.1, held.2))
 
-last_carried : {A : Type 0} (old new : Log) (argument : Forest) (moves : Moves A) → AreHandles moves old new
-    → (l : Last A) (k : Handle) → Sends moves l.handle k → (o : Option Source)
+last_carried : {A : Type 0} (old new : Log) (argument : Forest) (moves : HandleMap A) → AreHandles moves old new
+    → (l : ReportedThread A) (k : Handle) → Maps moves l.handle k → (o : Option Source)
     → Both (IsSource old argument) (Some l) o → Both (IsSource new argument) (Some (record l { handle = k })) o
 last_carried old new argument moves handles l k sent None b = absurd b
 last_carried old new argument moves handles l k sent (Some s) b =
     source_carried old new argument moves handles l k sent s b
 
-pub report_carried : {A : Type 0} (moves : Moves A) (r s : Report A) (l : Last A) (k : Handle) → r.last ≡ Some l
-    → Sends moves l.handle k → s ≡ record r { last = Some (record l { handle = k }) } → CarriesReport moves r s
+pub report_carried : {A : Type 0} (moves : HandleMap A) (r s : MatchReport A) (l : ReportedThread A) (k : Handle)
+    → r.last ≡ Some l
+    → Maps moves l.handle k → s ≡ record r { last = Some (record l { handle = k }) } → CarriesReport moves r s
 report_carried {A} moves r s l k e sent same old new handles argument ms before is =
-    subst (λ (x : Report A). IsReportOf new argument x ms before) (sym same)
+    subst (λ (x : MatchReport A). IsReportOf new argument x ms before) (sym same)
     (record {
       first = is.first;
       last = last_carried old new argument moves handles l k sent (source_of ms [] before.last)
-          (subst (λ (x : Option (Last A)). Both (IsSource old argument) x (source_of ms [] before.last)) e is.last);
+          (subst (λ (x : Option (ReportedThread A)). Both (IsSource old argument) x (source_of ms [] before.last)) e
+          is.last);
       here = is.here;
     })

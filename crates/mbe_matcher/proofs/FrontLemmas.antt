@@ -1,11 +1,13 @@
 -- Tokens before trees, consumed.
-use Rattle.std.proofs.Common.{◌≡◌, ◌<◌, ℕ, Bool, true, false, List, [], ◌∷◌, length, Some, None, if◌then◌else◌, refl, sym, ap, subst, ◌∙◌, arith}
+use Rattle.std.proofs.Common.{◌≡◌, ◌<◌, ℕ, Bool, true, false, List, [], ◌∷◌, length, Some, None, if◌then◌else◌, refl}
+use Rattle.std.proofs.Common.{sym, ap, subst, ◌∙◌, arith}
 use Rattle.std.specs.Str.{bytes_eq}
 use Rattle.std.proofs.lemmas.Option.{none-some, same_Some}
 use Rattle.std.proofs.lemmas.Slice.Eq.{bytes_eq-Decides}
 use Rattle.std.proofs.lemmas.List.{length-map}
 use Rattle.mbe_tt.specs.Trees.Leaf.{Ident, Literal, literal, punct, ident}
-use Rattle.mbe_tt.specs.Trees.Tree.{Forest, none, leaf, group, flat_len, rest_of, skip, front_leaf, any_ident, Cut, cut_trees}
+use Rattle.mbe_tt.specs.Trees.Tree.{Forest, none, leaf, group, flat_len, rest_of, skip, front_leaf, any_ident, Cut}
+use Rattle.mbe_tt.specs.Trees.Tree.{cut_trees}
 use Rattle.mbe_tt.specs.Trees.Glue.{glue, glued, chars_of}
 use Rattle.mbe_tt.specs.declared.tt.Punct.{Punct}
 use Rattle.mbe_semantics.specs.Readings.Fit.{literal_text_front, ident_text_front, puncts_front}

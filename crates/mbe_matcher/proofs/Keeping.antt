@@ -1,17 +1,19 @@
 -- What positions stand for in a log, with outer items, they stand for in a later one.
-use Rattle.std.proofs.Common.{◌≡◌, ◌∙◌, ◌++◌, ◌+◌, ◌<◌, ℕ, zero, suc, List, [], ◌∷◌, length, take, get_or, Option, Some, None, option_to_list, sym, ap, subst, append_assoc, append-nil}
+use Rattle.std.proofs.Common.{◌≡◌, ◌∙◌, ◌++◌, ◌+◌, ◌<◌, ℕ, zero, suc, List, [], ◌∷◌, length, take, get_or, Option, Some}
+use Rattle.std.proofs.Common.{None, option_to_list, sym, ap, subst, append_assoc, append-nil}
 use Rattle.std.proofs.lemmas.List.{take_more}
 use Rattle.std.specs.Prelude.{slice_get}
 use Rattle.std.proofs.lemmas.Option.{none-some}
 use Rattle.mbe_tt.specs.Trees.Tree.{Forest}
 use Rattle.mbe_semantics.specs.Bindings.Account.{Commands, Log, Handle}
-use Rattle.mbe_semantics.specs.Matching.Outline.{Edge, Outline, outline, Advance, advance}
-use Rattle.mbe_log.specs.Shared.{IsKept}
+use Rattle.mbe_semantics.specs.Matching.ThreadModel.{ModelFrame, ThreadModel, thread_model, Advance, advance}
+use Rattle.mbe_log.specs.HandleChanges.{KeepsHandles}
 use Rattle.mbe_log.proofs.ClientLemmas.{kept-on}
-use Rattle.mbe_places.specs.declared.position.Position.{Position}
-use Rattle.mbe_places.specs.declared.position.Outer.{Outer}
-use Rattle.mbe_places.specs.declared.position.Waiting.{Waiting}
-use Rattle.mbe_matcher.specs.Positions.{Each, Both, Grows, AreEdges, none_open, group_open, repetition_open, Shows, LeadsTo, Holds, Keeps}
+use Rattle.mbe_threads.specs.declared.thread.Thread.{Thread}
+use Rattle.mbe_threads.specs.declared.thread.ThreadFrame.{ThreadFrame}
+use Rattle.mbe_threads.specs.declared.thread.TokenStep.{TokenStep}
+use Rattle.mbe_matcher.specs.Threads.{Each, Both, Grows, AreFrames, none_open, group_open, repetition_open, Shows}
+use Rattle.mbe_matcher.specs.Threads.{LeadsTo, Holds, Keeps}
 
 -- ---- lists
 
@@ -69,36 +71,36 @@ both_each P (Some x) None b = absurd b
 
 -- ---- positions
 
-pub kept_not : (log : Log) → IsKept log log
+pub kept_not : (log : Log) → KeepsHandles log log
 kept_not log = record { stays = λ k h. h; entries = λ k h. h; others = λ k a h. h }
 
-pub keeps_not : {A : Type 0} (log : Log) (outers : List (Outer A)) → Keeps log log outers outers
-keeps_not log outers = record { log = kept_not log; outers = grows_not outers }
+pub keeps_not : {A : Type 0} (log : Log) (frames : List (ThreadFrame A)) → Keeps log log frames frames
+keeps_not log frames = record { log = kept_not log; frames = grows_not frames }
 
-pub keeps_on : {A : Type 0} (old middle new : Log) (before between after : List (Outer A))
+pub keeps_on : {A : Type 0} (old middle new : Log) (before between after : List (ThreadFrame A))
     → Keeps old middle before between → Keeps middle new between after → Keeps old new before after
 keeps_on old middle new before between after k l =
-    record { log = kept-on old middle new k.log l.log; outers = grows_on before between after k.outers l.outers }
+    record { log = kept-on old middle new k.log l.log; frames = grows_on before between after k.frames l.frames }
 
-module _ {A : Type 0} (old new : Log) (before after : List (Outer A)) (k : Keeps old new before after) where
-  pub edges_keep : {u : Option ℕ} {es : List Edge} → AreEdges old before u es → AreEdges new after u es
+module _ {A : Type 0} (old new : Log) (before after : List (ThreadFrame A)) (k : Keeps old new before after) where
+  pub edges_keep : {u : Option ℕ} {es : List ModelFrame} → AreFrames old before u es → AreFrames new after u es
   edges_keep none_open = none_open
   edges_keep (group_open n o es at r below up) =
-      group_open n o es (still_got before after n o k.outers at) r below (edges_keep up)
+      group_open n o es (still_got before after n o k.frames at) r below (edges_keep up)
   edges_keep (repetition_open n o r began a es at e rounds below up) =
-      repetition_open n o r began a es (still_got before after n o k.outers at) e
+      repetition_open n o r began a es (still_got before after n o k.frames at) e
       (record { account = k.log.others r.outside a rounds.account; front = rounds.front }) below (edges_keep up)
 
-  pub shows_keep : (p : Position A) (o : Outline) → Shows old before p o → Shows new after p o
-  shows_keep p (outline rest a up) s =
+  pub shows_keep : (p : Thread A) (o : ThreadModel) → Shows old before p o → Shows new after p o
+  shows_keep p (thread_model rest a up) s =
       record {
-        dot = s.dot;
+        tail = s.tail;
         number = s.number;
         account = k.log.others p.handle a s.account;
         around = edges_keep s.around;
       }
 
-  pub leads_keep : (here : Forest) (w : Waiting A) (a : Advance) → LeadsTo old before here w a
+  pub leads_keep : (here : Forest) (w : TokenStep A) (a : Advance) → LeadsTo old before here w a
       → LeadsTo new after here w a
   leads_keep here w (advance n f o) l =
       record { width_is = l.width_is; fragment_is = l.fragment_is; left = l.left; after = shows_keep w.after o l.after }
@@ -107,10 +109,12 @@ module _ {A : Type 0} (old new : Log) (before after : List (Outer A)) (k : Keeps
   holds_keep h cs (a, i, e) = (a, k.log.others h a i, e)
 
 -- one outer item more
-pub keeps_more : {A : Type 0} (log : Log) (outers all : List (Outer A)) (o : Outer A) → all ≡ outers ++ o ∷ []
-    → Keeps log log outers all
-keeps_more log outers all o e = record { log = kept_not log; outers = (o ∷ [], e) }
+pub keeps_more : {A : Type 0} (log : Log) (frames all : List (ThreadFrame A)) (o : ThreadFrame A) → all ≡ frames ++ o
+    ∷ []
+    → Keeps log log frames all
+keeps_more log frames all o e = record { log = kept_not log; frames = (o ∷ [], e) }
 
 -- no outer item more
-pub kept_only : {A : Type 0} (old new : Log) (outers : List (Outer A)) → IsKept old new → Keeps old new outers outers
-kept_only old new outers k = record { log = k; outers = grows_not outers }
+pub kept_only : {A : Type 0} (old new : Log) (frames : List (ThreadFrame A)) → KeepsHandles old new
+    → Keeps old new frames frames
+kept_only old new frames k = record { log = k; frames = grows_not frames }

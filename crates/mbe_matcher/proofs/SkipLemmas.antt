@@ -1,11 +1,12 @@
 -- Names that are skipped one after the other, and dots that are counted.
 use Rattle.std.proofs.Common.{◌≡◌, arith, length, List, [], ◌∷◌, ◌++◌, refl, sym, ap, subst, ◌∙◌}
 use Rattle.mbe_semantics.specs.Syntax.Op.{Name, Op, Ops, no_ops, op, names_of_op, names_of}
-use Rattle.mbe_semantics.specs.Bindings.Account.{Commands, command, Command, Account, Log, Handle, IsAccount, HasEntriesOf, skip_commands}
-use Rattle.mbe_semantics.specs.Matching.Outline.{skipped}
-use Rattle.mbe_log.specs.Shared.{IsKept}
+use Rattle.mbe_semantics.specs.Bindings.Account.{Commands, command, Command, Account, Log, Handle, IsAccount}
+use Rattle.mbe_semantics.specs.Bindings.Account.{HasEntriesOf, skip_commands}
+use Rattle.mbe_semantics.specs.Matching.ThreadModel.{skipped}
+use Rattle.mbe_log.specs.HandleChanges.{KeepsHandles}
 use Rattle.mbe_log.proofs.ClientLemmas.{kept-on}
-use Rattle.mbe_matcher.specs.Rewriting.{IsRewritten}
+use Rattle.mbe_matcher.specs.Rewrites.{IsRewritten}
 use Rattle.mbe_matcher.proofs.Keeping.{kept_not}
 
 skip_more : (xs ys : List Name) (cs : Commands) → skip_commands (xs ++ ys) cs ≡ skip_commands ys (skip_commands xs cs)
@@ -22,7 +23,7 @@ pub record SkipsUpTo (old new : Log) (before after : Handle) (all left : Ops) : 
   pub entries : HasEntriesOf new after
   pub account : (a : Account) → IsAccount old before a
       → (b : Account) × IsAccount new after b × (skipped (names_of left) b ≡ skipped (names_of all) a)
-  pub kept : IsKept old new
+  pub kept : KeepsHandles old new
 
 pub skips_none : (log : Log) (h : Handle) (all : Ops) → HasEntriesOf log h → SkipsUpTo log log h h all all
 skips_none log h all l = record { entries = l; account = λ a i. (a, i, refl); kept = kept_not log }

@@ -1,13 +1,15 @@
 -- What was consumed, as the number of its flat tokens.
-use Rattle.std.proofs.Common.{◌≡◌, ◌-◌, ℕ, Bool, true, false, List, Option, Some, None, if◌then◌else◌, refl, sym, ap, subst, ◌∙◌, arith}
+use Rattle.std.proofs.Common.{◌≡◌, ◌-◌, ℕ, Bool, true, false, List, Option, Some, None, if◌then◌else◌, refl, sym, ap}
+use Rattle.std.proofs.Common.{subst, ◌∙◌, arith}
 use Rattle.std.specs.Str.{bytes_eq}
 use Rattle.std.proofs.lemmas.Slice.Eq.{bytes_eq-Decides}
 use Rattle.std.proofs.lemmas.Option.{none-some, same_Some}
 use Rattle.std.proofs.lemmas.Bool.{false≢true}
 use Rattle.mbe_tt.specs.Trees.Leaf.{Leaf, Ident, ident, literal, punct}
-use Rattle.mbe_tt.specs.Trees.Tree.{Forest, none, leaf, group, flat_len, rest_of, front_literal, is_truth, Cut, cut_trees}
+use Rattle.mbe_tt.specs.Trees.Tree.{Forest, none, leaf, group, flat_len, rest_of, front_literal, is_bool_text, Cut}
+use Rattle.mbe_tt.specs.Trees.Tree.{cut_trees}
 use Rattle.mbe_tt.specs.Laws.TreeLaws.{IsCut}
-use Rattle.mbe_tt.proofs.Places.CutLemmas.{flat_len-append}
+use Rattle.mbe_tt.proofs.Offsets.CutLemmas.{flat_len-append}
 use Rattle.mbe_semantics.specs.Syntax.Op.{Token, Separator}
 use Rattle.mbe_semantics.specs.Readings.Fit.{token_front, literal_separator_front, separator_front}
 use Rattle.mbe_semantics.specs.Readings.Input.{length_of}
@@ -42,12 +44,12 @@ separator_width r s f left h = passed_width r (separator_front s f) f left h (be
 
 -- ---- a literal between two rounds
 
-truth_of : (i : Ident) (l : Leaf) → Some l ≡ (if is_truth i.sym then Some (ident i) else None)
-    → (l ≡ ident i) × (is_truth i.sym ≡ true)
-truth_of i l e = go (is_truth i.sym) refl e
+truth_of : (i : Ident) (l : Leaf) → Some l ≡ (if is_bool_text i.sym then Some (ident i) else None)
+    → (l ≡ ident i) × (is_bool_text i.sym ≡ true)
+truth_of i l e = go (is_bool_text i.sym) refl e
   where
-    go : (b : Bool) → is_truth i.sym ≡ b → Some l ≡ (if b then Some (ident i) else None)
-        → (l ≡ ident i) × (is_truth i.sym ≡ true)
+    go : (b : Bool) → is_bool_text i.sym ≡ b → Some l ≡ (if b then Some (ident i) else None)
+        → (l ≡ ident i) × (is_bool_text i.sym ≡ true)
     go true t h = (same_Some l (ident i) h, t)
     go false t h = absurd (none-some l (sym h))
 
@@ -63,10 +65,11 @@ literal_separator_passed (leaf (literal k) rest) left l text e r =
 literal_separator_passed (leaf (punct p) rest) left l text e r = absurd (none-some l (sym e))
 literal_separator_passed (group d inside rest) left l text e r = absurd (none-some l (sym e))
 literal_separator_passed (leaf (ident i) rest) left l text e r =
-    let t : (l ≡ ident i) × (is_truth i.sym ≡ true) = truth_of i l e in
+    let t : (l ≡ ident i) × (is_bool_text i.sym ≡ true) = truth_of i l e in
     subst (λ (m : Leaf). HasPassed (has_text m text) (literal_separator_front text (leaf (ident i) rest)) left)
     (sym t.0)
-    (go (bytes_eq i.sym text) refl (is_truth text) (λ h. sym (ap is_truth ((bytes_eq-Decides i.sym text).0 h)) ∙ t.1))
+    (go (bytes_eq i.sym text) refl (is_bool_text text) (λ h. sym (ap is_bool_text ((bytes_eq-Decides i.sym text).0 h))
+    ∙ t.1))
   where
     go : (b : Bool) → bytes_eq i.sym text ≡ b → (t : Bool) → (b ≡ true → t ≡ true) →
         HasPassed b (if t then (if b then Some (cut_trees 1 (leaf (ident i) rest)) else None) else None) left

@@ -1,6 +1,6 @@
 -- Where two readings of an argument part.
-pub mod Parting
-pub mod Spots
+pub mod Divergence
+pub mod States
 pub mod Graph
-pub mod Code
-pub mod Going
+pub mod Views
+pub mod Continuation

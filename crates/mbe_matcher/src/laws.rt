@@ -1,19 +1,20 @@
-// What a match that doesn't fit reports is found by a second pass over the first and the last
-// position of each dot. Laws run nothing.
-ghost use Rattle.mbe_matcher.specs.TwoEnds.{SecondPassLaw, KeptPassLaw, KeptPassGoesOn};
+// Laws of the second pass, which finds the report of a match that fails. The pass follows the first
+// and the last thread of each state. Laws run nothing.
+ghost use Rattle.mbe_matcher.specs.FirstAndLast.{SecondPassLaw, ModelPassLaw, ModelPassContinues};
 
-/// Up to the place where a match stops, the first and the last position of each dot note what all
-/// positions do.
+/// Up to the offset where a match stops, the first and the last thread of each state note what all
+/// threads note.
 pub fn second_pass()
     ensures { SecondPassLaw }
 {}
 
-/// So do their outlines, which a program keeps.
-pub fn kept_pass()
-    ensures { KeptPassLaw }
+/// The same law for thread models, which the program keeps.
+pub fn model_pass()
+    ensures { ModelPassLaw }
 {}
 
-/// Before that place they go on, and not past it.
-pub fn kept_pass_goes_on()
-    ensures { KeptPassGoesOn }
+/// Before that offset the thread models have a step over tokens, and it doesn't lead past the
+/// offset.
+pub fn model_pass_continues()
+    ensures { ModelPassContinues }
 {}

@@ -1,18 +1,23 @@
-// Matches arguments against patterns. A layer of `mbe`: use that crate.
+// Matches arguments against patterns.
+//
+// The matcher is a Pike VM: it runs all readings of an argument at once, as threads over the states
+// of the pattern. It returns the verdict (one reading, several, a local ambiguity, or stuck), what
+// the only reading binds, and the error of a match that fails. Other modules tell what a pattern
+// expects where a match stops, and where two readings diverge. A layer of `mbe`: use that crate.
 #![tactic(auto)]
 
-mod compacting;
-pub mod eat;
-mod ends;
-mod fronts;
+mod closure;
+mod compaction;
+pub mod consumers;
+mod empty_repetition;
+pub mod expectations;
 pub mod laws;
-pub mod matching;
-mod met;
-mod places;
+mod match_report;
+pub mod matcher;
+pub mod prefilter;
 pub mod readings;
-mod report;
-mod settle;
-mod skipping;
-pub mod start;
+mod report_pass;
+mod simulation;
 mod steps;
-pub mod wanting;
+mod token_widths;
+mod visited_set;

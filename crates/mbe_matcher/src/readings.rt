@@ -1,11 +1,11 @@
-// Where two readings of an argument part.
+// Where two readings of an argument diverge: a search in a graph of states at offsets.
+mod continuation;
+pub mod divergence;
 mod edges;
-mod going;
 mod graph;
 pub mod laws;
-mod marks;
-pub mod parting;
-mod spot;
-mod spots;
-mod steps;
-mod ways;
+mod reachability;
+mod state;
+mod states;
+mod step_table;
+mod transitions;

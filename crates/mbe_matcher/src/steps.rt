@@ -1,74 +1,78 @@
-// The steps of a position at one place.
-ghost use Rattle.std.specs.Prelude.{ℕ, ◌≡◌, ◌≤◌, ◌<◌, ◌+◌, ◌++◌, List, IfOk, OnOk, IsSome, IfSome, Some, None, option_map, option_to_list};
+// The steps of a thread at one offset.
+ghost use Rattle.std.specs.Prelude.{ℕ, ◌≡◌, ◌≤◌, ◌<◌, ◌+◌, ◌++◌, List, IfOk, OnOk, IsSome, IfSome};
+ghost use Rattle.std.specs.Prelude.{Some, None, option_map, option_to_list};
 ghost use Rattle.mbe_tt.specs.Trees.Tree.{flat_len};
 ghost use Rattle.mbe_tt.specs.Views.View.{trees};
 ghost use Rattle.mbe_semantics.specs.Bindings.Account.{Log, Account, IsAccount, HasEntriesOf};
 ghost use Rattle.mbe_semantics.specs.Syntax.Op.{op as op_then, group, variable, repetition, no_ops};
-ghost use Rattle.mbe_semantics.specs.Matching.Dots.{dots};
+ghost use Rattle.mbe_semantics.specs.Matching.States.{state_count};
 ghost use Rattle.mbe_tt.specs.declared.span.Span.{Span};
-ghost use Rattle.mbe_tt.specs.Fragments.Grammar.{Grammar};
+ghost use Rattle.mbe_tt.specs.Grammars.Grammar.{Grammar};
 ghost use Rattle.mbe_ops.specs.Views.{op_of, ops_of, separator_seen};
-ghost use Rattle.mbe_places.specs.declared.position.Outer.{Outer};
-ghost use Rattle.mbe_matcher.specs.Matched.{IsStackOf};
-ghost use Rattle.mbe_matcher.specs.Positions.{IsPosition, IsPlain, Keeps, GivesSteps, GivesStepsIn, GivesStepsOver, GivesStepsFor, GivesRoundSteps, GivesClosingSteps, GivesAlone, AreStepsOf, IsAtMostOver, IsSkip, over_steps};
+ghost use Rattle.mbe_threads.specs.declared.thread.ThreadFrame.{ThreadFrame};
+ghost use Rattle.mbe_matcher.specs.MatchResults.{IsStackOf};
+ghost use Rattle.mbe_matcher.specs.Threads.{IsThread, IsPlain, Keeps, GivesSteps, GivesStepsIn};
+ghost use Rattle.mbe_matcher.specs.Threads.{GivesStepsOver, GivesStepsFor, GivesRoundSteps};
+ghost use Rattle.mbe_matcher.specs.Threads.{GivesClosingSteps, GivesAlone, AreStepsOf};
+ghost use Rattle.mbe_matcher.specs.Threads.{IsAtMostOver, IsSkip, over_steps};
 ghost use Rattle.mbe_matcher.specs.Reports.{StepsAlone};
 
-use crate::eat::eat_fragment;
-use crate::fronts::{between_width, opens, token_width};
-use crate::skipping::skip_ops;
-use mbe_log::fragment::of_kind;
-use mbe_log::log::{BindingLog, again, emptied};
+use crate::consumers::eat_fragment;
+use crate::empty_repetition::skip_ops;
+use crate::token_widths::{between_width, opens, token_width};
+use mbe_log::fragment::fragment_of_kind;
+use mbe_log::log::{BindingLog, again, empty_handle};
 use mbe_ops::ops::{Op, Separator};
-use mbe_places::position::{Outer, Position, Rounds, Steps, Waiting};
-use mbe_places::source::Source;
-use mbe_semantics::kinds::{MetaVarKind, RepeatKind};
+use mbe_semantics::fragment_kinds::{MetaVarKind, RepeatKind};
+use mbe_threads::source::Source;
+use mbe_threads::thread::{OpenRepetition, Steps, Thread, ThreadFrame, TokenStep};
 use mbe_tt::grammar::FragmentGrammar;
 use mbe_tt::symbol::Symbol;
 use mbe_tt::tt::{Delimiter, TtIter};
 use std::alloc::{AllocError, Allocator};
 
-// All steps of the position at the source's place.
+// Returns all steps of the thread at the source's offset. `AllocError` if out of memory.
 #[inline(always)]
 pub(crate) fn steps<'a, A: Allocator + Copy, G: FragmentGrammar>(
     grammar: &G,
     source: &Source<'a, A>,
     log: &mut BindingLog<'a, A>,
-    outers: &mut Vec<Outer<'a, A>, A>,
-    position: Position<'a, A>,
+    frames: &mut Vec<ThreadFrame<'a, A>, A>,
+    thread: Thread<'a, A>,
 ) -> Result<Steps<'a, A>, AllocError>
-    requires { IsPosition log.old outers.old.items position }
+    requires { IsThread log.old frames.old.items thread }
     ensures { GivesSteps (G.grammar grammar.now) source.now log.old log.new
-        outers.old.items outers.new.items position.entry result }
+        frames.old.items frames.new.items thread.entry result }
 {
-    match position.dot {
-        [] => end_steps(source, log, outers, position),
-        [op, rest @ ..] => op_steps(grammar, source, log, outers, op, rest, position),
+    match thread.tail {
+        [] => end_steps(source, log, frames, thread),
+        [op, rest @ ..] => op_steps(grammar, source, log, frames, op, rest, thread),
     }
 }
 
-// The steps before an op. `rest` are the ops after it.
+// Returns the steps of a thread before an op. `rest` are the ops after it.
 #[tactic(auto, using(mbe_ops::proofs::OpViews::views))]
 #[inline(always)]
 fn op_steps<'a, A: Allocator + Copy, G: FragmentGrammar>(
     grammar: &G,
     source: &Source<'a, A>,
     log: &mut BindingLog<'a, A>,
-    outers: &mut Vec<Outer<'a, A>, A>,
+    frames: &mut Vec<ThreadFrame<'a, A>, A>,
     op: &'a Op<A>,
     rest: &'a [Op<A>],
-    position: Position<'a, A>,
+    thread: Thread<'a, A>,
 ) -> Result<Steps<'a, A>, AllocError>
-    requires placed { IsPosition log.old outers.old.items position }
-    requires dot { ops_of position.dot.now ≡ op_then (op_of op.now) (ops_of rest.now) }
+    requires placed { IsThread log.old frames.old.items thread }
+    requires tail { ops_of thread.tail.now ≡ op_then (op_of op.now) (ops_of rest.now) }
     ensures { GivesSteps (G.grammar grammar.now) source.now log.old log.new
-        outers.old.items outers.new.items position.entry result }
+        frames.old.items frames.new.items thread.entry result }
 {
     match op {
         Op::Var { name, kind, .. } => {
-            variable_steps(grammar, source, log, name, *kind, rest, position)
+            variable_steps(grammar, source, log, name, *kind, rest, thread)
         }
         Op::Subtree { tokens, delimiter } => {
-            group_steps(source, outers, delimiter.get(), &tokens.0, rest, position)
+            group_steps(source, frames, delimiter.get(), &tokens.0, rest, thread)
         }
         Op::Repeat {
             tokens,
@@ -76,11 +80,11 @@ fn op_steps<'a, A: Allocator + Copy, G: FragmentGrammar>(
             separator,
         } => {
             let separator = separator.as_ref();
-            repetition_steps(log, outers, &tokens.0, separator, *kind, rest, position)
+            repetition_steps(log, frames, &tokens.0, separator, *kind, rest, thread)
         }
-        Op::Literal(_) | Op::Ident(_) | Op::Punct(_) => Ok(plain_steps(source, op, rest, position)),
+        Op::Literal(_) | Op::Ident(_) | Op::Punct(_) => Ok(plain_steps(source, op, rest, thread)),
         // No metavariable expression is in a pattern.
-        Op::Expression(_) => { Ok(plain_steps(source, op, rest, position)) }
+        Op::Expression(_) => { Ok(plain_steps(source, op, rest, thread)) }
     }
 }
 
@@ -96,11 +100,11 @@ fn no_steps<'a, A: Allocator>() -> Steps<'a, A>
     }
 }
 
-// Those over no flat token alone.
+// Returns epsilon steps alone.
 #[inline(always)]
-fn idle<'a, A: Allocator>(
-    first: Option<Position<'a, A>>,
-    second: Option<Position<'a, A>>,
+fn epsilons<'a, A: Allocator>(
+    first: Option<Thread<'a, A>>,
+    second: Option<Thread<'a, A>>,
 ) -> Steps<'a, A>
     ensures { result
         ≡ record { first = first.entry; second = second.entry; next = None; done = None } }
@@ -113,13 +117,13 @@ fn idle<'a, A: Allocator>(
     }
 }
 
-// Over that many flat tokens, or none. `beyond` is what is left after them, where they are a
-// fragment.
+// Returns one step over `width` flat tokens: an epsilon step if there are none. If the tokens are a
+// fragment, `beyond` is the rest of the innermost group after them.
 #[inline(always)]
 fn over<'a, A: Allocator>(
     width: usize,
     beyond: Option<TtIter<'a, A>>,
-    after: Position<'a, A>,
+    after: Thread<'a, A>,
 ) -> Steps<'a, A>
     ensures { result ≡ over_steps width beyond.entry after.entry }
 {
@@ -131,7 +135,7 @@ fn over<'a, A: Allocator>(
             done: None,
         };
     }
-    let next = Waiting {
+    let next = TokenStep {
         width,
         beyond,
         after,
@@ -144,155 +148,155 @@ fn over<'a, A: Allocator>(
     }
 }
 
-// Over a token of the pattern.
+// Returns the step over a token of the pattern.
 #[inline(always)]
 fn plain_steps<'a, A: Allocator>(
     source: &Source<'a, A>,
     op: &Op<A>,
     rest: &'a [Op<A>],
-    position: Position<'a, A>,
+    thread: Thread<'a, A>,
 ) -> Steps<'a, A>
     requires plain { IsPlain (op_of op.now) }
-    requires dot { ops_of position.dot.now ≡ op_then (op_of op.now) (ops_of rest.now) }
-    requires number { 1 ≤ position.number }
-    ensures steps { AreStepsOf source.now position.entry result }
+    requires tail { ops_of thread.tail.now ≡ op_then (op_of op.now) (ops_of rest.now) }
+    requires number { 1 ≤ thread.number }
+    ensures steps { AreStepsOf source.now thread.entry result }
     ensures over { IsAtMostOver result }
 {
     let Some(width) = token_width(op, &source.here()) else {
         return no_steps();
     };
-    let after = Position {
-        dot: rest,
-        number: position.number - 1,
-        up: position.up,
-        handle: position.handle,
+    let after = Thread {
+        tail: rest,
+        number: thread.number - 1,
+        up: thread.up,
+        handle: thread.handle,
     };
     over(width, None, after)
 }
 
-// The step of an only position, if that is one over some tokens: nothing else comes of the place
-// then, and nothing is to be noted there.
+// Returns the step of the only thread, if that is its only step and consumes tokens. Then the
+// closure has nothing else to do at this offset, and nothing is to be noted. `None` otherwise.
 #[inline(always)]
 pub(crate) fn step_alone<'a, A: Allocator + Copy, G: FragmentGrammar>(
     grammar: &G,
     source: &Source<'a, A>,
     log: &mut BindingLog<'a, A>,
-    outers: &mut Vec<Outer<'a, A>, A>,
-    todo: &[Position<'a, A>],
-) -> Result<Option<Waiting<'a, A>>, AllocError>
+    frames: &mut Vec<ThreadFrame<'a, A>, A>,
+    todo: &[Thread<'a, A>],
+) -> Result<Option<TokenStep<'a, A>>, AllocError>
     requires stack { (size : ℕ) × IsStackOf (G.grammar grammar.now) source.now size
-        log.old outers.old.items todo.now }
+        log.old frames.old.items todo.now }
     ensures within { IfOk result (λ n. IsSome n
-        → source.now.place < flat_len (trees source.now.whole)) }
+        → source.now.offset < flat_len (trees source.now.whole)) }
     ensures alone { IfOk result (λ n. IfSome n (StepsAlone (G.grammar grammar.now) source.now
-        log.old log.new outers.old.items outers.new.items todo.now)) }
-    ensures kept { OnOk result (Keeps log.old log.new outers.old.items outers.new.items) }
+        log.old log.new frames.old.items frames.new.items todo.now)) }
+    ensures kept { OnOk result (Keeps log.old log.new frames.old.items frames.new.items) }
 {
-    let [position] = todo else {
+    let [thread] = todo else {
         return Ok(None);
     };
     if source.is_at_end() {
         return Ok(None);
     }
-    match position.dot {
-        [] => Ok(end_alone(source, outers, position.again())),
-        [op, rest @ ..] => op_alone(grammar, source, log, outers, op, rest, position.again()),
+    match thread.tail {
+        [] => Ok(end_alone(source, frames, thread.again())),
+        [op, rest @ ..] => op_alone(grammar, source, log, frames, op, rest, thread.again()),
     }
 }
 
-// Over an op. A `vis` may take no token, and is left to the other steps.
+// Returns the step over an op. A `vis` may match no token, so the closure handles it.
 #[tactic(auto, using(mbe_ops::proofs::OpViews::views))]
 #[inline(always)]
 fn op_alone<'a, A: Allocator + Copy, G: FragmentGrammar>(
     grammar: &G,
     source: &Source<'a, A>,
     log: &mut BindingLog<'a, A>,
-    outers: &mut Vec<Outer<'a, A>, A>,
+    frames: &mut Vec<ThreadFrame<'a, A>, A>,
     op: &'a Op<A>,
     rest: &'a [Op<A>],
-    position: Position<'a, A>,
-) -> Result<Option<Waiting<'a, A>>, AllocError>
-    requires placed { IsPosition log.old outers.old.items position }
-    requires dot { ops_of position.dot.now ≡ op_then (op_of op.now) (ops_of rest.now) }
+    thread: Thread<'a, A>,
+) -> Result<Option<TokenStep<'a, A>>, AllocError>
+    requires placed { IsThread log.old frames.old.items thread }
+    requires tail { ops_of thread.tail.now ≡ op_then (op_of op.now) (ops_of rest.now) }
     ensures { GivesAlone (G.grammar grammar.now) source.now log.old log.new
-        outers.old.items outers.new.items position.entry result }
+        frames.old.items frames.new.items thread.entry result }
 {
     match op {
         Op::Literal(_) | Op::Ident(_) | Op::Punct(_) => {
-            Ok(plain_steps(source, op, rest, position).next)
+            Ok(plain_steps(source, op, rest, thread).next)
         }
         Op::Var {
             kind: Some(MetaVarKind::Vis),
             ..
         } => Ok(None),
         Op::Var { name, kind, .. } => {
-            Ok(variable_steps(grammar, source, log, name, *kind, rest, position)?.next)
+            Ok(variable_steps(grammar, source, log, name, *kind, rest, thread)?.next)
         }
         Op::Subtree { tokens, delimiter } => {
-            Ok(group_steps(source, outers, delimiter.get(), &tokens.0, rest, position)?.next)
+            Ok(group_steps(source, frames, delimiter.get(), &tokens.0, rest, thread)?.next)
         }
         Op::Repeat { .. } | Op::Expression(_) => Ok(None),
     }
 }
 
-// Out of a group.
+// Returns the step out of a group.
 #[inline(always)]
 fn end_alone<'a, A: Allocator>(
     source: &Source<'a, A>,
-    outers: &[Outer<'a, A>],
-    position: Position<'a, A>,
-) -> Option<Waiting<'a, A>>
-    requires placed { (log : Log) × IsPosition log outers.now position }
-    requires dot { ops_of position.dot.now ≡ no_ops }
+    frames: &[ThreadFrame<'a, A>],
+    thread: Thread<'a, A>,
+) -> Option<TokenStep<'a, A>>
+    requires placed { (log : Log) × IsThread log frames.now thread }
+    requires tail { ops_of thread.tail.now ≡ no_ops }
     ensures { (g : Grammar) (log : Log) → GivesAlone g source.now log log
-        outers.now outers.now position.entry (Ok result) }
+        frames.now frames.now thread.entry (Ok result) }
 {
-    let Some(open) = position.up else {
+    let Some(open) = thread.up else {
         return None;
     };
-    let outer = &outers[open];
-    if outer.rounds.is_some() {
+    let frame = &frames[open];
+    if frame.rounds.is_some() {
         return None;
     }
-    closing_steps(source, outer, position).next
+    closing_steps(source, frame, thread).next
 }
 
-// Into a group.
+// Returns the step into a group.
 #[inline(always)]
 fn group_steps<'a, A: Allocator + Copy>(
     source: &Source<'a, A>,
-    outers: &mut Vec<Outer<'a, A>, A>,
+    frames: &mut Vec<ThreadFrame<'a, A>, A>,
     delimiter: Delimiter,
     body: &'a [Op<A>],
     rest: &'a [Op<A>],
-    position: Position<'a, A>,
+    thread: Thread<'a, A>,
 ) -> Result<Steps<'a, A>, AllocError>
-    requires dot { ops_of position.dot.now
+    requires tail { ops_of thread.tail.now
         ≡ op_then (group delimiter (ops_of body.now)) (ops_of rest.now) }
-    requires number { 1 ≤ position.number }
+    requires number { 1 ≤ thread.number }
     ensures steps { GivesStepsOver source.now
-        outers.old.items outers.new.items position.entry result }
+        frames.old.items frames.new.items thread.entry result }
     ensures over { IfOk result IsAtMostOver }
 {
     if !opens(delimiter.kind, &source.here()) {
         return Ok(no_steps());
     }
-    let up = Some(outers.len());
-    outers.push(Outer {
+    let up = Some(frames.len());
+    frames.push(ThreadFrame {
         rounds: None,
         rest,
-        up: position.up,
+        up: thread.up,
     })?;
-    let after = Position {
-        dot: body,
-        number: position.number - 1,
+    let after = Thread {
+        tail: body,
+        number: thread.number - 1,
         up,
-        handle: position.handle,
+        handle: thread.handle,
     };
     Ok(over(1, None, after))
 }
 
-// Over what a variable of the kind takes.
+// Returns the step over the fragment that a variable of the kind matches.
 #[inline(always)]
 fn variable_steps<'a, A: Allocator + Copy, G: FragmentGrammar>(
     grammar: &G,
@@ -301,84 +305,84 @@ fn variable_steps<'a, A: Allocator + Copy, G: FragmentGrammar>(
     name: &Symbol<A>,
     kind: Option<MetaVarKind>,
     rest: &'a [Op<A>],
-    position: Position<'a, A>,
+    thread: Thread<'a, A>,
 ) -> Result<Steps<'a, A>, AllocError>
-    requires entries { HasEntriesOf log.old position.handle }
-    requires dot { (span : Span) × (ops_of position.dot.now
+    requires entries { HasEntriesOf log.old thread.handle }
+    requires tail { (span : Span) × (ops_of thread.tail.now
         ≡ op_then (variable name.now kind span) (ops_of rest.now)) }
-    requires number { 1 ≤ position.number }
+    requires number { 1 ≤ thread.number }
     ensures steps { GivesStepsIn (G.grammar grammar.now) source.now
-        log.old log.new position.entry result }
+        log.old log.new thread.entry result }
     ensures over { IfOk result IsAtMostOver }
 {
     let mut beyond = source.here();
     let Some(tree) = eat_fragment(grammar, kind, &mut beyond)? else {
         return Ok(no_steps());
     };
-    let mut handle = position.handle;
-    log.push_fragment(&mut handle, name, of_kind(kind, tree))?;
-    let after = Position {
-        dot: rest,
-        number: position.number - 1,
-        up: position.up,
+    let mut handle = thread.handle;
+    log.push_fragment(&mut handle, name, fragment_of_kind(kind, tree))?;
+    let after = Thread {
+        tail: rest,
+        number: thread.number - 1,
+        up: thread.up,
         handle,
     };
     Ok(over(tree.flat_len(), Some(beyond), after))
 }
 
-// Into a repetition, and past it.
+// Returns the epsilon steps into a repetition and past it.
 #[inline(always)]
 fn repetition_steps<'a, A: Allocator + Copy>(
     log: &mut BindingLog<'a, A>,
-    outers: &mut Vec<Outer<'a, A>, A>,
+    frames: &mut Vec<ThreadFrame<'a, A>, A>,
     body: &'a [Op<A>],
     separator: Option<&'a Separator<A>>,
     kind: RepeatKind,
     rest: &'a [Op<A>],
-    position: Position<'a, A>,
+    thread: Thread<'a, A>,
 ) -> Result<Steps<'a, A>, AllocError>
-    requires entries { HasEntriesOf log.old position.handle }
-    requires dot { ops_of position.dot.now ≡ op_then (repetition (ops_of body.now)
+    requires entries { HasEntriesOf log.old thread.handle }
+    requires tail { ops_of thread.tail.now ≡ op_then (repetition (ops_of body.now)
         (option_map (λ s. separator_seen s.now) separator) kind) (ops_of rest.now) }
-    requires number { 1 + dots (ops_of body.now) ≤ position.number }
+    requires number { 1 + state_count (ops_of body.now) ≤ thread.number }
     ensures { GivesStepsFor log.old log.new
-        outers.old.items outers.new.items position.entry result }
+        frames.old.items frames.new.items thread.entry result }
 {
-    let second = skipped(log, body, kind, rest, &position)?;
-    let handle = emptied(&position.handle);
-    let front = position.number - 1;
-    let rounds = Rounds {
+    let second = skipped(log, body, kind, rest, &thread)?;
+    let handle = empty_handle(&thread.handle);
+    let front = thread.number - 1;
+    let rounds = OpenRepetition {
         body,
         separator,
         kind,
         front,
-        outside: position.handle,
+        outside: thread.handle,
     };
-    let first = Position {
-        dot: body,
+    let first = Thread {
+        tail: body,
         number: front,
-        up: Some(outers.len()),
+        up: Some(frames.len()),
         handle,
     };
-    outers.push(Outer {
+    frames.push(ThreadFrame {
         rounds: Some(rounds),
         rest,
-        up: position.up,
+        up: thread.up,
     })?;
-    Ok(idle(Some(first), second))
+    Ok(epsilons(Some(first), second))
 }
 
-// Past a repetition, where it may have no round.
+// Returns the thread after a repetition without rounds. `None` if the repetition needs a round.
 #[inline(always)]
 fn skipped<'a, A: Allocator + Copy>(
     log: &mut BindingLog<'a, A>,
     body: &'a [Op<A>],
     kind: RepeatKind,
     rest: &'a [Op<A>],
-    before: &Position<'a, A>,
-) -> Result<Option<Position<'a, A>>, AllocError>
+    before: &Thread<'a, A>,
+) -> Result<Option<Thread<'a, A>>, AllocError>
     requires entries { HasEntriesOf log.old before.now.handle }
-    requires number { 1 + dots (ops_of body.now) ≤ before.now.number }
+    requires number { 1 + state_count (ops_of body.now) ≤ before.now.number }
     ensures { IfOk result (IsSkip kind (ops_of body.now) (ops_of rest.now)
         log.old log.new before.now) }
 {
@@ -387,100 +391,100 @@ fn skipped<'a, A: Allocator + Copy>(
     }
     let mut handle = again(&before.handle);
     let inside = skip_ops(log, body, &mut handle)?;
-    Ok(Some(Position {
-        dot: rest,
+    Ok(Some(Thread {
+        tail: rest,
         number: before.number - 1 - inside,
         up: before.up,
         handle,
     }))
 }
 
-// The steps at the end of what is open.
+// Returns the steps at the end of a group's or a repetition's body, or at the pattern's end.
 #[inline(always)]
 fn end_steps<'a, A: Allocator + Copy>(
     source: &Source<'a, A>,
     log: &mut BindingLog<'a, A>,
-    outers: &[Outer<'a, A>],
-    position: Position<'a, A>,
+    frames: &[ThreadFrame<'a, A>],
+    thread: Thread<'a, A>,
 ) -> Result<Steps<'a, A>, AllocError>
-    requires placed { IsPosition log.old outers.now position }
-    requires dot { ops_of position.dot.now ≡ no_ops }
+    requires placed { IsThread log.old frames.now thread }
+    requires tail { ops_of thread.tail.now ≡ no_ops }
     ensures { (g : Grammar) → GivesSteps g source.now log.old log.new
-        outers.now outers.now position.entry result }
+        frames.now frames.now thread.entry result }
 {
-    let Some(open) = position.up else {
+    let Some(open) = thread.up else {
         return Ok(Steps {
             first: None,
             second: None,
             next: None,
-            done: Some(position.handle),
+            done: Some(thread.handle),
         });
     };
-    let outer = &outers[open];
-    if let Some(rounds) = &outer.rounds {
-        return round_steps(source, log, outer, rounds, position);
+    let frame = &frames[open];
+    if let Some(rounds) = &frame.rounds {
+        return round_steps(source, log, frame, rounds, thread);
     }
-    Ok(closing_steps(source, outer, position))
+    Ok(closing_steps(source, frame, thread))
 }
 
-// Out of a group, where the argument's group ends too.
+// Returns the step out of a group, if the argument's group ends here too.
 #[inline(always)]
 fn closing_steps<'a, A: Allocator>(
     source: &Source<'a, A>,
-    outer: &Outer<'a, A>,
-    position: Position<'a, A>,
+    frame: &ThreadFrame<'a, A>,
+    thread: Thread<'a, A>,
 ) -> Steps<'a, A>
-    requires group { outer.now.rounds ≡ None }
-    requires dot { ops_of position.dot.now ≡ no_ops }
-    requires number { 1 ≤ position.number }
-    ensures steps { GivesClosingSteps source.now outer.now position.entry result }
+    requires group { frame.now.rounds ≡ None }
+    requires tail { ops_of thread.tail.now ≡ no_ops }
+    requires number { 1 ≤ thread.number }
+    ensures steps { GivesClosingSteps source.now frame.now thread.entry result }
     ensures over { IsAtMostOver result }
 {
-    if !source.closes() {
+    if !source.is_at_group_end() {
         return no_steps();
     }
-    let after = Position {
-        dot: outer.rest,
-        number: position.number - 1,
-        up: outer.up,
-        handle: position.handle,
+    let after = Thread {
+        tail: frame.rest,
+        number: thread.number - 1,
+        up: frame.up,
+        handle: thread.handle,
     };
     over(1, None, after)
 }
 
-// Out of a repetition, and into another round.
+// Returns the steps out of a repetition and into another round.
 #[inline(always)]
 fn round_steps<'a, A: Allocator + Copy>(
     source: &Source<'a, A>,
     log: &mut BindingLog<'a, A>,
-    outer: &Outer<'a, A>,
-    rounds: &Rounds<'a, A>,
-    position: Position<'a, A>,
+    frame: &ThreadFrame<'a, A>,
+    rounds: &OpenRepetition<'a, A>,
+    thread: Thread<'a, A>,
 ) -> Result<Steps<'a, A>, AllocError>
-    requires account { (a : Account) × IsAccount log.old position.handle a }
+    requires account { (a : Account) × IsAccount log.old thread.handle a }
     requires outside { HasEntriesOf log.old rounds.now.outside }
-    requires dot { ops_of position.dot.now ≡ no_ops }
-    requires number { 1 ≤ position.number }
+    requires tail { ops_of thread.tail.now ≡ no_ops }
+    requires number { 1 ≤ thread.number }
     ensures { GivesRoundSteps source.now log.old log.new
-        outer.now rounds.now position.entry result }
+        frame.now rounds.now thread.entry result }
 {
     let mut outside = again(&rounds.outside);
-    log.push_nested(&mut outside, &position.handle)?;
-    let second = Some(Position {
-        dot: outer.rest,
-        number: position.number - 1,
-        up: outer.up,
+    log.push_nested(&mut outside, &thread.handle)?;
+    let second = Some(Thread {
+        tail: frame.rest,
+        number: thread.number - 1,
+        up: frame.up,
         handle: outside,
     });
     let Some(width) = between_width(rounds.kind, rounds.separator, &source.here()) else {
-        return Ok(idle(None, second));
+        return Ok(epsilons(None, second));
     };
-    let mut handle = position.handle;
+    let mut handle = thread.handle;
     log.push_default(&mut handle)?;
-    let again = Position {
-        dot: rounds.body,
+    let again = Thread {
+        tail: rounds.body,
         number: rounds.front,
-        up: position.up,
+        up: thread.up,
         handle,
     };
     Ok(Steps {
@@ -489,7 +493,7 @@ fn round_steps<'a, A: Allocator + Copy>(
     })
 }
 
-// The value at the end, if there is one.
+// Pushes the value, if there is one.
 #[inline(always)]
 pub(crate) fn push_some<T: Drop, A: Allocator + Copy>(
     values: &mut Vec<T, A>,

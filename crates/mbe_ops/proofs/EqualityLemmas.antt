@@ -1,5 +1,6 @@
 -- What is the same has one code, and lists that are the same are so one by one.
-use Rattle.std.specs.Prelude.{◌≡◌, ◌++◌, map, take, ◌↔◌, ◌==◌, ◌+◌, ◌<◌, ◌≤◌, ◌&&◌, ℕ, zero, suc, Bool, true, false, nat_eq, length, get_or, drop, List, [], ◌∷◌, Option, Some, None, option_map, IsTrue, refl}
+use Rattle.std.specs.Prelude.{◌≡◌, ◌++◌, map, take, ◌↔◌, ◌==◌, ◌+◌, ◌<◌, ◌≤◌, ◌&&◌, ℕ, zero, suc, Bool, true, false}
+use Rattle.std.specs.Prelude.{nat_eq, length, get_or, drop, List, [], ◌∷◌, Option, Some, None, option_map, IsTrue, refl}
 use Rattle.std.specs.Coded.{coded_option}
 use Rattle.std.specs.Cmp.Lexicographic.{pointwise}
 use Rattle.std.proofs.Common.{ap, sym, ◌∙◌, subst, true≢false, eq-eqb, arith}
@@ -7,13 +8,13 @@ use Rattle.std.proofs.lemmas.Option.{none-some, same_Some}
 use Rattle.std.proofs.lemmas.Bool.{and_parts, ne_eqb}
 use Rattle.std.proofs.lemmas.List.{drop_more, drop_all, take_more, map-append}
 use base.Stored.{Gv, gnum, gcons}
-use Rattle.mbe_tt.specs.Laws.Same.{same_is, is_same}
+use Rattle.mbe_tt.specs.Laws.CodeEquality.{same_is, is_same}
 use Rattle.mbe_tt.specs.declared.span.Span.{Span}
 use Rattle.mbe_tt.specs.contracts.tt.Delimiter as delimiter
-use Rattle.mbe_semantics.specs.contracts.kinds.RepeatKind as repeat
+use Rattle.mbe_semantics.specs.contracts.fragment_kinds.RepeatKind as repeat
 use Rattle.mbe_semantics.specs.contracts.macro_call_style.MacroCallStyle as style
-use Rattle.mbe_semantics.specs.declared.kinds.MetaVarKind.{MetaVarKind}
-use Rattle.mbe_semantics.specs.declared.kinds.RepeatKind.{RepeatKind}
+use Rattle.mbe_semantics.specs.declared.fragment_kinds.MetaVarKind.{MetaVarKind}
+use Rattle.mbe_semantics.specs.declared.fragment_kinds.RepeatKind.{RepeatKind}
 use Rattle.mbe_tt.specs.declared.tt.Delimiter.{Delimiter}
 use Rattle.mbe_semantics.specs.Syntax.Op as ops
 use Rattle.mbe_semantics.specs.Syntax.Op.{Name, Separator, Op, Ops, no_ops, op}
@@ -23,8 +24,10 @@ use Rattle.mbe_ops.specs.declared.ops.Op as code
 use Rattle.mbe_ops.specs.declared.expression.ConcatMetaVarExprElem as part
 use Rattle.mbe_ops.specs.Expressions.{element_seen, elements_seen, expression_code, element_code, element_eq}
 use Rattle.mbe_ops.specs.Views.{op_of, ops_of}
-use Rattle.mbe_ops.specs.Equality.{text_of, text_code, IsSameBetween, IsSameOp, AreSameOps, AreSameRules, IsSameMacro}
-use Rattle.mbe_ops.specs.Codes.{token_code, variable_code, fault_code, key_code, op_key, ops_key, rules_key, macro_key, macro_eq}
+use Rattle.mbe_ops.specs.Equality.{text_of, text_code, AreSameSeparators, IsSameOp, AreSameOps, AreSameRules}
+use Rattle.mbe_ops.specs.Equality.{IsSameMacro}
+use Rattle.mbe_ops.specs.Codes.{token_code, variable_code, fault_code, key_code, op_key, ops_key, rules_key, macro_key}
+use Rattle.mbe_ops.specs.Codes.{macro_eq}
 
 -- ---- codes
 
@@ -41,13 +44,13 @@ number_of m n e = cc
 tags_differ : (m n : ℕ) (b d : Gv) → nat_eq m n ≡ false → gcons (gnum m) b ≡ gcons (gnum n) d → ⊥
 tags_differ m n b d f e = true≢false (sym (eq-eqb m n (number_of m n (first_of e))) ∙ f)
 
-texts_same : (s t : Option Separator) → option_map text_of s ≡ option_map text_of t → IsSameBetween s t
+texts_same : (s t : Option Separator) → option_map text_of s ≡ option_map text_of t → AreSameSeparators s t
 texts_same None None e = tt
 texts_same None (Some t) e = absurd (none-some _ e)
 texts_same (Some s) None e = absurd (none-some _ (sym e))
 texts_same (Some s) (Some t) e = same_Some _ _ e
 
-same_texts : (s t : Option Separator) → IsSameBetween s t → option_map text_of s ≡ option_map text_of t
+same_texts : (s t : Option Separator) → AreSameSeparators s t → option_map text_of s ≡ option_map text_of t
 same_texts None None h = refl
 same_texts None (Some t) h = absurd h
 same_texts (Some s) None h = absurd h
@@ -199,7 +202,8 @@ groups_tell o p d e body other a r ho hp alike holds inside =
 
 pub repetitions_tell : (o p : Op) (body other : Ops) (s t : Option Separator) (k l : RepeatKind) (a r : Bool)
     → o ≡ ops.repetition body s k → p ≡ ops.repetition other t l
-    → IsTrue a ↔ (IsSameBetween s t × (k ≡ l)) → a ≡ true → IsTrue r ↔ AreSameOps body other → IsTrue r ↔ IsSameOp o p
+    → IsTrue a ↔ (AreSameSeparators s t × (k ≡ l)) → a ≡ true → IsTrue r ↔ AreSameOps body other
+    → IsTrue r ↔ IsSameOp o p
 repetitions_tell o p body other s t k l a r ho hp alike holds inside =
     let both = alike.0 holds in
     rw (ho, hp) (λ h. (inside.0 h, both.0, both.1), λ h. inside.1 h.0)

@@ -1,18 +1,21 @@
 -- What an iterator has consumed, and what a variable takes by what comes first.
-use Rattle.std.specs.Prelude.{◌≡◌, ◌≤◌, ◌<◌, ◌∷◌, take, ℕ, zero, suc, Bool, true, false, if◌then◌else◌, length, List, Option, Some, None, option_map, Result, Ok, Err, IsOk, is_ok, ◌↔◌, refl, ◌==◌}
+use Rattle.std.specs.Prelude.{◌≡◌, ◌≤◌, ◌<◌, ◌∷◌, take, ℕ, zero, suc, Bool, true, false, if◌then◌else◌, length, List}
+use Rattle.std.specs.Prelude.{Option, Some, None, option_map, Result, Ok, Err, IsOk, is_ok, ◌↔◌, refl, ◌==◌}
 use Rattle.std.proofs.Common.{ap, sym, ◌∙◌, arith, subst}
 use Rattle.std.proofs.lemmas.Option.{none-some, same_Some}
 use Rattle.std.proofs.lemmas.Bool.{eq-eqb, ne_eqb}
 use Rattle.mbe_tt.specs.Trees.Leaf.{Leaf, Ident, literal, punct, ident, is_underscore}
-use Rattle.mbe_tt.specs.Trees.Tree.{Forest, none, leaf, group, append, flat_len, rest_of, skip, front_ident, front_char, front_literal, is_truth, Cut, cut_trees}
-use Rattle.mbe_tt.proofs.Places.CutLemmas.{cut_trees-append}
+use Rattle.mbe_tt.specs.Trees.Tree.{Forest, none, leaf, group, append, flat_len, rest_of, skip, front_ident, front_char}
+use Rattle.mbe_tt.specs.Trees.Tree.{front_literal, is_bool_text, Cut, cut_trees}
+use Rattle.mbe_tt.proofs.Offsets.CutLemmas.{cut_trees-append}
 use Rattle.mbe_tt.specs.Trees.Tree.{first, tree, Tree, Leaf_tree, Group_tree, any_ident}
 use Rattle.mbe_tt.specs.Views.View.{trees}
 use Rattle.mbe_tt.specs.Trees.Glue.{glue, glued, joined, if_joint, is_operator, chars_of}
 use Rattle.mbe_tt.specs.declared.tt.Punct.{Punct}
 use Rattle.mbe_tt.specs.declared.view.TokenTreesView.{TokenTreesView}
-use Rattle.mbe_semantics.specs.Fragments.Takes.{ident_front, lifetime_front, unsigned_front, with_leaf, literal_front, tree_front}
-use Rattle.mbe_ops.specs.Views.{IsTaken}
+use Rattle.mbe_semantics.specs.Fragments.FragmentFront.{ident_front, lifetime_front, unsigned_front, with_leaf}
+use Rattle.mbe_semantics.specs.Fragments.FragmentFront.{literal_front, tree_front}
+use Rattle.mbe_ops.specs.Views.{MatchesCut}
 
 skip-none : (n : ℕ) → skip n none ≡ none
 skip-none zero = refl
@@ -44,7 +47,7 @@ pub left_following : (n : ℕ) (f left : Forest) → left ≡ skip n f → left 
 left_following n f left l = l ∙ sym (back-skip n f)
 
 pub taken : {A : Type 0} (v : TokenTreesView A) (o : Option Cut) (c : Cut) (left : Forest) → o ≡ Some c
-    → trees v ≡ c.front → left ≡ c.back → IsTaken (Some v) o left
+    → trees v ≡ c.front → left ≡ c.back → MatchesCut (Some v) o left
 taken v o c left h t l = rw h (t, l)
 
 -- ---- what comes first
@@ -102,7 +105,8 @@ unsigned_in_front : (f : Forest) (l : Leaf) → front_literal f ≡ Some l → u
 unsigned_in_front none l e = absurd (none-some l e)
 unsigned_in_front (leaf (literal k) rest) l e = refl
 unsigned_in_front (leaf (punct p) rest) l e = absurd (none-some l e)
-unsigned_in_front (leaf (ident i) rest) l e = if_some (is_truth i.sym) (ident i) l (cut_trees 1 (leaf (ident i) rest)) e
+unsigned_in_front (leaf (ident i) rest) l e =
+    if_some (is_bool_text i.sym) (ident i) l (cut_trees 1 (leaf (ident i) rest)) e
 unsigned_in_front (group d inside rest) l e = absurd (none-some l e)
 
 signed_in_front : (f : Forest) (l : Leaf) → front_char f ≡ Some 45 → front_literal (rest_of f) ≡ Some l
@@ -152,7 +156,7 @@ front-zero (group d inside rest) = refl
 
 -- where no punct is in front, one tree is taken
 pub one_tree : {A : Type 0} (o : Option (TokenTreesView A)) (f left : Forest) → None ≡ glued f
-    → option_map trees o ≡ option_map (λ t. tree t none) (first f) → left ≡ rest_of f → IsTaken o (tree_front f) left
+    → option_map trees o ≡ option_map (λ t. tree t none) (first f) → left ≡ rest_of f → MatchesCut o (tree_front f) left
 one_tree None none left g v l = tt
 one_tree None (leaf (literal k) rest) left g v l = absurd (none-some _ v)
 one_tree None (leaf (punct p) rest) left g v l = absurd (none-some _ v)

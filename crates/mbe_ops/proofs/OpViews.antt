@@ -6,10 +6,10 @@ use Rattle.mbe_tt.specs.declared.tt.Punct.{Punct as APunct}
 use Rattle.mbe_tt.specs.declared.tt.Delimiter.{Delimiter}
 use Rattle.mbe_tt.specs.declared.tt.Ident.{Ident as AnIdent}
 use Rattle.mbe_tt.specs.declared.tt.Literal.{Literal as ALiteral}
-use Rattle.mbe_tt.specs.Views.Shown.{literal_of, ident_of}
-use Rattle.mbe_semantics.specs.declared.kinds.MetaVarKind.{MetaVarKind}
+use Rattle.mbe_tt.specs.Views.LeafViews.{literal_of, ident_of}
+use Rattle.mbe_semantics.specs.declared.fragment_kinds.MetaVarKind.{MetaVarKind}
 use Rattle.mbe_ops.specs.declared.ops.MetaTemplate.{MetaTemplate, roll-MetaTemplate}
-use Rattle.mbe_semantics.specs.declared.kinds.RepeatKind.{RepeatKind}
+use Rattle.mbe_semantics.specs.declared.fragment_kinds.RepeatKind.{RepeatKind}
 use Rattle.mbe_ops.specs.declared.ops.Separator.{Separator}
 use Rattle.mbe_ops.specs.declared.expression.Expression.{Expression}
 use Rattle.mbe_ops.specs.declared.ops.Op.{Op, Var, Repeat, Subtree, Literal, Punct, Ident, the_lemmas}

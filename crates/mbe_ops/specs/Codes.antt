@@ -1,24 +1,25 @@
--- Codes of what patterns and templates are made of, by which their equality is decided.
+-- Codes of ops, rules and macros. Their equality is decided by these codes.
 use Rattle.std.specs.Prelude.{◌≡◌, ◌⊎◌, ℕ, Bool, List, [], ◌∷◌, Option, option_map, refl}
 use Rattle.std.specs.Coded.{Coded, code_by, coded_list, coded_option, coded_ℕ, coded×, coded⊎}
 use Rattle.std.specs.Cmp.{IsEquivalence}
 use Rattle.std.proofs.Common.{inl, inr}
 use Rattle.std.proofs.lemmas.Cmp.{on_equiv}
 use base.Stored.{Gv, gnil, gnum, gcons, coded_unit}
-use Rattle.mbe_tt.specs.Laws.Same.{same, same_equiv}
+use Rattle.mbe_tt.specs.Laws.CodeEquality.{same, same_equiv}
 use Rattle.mbe_tt.specs.Trees.Leaf.{Literal, Ident, literal_code, ident_code}
 use Rattle.mbe_tt.specs.declared.span.Span.{Span}
 use Rattle.mbe_tt.specs.declared.tt.Punct.{Punct}
 use Rattle.mbe_tt.specs.contracts.span.Span as span
 use Rattle.mbe_tt.specs.contracts.tt.Punct as punct
 use Rattle.mbe_tt.specs.contracts.tt.Delimiter as delimiter
-use Rattle.mbe_semantics.specs.contracts.kinds.MetaVarKind as kind
-use Rattle.mbe_semantics.specs.contracts.kinds.RepeatKind as repeat
+use Rattle.mbe_semantics.specs.contracts.fragment_kinds.MetaVarKind as kind
+use Rattle.mbe_semantics.specs.contracts.fragment_kinds.RepeatKind as repeat
 use Rattle.mbe_semantics.specs.contracts.macro_call_style.MacroCallStyle as style
-use Rattle.mbe_semantics.specs.declared.kinds.MetaVarKind.{MetaVarKind}
+use Rattle.mbe_semantics.specs.declared.fragment_kinds.MetaVarKind.{MetaVarKind}
 use Rattle.mbe_semantics.specs.Syntax.Op as ops
 use Rattle.mbe_semantics.specs.Syntax.Op.{Name, Token, Op, Ops, no_ops, op}
-use Rattle.mbe_semantics.specs.Syntax.Template.{Fault, unexpected_token, expected, invalid_repeat, empty_repetition}
+use Rattle.mbe_semantics.specs.Syntax.Template.{Fault, unexpected_token, expected, invalid_repeat}
+use Rattle.mbe_semantics.specs.Syntax.Template.{empty_repetition}
 use Rattle.mbe_semantics.specs.Syntax.Definition.{Rule}
 use Rattle.mbe_semantics.specs.Expansion.Macro.{Macro}
 use Rattle.mbe_ops.specs.Expressions.{expression_code}
@@ -46,14 +47,16 @@ row_token-token_row (ops.puncts ps) = refl
 
 abbrev pub token_code : Coded Token
 token_code =
-    code_by TokenRow (coded⊎ literal_code (coded⊎ ident_code (coded_list punct.the_row.coded))) token_row row_token
+    code_by TokenRow (coded⊎ literal_code (coded⊎ ident_code (coded_list punct.the_row.coded)))
+    token_row row_token
     row_token-token_row
 
--- ---- ops: what counts of them, as one code
+-- ---- ops, as far as equality looks at them
 
 -- a variable
 abbrev pub variable_code : Coded (Name × (Option MetaVarKind × Span))
-variable_code = coded× (coded_list coded_ℕ) (coded× (coded_option kind.the_row.coded) span.the_row.coded)
+variable_code =
+    coded× (coded_list coded_ℕ) (coded× (coded_option kind.the_row.coded) span.the_row.coded)
 
 abbrev mutual
   pub op_key : Op → Gv
@@ -95,7 +98,8 @@ row_fault-fault_row empty_repetition = refl
 abbrev pub fault_code : Coded Fault
 fault_code =
     let texts = coded_list coded_ℕ in
-    code_by FaultRow (coded⊎ texts (coded⊎ texts (coded⊎ coded_unit coded_unit))) fault_row row_fault
+    code_by FaultRow (coded⊎ texts (coded⊎ texts (coded⊎ coded_unit coded_unit))) fault_row
+    row_fault
     row_fault-fault_row
 
 abbrev pub rules_key : List Rule → Gv

@@ -1,2 +1,2 @@
--- How errors of definitions and of expansions are seen.
+-- How contracts see errors of definitions and of expansions.
 pub mod ErrorViews

@@ -1,7 +1,7 @@
 pub mod Codes
 pub mod Equality
 pub mod Expressions
-pub mod Held
+pub mod OpFields
 pub mod Views
-pub mod Walk
+pub mod OpIter
 pub mod Errors

@@ -1,10 +1,13 @@
-// Metavariable expressions: what they are, their variables, their copies, and when two are the same.
+// Metavariable expressions `${..}` of templates. This module has their type, an iterator over the
+// variables that they mention, copies and equality.
 ghost use Rattle.std.specs.Prelude.{◌≡◌, ◌↔◌, ◌∷◌, [], Some, None, IsTrue, IfOk, MatchOption};
 ghost use Rattle.std.specs.Iterator.{YieldsFirstBy, item_count};
-ghost use Rattle.mbe_semantics.specs.Syntax.Op.{for_fragment, mentions_of_elements, mentions_of_expression};
-ghost use Rattle.mbe_ops.specs.Expressions.{use_seen, mention_seen, mentions_left, element_seen, elements_seen, expression_seen};
+ghost use Rattle.mbe_semantics.specs.Syntax.Op.{for_fragment, mentions_of_elements};
+ghost use Rattle.mbe_semantics.specs.Syntax.Op.{mentions_of_expression};
+ghost use Rattle.mbe_ops.specs.Expressions.{use_seen, mention_seen, mentions_left, element_seen};
+ghost use Rattle.mbe_ops.specs.Expressions.{elements_seen, expression_seen};
 
-use crate::equal::{same_ident, same_literal};
+use crate::equality::{same_ident, same_literal};
 use mbe_tt::span::Span;
 use mbe_tt::symbol::Symbol;
 use mbe_tt::tt::{Ident, Literal};
@@ -14,14 +17,14 @@ use std::alloc::{AllocError, Allocator, Global};
 #[derive(Drop)]
 #[derive_where(Debug)]
 pub enum ConcatMetaVarExprElem<A: Allocator = Global> {
-    /// Without a `$`, so it stands for itself.
+    /// An identifier without a `$`. It stands for itself.
     Ident(Ident<A>),
-    /// After a `$`, so it is a variable.
+    /// An identifier after a `$`: a variable.
     Var(Ident<A>),
     Literal(Literal<A>),
 }
 
-/// What is between the braces of `${..}`.
+/// A metavariable expression: what is between the braces of `${..}`.
 #[derive(Drop)]
 #[derive_where(Debug)]
 pub enum Expression<A: Allocator = Global> {
@@ -39,31 +42,32 @@ pub enum Expression<A: Allocator = Global> {
         name: Symbol<A>,
         depth: usize,
     },
-    // (the span first, so that an expression takes 48 bytes)
+    // (the span first: an expression then takes 48 bytes)
     Concat {
         span: Span,
         elements: Vec<ConcatMetaVarExprElem<A>, A>,
     },
 }
 
-/// Whether a fragment is wanted of a name, or a number.
+/// What an expression needs of a name: its fragment, or the number of its fragments.
 #[derive(Clone, Copy, Debug)]
-pub enum Want {
+pub enum UseKind {
     Fragment,
     Number,
 }
 
-/// A variable of an expression. Clauses see it by `mention_seen`.
+/// A use of a variable in an expression. Clauses see it by `mention_seen`.
 #[derive_where(Clone, Copy, Debug)]
 pub struct Mention<'a, A: Allocator = Global> {
     pub name: &'a Symbol<A>,
-    pub want: Want,
-    /// Where it is, if what the variable took is written there: `${ignore(..)}` and `${count(..)}` write nothing of it.
+    pub use_kind: UseKind,
+    /// The span of the variable if its fragment is written there. `None` for `${ignore(..)}` and
+    /// `${count(..)}`, which write nothing of the fragment.
     pub place: Option<Span>,
 }
 
-/// An iterator over the variables of an expression, in the order in which they are written. Clauses see what is left
-/// by `mentions_left`.
+/// An iterator over the variables of an expression, in the order in which they are written. Clauses
+/// see the variables still to come by `mentions_left`.
 #[derive_where(Clone, Copy, Debug)]
 pub struct Mentions<'a, A: Allocator = Global> {
     first: Option<Mention<'a, A>>,
@@ -71,13 +75,13 @@ pub struct Mentions<'a, A: Allocator = Global> {
 }
 
 impl<A: Allocator> Expression<A> {
-    /// Over its variables.
+    /// Returns an iterator over the variables of the expression.
     pub fn mentions(&self) -> Mentions<'_, A>
         ensures { mentions_left result ≡ mentions_of_expression (expression_seen self.now) }
     {
         match self {
-            Expression::Ignore { name, .. } => Mentions::one(name, Want::Fragment),
-            Expression::Count { name, .. } => Mentions::one(name, Want::Number),
+            Expression::Ignore { name, .. } => Mentions::one(name, UseKind::Fragment),
+            Expression::Count { name, .. } => Mentions::one(name, UseKind::Number),
             Expression::Index { .. } | Expression::Len { .. } => Mentions::among(&[]),
             Expression::Concat { elements, .. } => Mentions::among(elements.as_slice()),
         }
@@ -85,21 +89,22 @@ impl<A: Allocator> Expression<A> {
 }
 
 impl<'a, A: Allocator> Mentions<'a, A> {
-    // A name of which nothing is written.
-    fn one(name: &'a Symbol<A>, want: Want) -> Mentions<'a, A>
-        ensures { mentions_left result ≡ record { used = use_seen want name.now; place = None } ∷ [] }
+    // Makes an iterator over one name, whose fragment isn't written.
+    fn one(name: &'a Symbol<A>, use_kind: UseKind) -> Mentions<'a, A>
+        ensures { mentions_left result ≡ record { used = use_seen use_kind name.now; offset = None }
+            ∷ [] }
     {
         Mentions {
             first: Some(Mention {
                 name,
-                want,
+                use_kind,
                 place: None,
             }),
             elements: &[],
         }
     }
 
-    // The variables among the elements.
+    // Makes an iterator over the variables among the elements.
     fn among(elements: &'a [ConcatMetaVarExprElem<A>]) -> Mentions<'a, A>
         ensures { mentions_left result ≡ mentions_of_elements (elements_seen elements.now) }
     {
@@ -110,7 +115,7 @@ impl<'a, A: Allocator> Mentions<'a, A> {
     }
 }
 
-/// Each variable once, in order; then the iterator ends.
+/// Yields each variable once, in order. Then the iterator ends.
 impl<'a, A: Allocator> Iterator for Mentions<'a, A> {
     type Item = Mention<'a, A>;
 
@@ -126,19 +131,19 @@ impl<'a, A: Allocator> Iterator for Mentions<'a, A> {
         self.elements = rest;
         Some(Mention {
             name: &variable.sym,
-            want: Want::Fragment,
+            use_kind: UseKind::Fragment,
             place: Some(variable.span),
         })
     }
 }
 
-// The first variable among the elements, and the elements after it.
+// Returns the first variable among the elements, and the elements after it.
 fn next_variable<'a, A: Allocator>(
     elements: &'a [ConcatMetaVarExprElem<A>],
 ) -> Option<(&'a Ident<A>, &'a [ConcatMetaVarExprElem<A>])>
     ensures { MatchOption result (mentions_of_elements (elements_seen elements.now) ≡ [])
         (λ r. mentions_of_elements (elements_seen elements.now)
-        ≡ record { used = for_fragment r.0.now.sym; place = Some r.0.now.span }
+        ≡ record { used = for_fragment r.0.now.sym; offset = Some r.0.now.span }
         ∷ mentions_of_elements (elements_seen r.1.now)) }
 {
     let mut left = elements;
@@ -151,7 +156,7 @@ fn next_variable<'a, A: Allocator>(
     None
 }
 
-pub(crate) fn copied_expression<A: Allocator + Copy>(
+pub(crate) fn clone_expression<A: Allocator + Copy>(
     expression: &Expression<A>,
 ) -> Result<Expression<A>, AllocError>
     ensures { IfOk result (λ copy. expression_seen copy ≡ expression_seen expression.now) }
@@ -168,13 +173,13 @@ pub(crate) fn copied_expression<A: Allocator + Copy>(
             depth: *depth,
         }),
         Expression::Concat { elements, span } => Ok(Expression::Concat {
-            elements: copied_elements(elements)?,
+            elements: clone_elements(elements)?,
             span: *span,
         }),
     }
 }
 
-fn copied_elements<A: Allocator + Copy>(
+fn clone_elements<A: Allocator + Copy>(
     elements: &Vec<ConcatMetaVarExprElem<A>, A>,
 ) -> Result<Vec<ConcatMetaVarExprElem<A>, A>, AllocError>
     ensures { IfOk result (λ copy. elements_seen copy.items ≡ elements_seen elements.now.items) }

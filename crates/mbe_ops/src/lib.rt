@@ -1,13 +1,15 @@
-// What patterns and templates are made of, and errors. A layer of `mbe`: use that crate.
+// The ops that patterns and templates are parsed into, and the errors of definitions and
+// expansions. `MetaTemplate` is a list of `Op`s: the parser makes it, the matcher and the
+// transcriber walk it. This crate is a layer of `mbe`: use that crate.
 #![tactic(auto)]
 
 mod copies;
-mod equal;
+mod equality;
 pub mod errors;
 pub mod expression;
-pub mod held;
 pub mod laws;
+pub mod op_fields;
+pub mod op_iter;
 pub mod ops;
-pub mod walk;
 
-pub use crate::equal::same_templates;
+pub use crate::equality::same_templates;

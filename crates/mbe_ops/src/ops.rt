@@ -1,4 +1,6 @@
-// What patterns and templates are made of.
+// The ops of patterns and templates. A `MetaTemplate` is a list of `Op`s: tokens, variables,
+// groups, repetitions and metavariable expressions. Patterns and templates have the same type. A
+// pattern has specifiers and no expressions.
 ghost use Rattle.std.specs.Prelude.{◌≡◌, ◌↔◌, IsTrue};
 ghost use Rattle.mbe_tt.specs.Trees.Glue.{chars_of};
 ghost use Rattle.std.specs.Str.{bytes_eq};
@@ -6,22 +8,22 @@ ghost use Rattle.mbe_ops.specs.Equality.{IsSameSeparator};
 ghost use Rattle.mbe_ops.specs.Views.{separator_seen};
 
 use crate::expression::Expression;
-use crate::held::{Around, Between, Puncts};
+use crate::op_fields::{OpDelimiter, OpSeparator, Puncts};
 use arrayvec::ArrayVec;
-use mbe_semantics::kinds::{MetaVarKind, RepeatKind};
+use mbe_semantics::fragment_kinds::{MetaVarKind, RepeatKind};
 use mbe_tt::span::Span;
 use mbe_tt::symbol::Symbol;
 use mbe_tt::tt::{Ident, Literal, Punct};
 use std::alloc::{Allocator, Global};
 
-/// What is written between two rounds of a repetition.
+/// The separator of a repetition: it stands between two rounds.
 #[derive(Drop)]
 #[derive_where(Debug)]
 pub enum Separator<A: Allocator = Global> {
     Literal(Literal<A>),
     Ident(Ident<A>),
     Puncts(ArrayVec<Punct, 3>),
-    /// The punct `'`, and a name.
+    /// The punct `'` and a name.
     Lifetime(Punct, Ident<A>),
 }
 
@@ -44,7 +46,7 @@ impl<A: Allocator> Eq for Separator<A> {
     ghost laws = { separator_eq_laws };
 }
 
-// Separators of one kind are the same by their texts alone (as in rust-analyzer).
+// Compares separators. Two of one kind are the same if their texts are (as in rust-analyzer).
 pub(crate) fn same_separator<A: Allocator>(one: &Separator<A>, two: &Separator<A>) -> bool
     ensures { IsTrue result ↔ IsSameSeparator (separator_seen one.now) (separator_seen two.now) }
 {
@@ -61,7 +63,7 @@ pub(crate) fn same_separator<A: Allocator>(one: &Separator<A>, two: &Separator<A
     }
 }
 
-/// Whether the puncts have the same chars, whatever their spacing.
+/// Returns whether the puncts have the same chars. Spacing and spans don't count.
 pub fn same_chars(one: &[Punct], two: &[Punct]) -> bool
     ensures { result ≡ bytes_eq (chars_of one.now) (chars_of two.now) }
 {
@@ -72,13 +74,13 @@ pub fn same_chars(one: &[Punct], two: &[Punct]) -> bool
     }
 }
 
-/// A pattern or a template.
+/// A pattern or a template: a list of ops.
 #[cycle(ops)]
 #[derive(Drop)]
 #[derive_where(Debug)]
 pub struct MetaTemplate<A: Allocator = Global>(pub Vec<Op<A>, A>);
 
-/// What a pattern or a template is made of.
+/// An element of a pattern or a template.
 #[cycle(ops)]
 #[derive(Drop)]
 #[derive_where(Debug)]
@@ -88,16 +90,16 @@ pub enum Op<A: Allocator = Global> {
         id: Span,
         kind: Option<MetaVarKind>,
     },
-    /// In a template alone.
+    /// A metavariable expression. Only templates have them.
     Expression(Expression<A>),
     Repeat {
         tokens: MetaTemplate<A>,
         kind: RepeatKind,
-        separator: Between<A>,
+        separator: OpSeparator<A>,
     },
     Subtree {
         tokens: MetaTemplate<A>,
-        delimiter: Around<A>,
+        delimiter: OpDelimiter<A>,
     },
     Literal(Literal<A>),
     Punct(Puncts<A>),

@@ -12,8 +12,8 @@ use Rattle.mbe_tt.specs.declared.tt.Delimiter.{Delimiter}
 use Rattle.mbe_tt.specs.declared.tt.DelimiterKind.{DelimiterKind}
 use Rattle.mbe_tt.specs.declared.tt.DelimiterKind.TheVariants as delimiters
 use Rattle.mbe_tt.specs.Trees.Leaf.{Ident, literal, ident, punct, is_text, is_underscore}
-use Rattle.mbe_tt.specs.Trees.Tree.{Forest, none, leaf, group, flat_len, passed, is_truth}
-use Rattle.mbe_semantics.specs.declared.kinds.RepeatKind.{RepeatKind}
+use Rattle.mbe_tt.specs.Trees.Tree.{Forest, none, leaf, group, flat_len, passed, is_bool_text}
+use Rattle.mbe_semantics.specs.declared.fragment_kinds.RepeatKind.{RepeatKind}
 use Rattle.mbe_semantics.specs.Syntax.Op as ops
 use Rattle.mbe_semantics.specs.Syntax.Op.{Name, Op, Ops, no_ops, op, Separator}
 use Rattle.mbe_semantics.specs.Syntax.Nullable.{is_nullable, is_unseparated, is_refused_op, is_refused}
@@ -23,17 +23,18 @@ use Rattle.mbe_semantics.specs.Syntax.Template.{head, Suffix, Template, after_do
 use Rattle.mbe_semantics.specs.Syntax.Template.{group_after_dollar, suffix_of, separator_of, specifier_at}
 use Rattle.mbe_ops.specs.declared.ops.Op as written
 use Rattle.mbe_ops.specs.Views.{op_of, ops_of}
-use Rattle.mbe_parser.specs.declared.faults.front.Front as code
-use Rattle.mbe_parser.specs.Faults.Fronts.{Shows, Fits}
-use Rattle.mbe_parser.specs.Faults.Inners.{IsPlain, Holds, inside_of}
-use Rattle.mbe_parser.specs.declared.faults.inner.Inner.{Inner}
-use Rattle.mbe_parser.specs.Faults.Empty.{EmptyAt, here, in_group, in_repetition, after_token, after_variable}
-use Rattle.mbe_parser.specs.Faults.Empty.{following_group, after_repetition, PassesOp}
+use Rattle.mbe_parser.specs.declared.fault_locator.op_head.OpHead as code
+use Rattle.mbe_parser.specs.FaultLocator.OpHeads.{IsOpHead, Shortens}
+use Rattle.mbe_parser.specs.FaultLocator.OpBodies.{HasNoOps, HasOps, inside_of}
+use Rattle.mbe_parser.specs.declared.fault_locator.op_body.OpBody.{OpBody}
+use Rattle.mbe_parser.specs.FaultLocator.RefusedRepetitions.{EmptyAt, here, in_group, in_repetition, after_token}
+use Rattle.mbe_parser.specs.FaultLocator.RefusedRepetitions.{after_variable}
+use Rattle.mbe_parser.specs.FaultLocator.RefusedRepetitions.{after_group, after_repetition, PassesOp}
 
 -- ---- what is whole in front is no group and no repetition
 
 abbrev Plain : Result Head Fault → Type 0
-Plain (Ok (one o rest)) = IsPlain o
+Plain (Ok (one o rest)) = HasNoOps o
 Plain _ = Unit {0}
 
 plain_if : (b : Bool) (h k : Result Head Fault) → Plain h → Plain k → Plain (if b then h else k)
@@ -74,7 +75,7 @@ plain_dollar p (leaf (ident i) rest) =
     plain_if (is_text i.sym (codes "crate")) (Ok (one (grammar.dollar_crate i) rest))
     (grammar.variable_at pattern i.sym i.span rest) tt (plain_specifier i.sym i.span rest)
 plain_dollar p (leaf (literal l) rest) =
-    plain_if (is_truth l.text_and_suffix) (grammar.variable_at pattern l.text_and_suffix l.span rest)
+    plain_if (is_bool_text l.text_and_suffix) (grammar.variable_at pattern l.text_and_suffix l.span rest)
     (Err (grammar.expected (codes "expected ident"))) (plain_specifier l.text_and_suffix l.span rest) tt
 plain_dollar p (leaf (punct q) rest) =
     plain_if (q.char == 36) (grammar.second_dollar pattern q rest) (Err (grammar.expected (codes "expected ident")))
@@ -92,11 +93,11 @@ plain_head (leaf (punct p) rest) =
 -- ---- what a front shows
 
 -- the front is whole, and these trees are left
-abbrev pub IsWhole : {A : Type 0} → code.Front A → Forest → Forest → Type 0
+abbrev pub IsWhole : {A : Type 0} → code.OpHead A → Forest → Forest → Type 0
 IsWhole code.TheVariants.Whole rest left = rest ≡ left
 IsWhole _ rest left = ⊥
 
-one_left : {A : Type 0} (o : Op) (rest left : Forest) (front : code.Front A) → Shows (Ok (one o rest)) front left
+one_left : {A : Type 0} (o : Op) (rest left : Forest) (front : code.OpHead A) → IsOpHead (Ok (one o rest)) front left
     → IsWhole front rest left
 one_left o rest left code.TheVariants.Ended s = s
 one_left o rest left code.TheVariants.Whole s = s
@@ -104,15 +105,15 @@ one_left o rest left (code.TheVariants.Group body) s = s
 one_left o rest left (code.TheVariants.Repetition body) s = s
 one_left o rest left (code.TheVariants.Refused fault) s = s
 
-typed_left : {A : Type 0} (name : Name) (span : Span) (i : Ident) (rest left : Forest) (front : code.Front A)
-    → Shows (Ok (typed name span i rest)) front left → IsWhole front rest left
+typed_left : {A : Type 0} (name : Name) (span : Span) (i : Ident) (rest left : Forest) (front : code.OpHead A)
+    → IsOpHead (Ok (typed name span i rest)) front left → IsWhole front rest left
 typed_left name span i rest left code.TheVariants.Ended s = s
 typed_left name span i rest left code.TheVariants.Whole s = s
 typed_left name span i rest left (code.TheVariants.Group body) s = s
 typed_left name span i rest left (code.TheVariants.Repetition body) s = s
 typed_left name span i rest left (code.TheVariants.Refused fault) s = s
 
-whole_left : {A : Type 0} (rest left : Forest) (front : code.Front A) → IsWhole front rest left → rest ≡ left
+whole_left : {A : Type 0} (rest left : Forest) (front : code.OpHead A) → IsWhole front rest left → rest ≡ left
 whole_left rest left code.TheVariants.Ended s = absurd s
 whole_left rest left code.TheVariants.Whole s = s
 whole_left rest left (code.TheVariants.Group body) s = absurd s
@@ -120,16 +121,16 @@ whole_left rest left (code.TheVariants.Repetition body) s = absurd s
 whole_left rest left (code.TheVariants.Refused fault) s = absurd s
 
 -- the body of a group, or of a repetition
-abbrev pub IsGroup : {A : Type 0} → code.Front A → Forest → Forest → Forest → Type 0
+abbrev pub IsGroup : {A : Type 0} → code.OpHead A → Forest → Forest → Forest → Type 0
 IsGroup (code.TheVariants.Group body) inside rest left = (inside ≡ body) × (rest ≡ left)
 IsGroup _ inside rest left = ⊥
 
-abbrev pub IsRepetition : {A : Type 0} → code.Front A → Forest → Forest → Forest → Type 0
+abbrev pub IsRepetition : {A : Type 0} → code.OpHead A → Forest → Forest → Forest → Type 0
 IsRepetition (code.TheVariants.Repetition body) inside rest left = (inside ≡ body) × (rest ≡ left)
 IsRepetition _ inside rest left = ⊥
 
-group_left : {A : Type 0} (d : Delimiter) (inside rest left : Forest) (front : code.Front A)
-    → Shows (Ok (opens_group d inside rest)) front left → IsGroup front inside rest left
+group_left : {A : Type 0} (d : Delimiter) (inside rest left : Forest) (front : code.OpHead A)
+    → IsOpHead (Ok (opens_group d inside rest)) front left → IsGroup front inside rest left
 group_left d inside rest left code.TheVariants.Ended s = s
 group_left d inside rest left code.TheVariants.Whole s = s
 group_left d inside rest left (code.TheVariants.Group body) s = s
@@ -137,7 +138,7 @@ group_left d inside rest left (code.TheVariants.Repetition body) s = s
 group_left d inside rest left (code.TheVariants.Refused fault) s = s
 
 repetition_left : {A : Type 0} (sep : Option Separator) (k : RepeatKind) (inside rest left : Forest)
-    (front : code.Front A) → Shows (Ok (opens_repetition sep k inside rest)) front left
+    (front : code.OpHead A) → IsOpHead (Ok (opens_repetition sep k inside rest)) front left
     → IsRepetition front inside rest left
 repetition_left sep k inside rest left code.TheVariants.Ended s = s
 repetition_left sep k inside rest left code.TheVariants.Whole s = s
@@ -158,7 +159,7 @@ module _ (A : Type 0) (HasEdition : SyntaxContext → Edition → Type 0) where
   abbrev Simple : Ops → Forest → Type 0
   Simple os f = (rest : Forest) × Template HasEdition pattern rest os
       × ((n : ℕ) → EmptyAt HasEdition rest n → EmptyAt HasEdition f (passed f rest + n))
-      × ((front : code.Front A) (left : Forest) → Shows (head pattern f) front left → IsWhole front rest left)
+      × ((front : code.OpHead A) (left : Forest) → IsOpHead (head pattern f) front left → IsWhole front rest left)
 
   abbrev Read : Op → Ops → Forest → Type 0
   Read (ops.group d b) os f = (inside : Forest) × (rest : Forest) × (head pattern f ≡ Ok (opens_group d inside rest))
@@ -172,14 +173,14 @@ module _ (A : Type 0) (HasEdition : SyntaxContext → Edition → Type 0) where
   ReadAll no_ops f = Unit {0}
   ReadAll (op o os) f = Read o os f
 
-  simple : (o : Op) (os : Ops) (f : Forest) → IsPlain o → Simple os f → Read o os f
+  simple : (o : Op) (os : Ops) (f : Forest) → HasNoOps o → Simple os f → Read o os f
   simple (ops.token t) os f p r = r
   simple (ops.variable name kind span) os f p r = r
   simple (ops.expression e) os f p r = r
   simple (ops.group d b) os f p r = absurd p
   simple (ops.repetition b s k) os f p r = absurd p
 
-  is_simple : (o : Op) (os : Ops) (f : Forest) → IsPlain o → Read o os f → Simple os f
+  is_simple : (o : Op) (os : Ops) (f : Forest) → HasNoOps o → Read o os f → Simple os f
   is_simple (ops.token t) os f p r = r
   is_simple (ops.variable name kind span) os f p r = r
   is_simple (ops.expression e) os f p r = r
@@ -193,23 +194,24 @@ module _ (A : Type 0) (HasEdition : SyntaxContext → Edition → Type 0) where
         rest,
         t,
         (λ n w. after_token f rest o n e w),
-        λ front left s. one_left o rest left front (subst (λ (h : Result Head Fault). Shows {A = A} h front left) e s),
+        λ front left s. one_left o rest left front
+            (subst (λ (h : Result Head Fault). IsOpHead {A = A} h front left) e s),
       )
   read (grammar.variable f rest name span specifier kind os e s t) = (
     rest,
     t,
     (λ n w. after_variable f rest name span specifier n e w),
     λ front left s. typed_left name span specifier rest left front
-        (subst (λ (h : Result Head Fault). Shows {A = A} h front left) e s),
+        (subst (λ (h : Result Head Fault). IsOpHead {A = A} h front left) e s),
   )
   read (grammar.grouped f inside rest d body os e b t) = (inside, rest, e, b, t)
   read (grammar.repeated f inside rest s repeat body os e b t) = (inside, rest, e, b, t)
 
   -- ---- the op in front
 
-  module _ (f left : Forest) (front : code.Front A) (shows : Shows (head pattern f) front left) (os : Ops) where
+  module _ (f left : Forest) (front : code.OpHead A) (shows : IsOpHead (head pattern f) front left) (os : Ops) where
     -- a whole one is passed
-    pub plain_past : (o : Op) → IsPlain o → Template HasEdition pattern f (op o os) → PassesOp HasEdition o f left
+    pub plain_past : (o : Op) → HasNoOps o → Template HasEdition pattern f (op o os) → PassesOp HasEdition o f left
     plain_past o p t =
         let r : Simple os f = is_simple o os f p (read t) in
         let same : r.0 ≡ left = whole_left r.0 left front (r.3 front left shows) in
@@ -222,7 +224,7 @@ module _ (A : Type 0) (HasEdition : SyntaxContext → Edition → Type 0) where
         }
 
     -- a group is shown as one, with what is in it
-    abbrev pub GroupAt : Delimiter → Ops → code.Front A → Type 0
+    abbrev pub GroupAt : Delimiter → Ops → code.OpHead A → Type 0
     GroupAt d b (code.TheVariants.Group body) = (head pattern f ≡ Ok (opens_group d body left))
         × Template HasEdition pattern body b × Template HasEdition pattern left os
     GroupAt d b _ = ⊥
@@ -232,9 +234,9 @@ module _ (A : Type 0) (HasEdition : SyntaxContext → Edition → Type 0) where
     front_group d b t =
         let r : Read (ops.group d b) os f = read t in
         go r front (group_left d r.0 r.1 left front
-        (subst (λ (h : Result Head Fault). Shows {A = A} h front left) r.2 shows))
+        (subst (λ (h : Result Head Fault). IsOpHead {A = A} h front left) r.2 shows))
       where
-        go : (r : Read (ops.group d b) os f) (x : code.Front A) → IsGroup x r.0 r.1 left → GroupAt d b x
+        go : (r : Read (ops.group d b) os f) (x : code.OpHead A) → IsGroup x r.0 r.1 left → GroupAt d b x
         go r (code.TheVariants.Group body) s = (
           r.2 ∙ ap (λ (g : Forest). let h : Result Head Fault = Ok (opens_group d g r.1) in h) s.0
               ∙ ap (λ (g : Forest). let h : Result Head Fault = Ok (opens_group d body g) in h) s.1,
@@ -247,7 +249,7 @@ module _ (A : Type 0) (HasEdition : SyntaxContext → Edition → Type 0) where
         go r (code.TheVariants.Refused fault) s = s
 
     -- and a repetition
-    abbrev pub RepetitionAt : Ops → Option Separator → RepeatKind → code.Front A → Type 0
+    abbrev pub RepetitionAt : Ops → Option Separator → RepeatKind → code.OpHead A → Type 0
     RepetitionAt b sep k (code.TheVariants.Repetition body) = (head pattern f ≡ Ok (opens_repetition sep k body left))
         × Template HasEdition pattern body b × Template HasEdition pattern left os
     RepetitionAt b sep k _ = ⊥
@@ -257,9 +259,9 @@ module _ (A : Type 0) (HasEdition : SyntaxContext → Edition → Type 0) where
     front_repetition b sep k t =
         let r : Read (ops.repetition b sep k) os f = read t in
         go r front (repetition_left sep k r.0 r.1 left front
-        (subst (λ (h : Result Head Fault). Shows {A = A} h front left) r.2 shows))
+        (subst (λ (h : Result Head Fault). IsOpHead {A = A} h front left) r.2 shows))
       where
-        go : (r : Read (ops.repetition b sep k) os f) (x : code.Front A) → IsRepetition x r.0 r.1 left
+        go : (r : Read (ops.repetition b sep k) os f) (x : code.OpHead A) → IsRepetition x r.0 r.1 left
             → RepetitionAt b sep k x
         go r (code.TheVariants.Repetition body) s = (
           r.2 ∙ ap (λ (g : Forest). let h : Result Head Fault = Ok (opens_repetition sep k g r.1) in h) s.0
@@ -280,7 +282,7 @@ module _ (A : Type 0) (HasEdition : SyntaxContext → Edition → Type 0) where
         let same : r.1 ≡ left = (let k : opens_group d r.0 r.1 ≡ opens_group d body left =
         same_ok (sym r.2 ∙ e) in cc) in
         subst (λ (g : Forest). Template HasEdition pattern g more) same r.4;
-    at = λ refused n w. following_group f body left d b n e t refused w;
+    at = λ refused n w. after_group f body left d b n e t refused w;
   }
 
   -- and a repetition
@@ -346,9 +348,9 @@ module _ (A : Type 0) (HasEdition : SyntaxContext → Edition → Type 0) where
     shorter = omega arith;
   }
 
-  in_group_front : (f left : Forest) (front : code.Front A) (shows : Shows (head pattern f) front left) (os : Ops)
-      (d : Delimiter) (b : Ops) (x : Inner A) (inside : Forest) (y : code.Front A)
-      → GroupAt f left front shows os d b y → Holds x (ops.group d b) → Fits 1 y f left → inside_of y ≡ Some inside
+  in_group_front : (f left : Forest) (front : code.OpHead A) (shows : IsOpHead (head pattern f) front left) (os : Ops)
+      (d : Delimiter) (b : Ops) (x : OpBody A) (inside : Forest) (y : code.OpHead A)
+      → GroupAt f left front shows os d b y → HasOps x (ops.group d b) → Shortens 1 y f left → inside_of y ≡ Some inside
       → Opens (ops.group d b) f left inside (ops_of x.ops.now) x.is_empty x.before
   in_group_front f left front shows os d b x inside (code.TheVariants.Group body) g h fits e =
       opens_same (ops.group d b) f left inside body (ops_of x.ops.now) b x.is_empty false x.before 1
@@ -358,9 +360,10 @@ module _ (A : Type 0) (HasEdition : SyntaxContext → Edition → Type 0) where
   in_group_front f left front shows os d b x inside (code.TheVariants.Repetition body) g h fits e = absurd g
   in_group_front f left front shows os d b x inside (code.TheVariants.Refused fault) g h fits e = absurd g
 
-  in_repetition_front : (f left : Forest) (front : code.Front A) (shows : Shows (head pattern f) front left) (os : Ops)
-      (b : Ops) (sep : Option Separator) (k : RepeatKind) (x : Inner A) (inside : Forest) (y : code.Front A)
-      → RepetitionAt f left front shows os b sep k y → Holds x (ops.repetition b sep k) → Fits 1 y f left
+  in_repetition_front : (f left : Forest) (front : code.OpHead A) (shows : IsOpHead (head pattern f) front left)
+      (os : Ops)
+      (b : Ops) (sep : Option Separator) (k : RepeatKind) (x : OpBody A) (inside : Forest) (y : code.OpHead A)
+      → RepetitionAt f left front shows os b sep k y → HasOps x (ops.repetition b sep k) → Shortens 1 y f left
       → inside_of y ≡ Some inside
       → Opens (ops.repetition b sep k) f left inside (ops_of x.ops.now) x.is_empty x.before
   in_repetition_front f left front shows os b sep k x inside (code.TheVariants.Repetition body) g h fits e =
@@ -372,8 +375,9 @@ module _ (A : Type 0) (HasEdition : SyntaxContext → Edition → Type 0) where
   in_repetition_front f left front shows os b sep k x inside (code.TheVariants.Group body) g h fits e = absurd g
   in_repetition_front f left front shows os b sep k x inside (code.TheVariants.Refused fault) g h fits e = absurd g
 
-  pub opens : (f left : Forest) (front : code.Front A) (shows : Shows (head pattern f) front left) (os : Ops) (o : Op)
-      (x : Inner A) (inside : Forest) → Template HasEdition pattern f (op o os) → Holds x o → Fits 1 front f left
+  pub opens : (f left : Forest) (front : code.OpHead A) (shows : IsOpHead (head pattern f) front left) (os : Ops)
+      (o : Op)
+      (x : OpBody A) (inside : Forest) → Template HasEdition pattern f (op o os) → HasOps x o → Shortens 1 front f left
       → inside_of front ≡ Some inside → Opens o f left inside (ops_of x.ops.now) x.is_empty x.before
   opens f left front shows os (ops.group d b) x inside t h fits e =
       in_group_front f left front shows os d b x inside front (front_group f left front shows os d b t) h fits e
@@ -386,16 +390,17 @@ module _ (A : Type 0) (HasEdition : SyntaxContext → Edition → Type 0) where
   opens f left front shows os (ops.expression w) x inside t h fits e = absurd h
 
   -- and the front has trees inside
-  group_closed : (f left : Forest) (front : code.Front A) (shows : Shows (head pattern f) front left) (os : Ops)
-      (d : Delimiter) (b : Ops) (y : code.Front A) → GroupAt f left front shows os d b y → inside_of y ≡ None → ⊥
+  group_closed : (f left : Forest) (front : code.OpHead A) (shows : IsOpHead (head pattern f) front left) (os : Ops)
+      (d : Delimiter) (b : Ops) (y : code.OpHead A) → GroupAt f left front shows os d b y → inside_of y ≡ None → ⊥
   group_closed f left front shows os d b (code.TheVariants.Group body) g e = cc
   group_closed f left front shows os d b code.TheVariants.Ended g e = g
   group_closed f left front shows os d b code.TheVariants.Whole g e = g
   group_closed f left front shows os d b (code.TheVariants.Repetition body) g e = g
   group_closed f left front shows os d b (code.TheVariants.Refused fault) g e = g
 
-  repetition_closed : (f left : Forest) (front : code.Front A) (shows : Shows (head pattern f) front left) (os : Ops)
-      (b : Ops) (sep : Option Separator) (k : RepeatKind) (y : code.Front A)
+  repetition_closed : (f left : Forest) (front : code.OpHead A) (shows : IsOpHead (head pattern f) front left)
+      (os : Ops)
+      (b : Ops) (sep : Option Separator) (k : RepeatKind) (y : code.OpHead A)
       → RepetitionAt f left front shows os b sep k y → inside_of y ≡ None → ⊥
   repetition_closed f left front shows os b sep k (code.TheVariants.Repetition body) g e = cc
   repetition_closed f left front shows os b sep k code.TheVariants.Ended g e = g
@@ -403,8 +408,8 @@ module _ (A : Type 0) (HasEdition : SyntaxContext → Edition → Type 0) where
   repetition_closed f left front shows os b sep k (code.TheVariants.Group body) g e = g
   repetition_closed f left front shows os b sep k (code.TheVariants.Refused fault) g e = g
 
-  pub not_closed : (f left : Forest) (front : code.Front A) (shows : Shows (head pattern f) front left) (os : Ops)
-      (o : Op) (x : Inner A) → Template HasEdition pattern f (op o os) → Holds x o → inside_of front ≡ None → ⊥
+  pub not_closed : (f left : Forest) (front : code.OpHead A) (shows : IsOpHead (head pattern f) front left) (os : Ops)
+      (o : Op) (x : OpBody A) → Template HasEdition pattern f (op o os) → HasOps x o → inside_of front ≡ None → ⊥
   not_closed f left front shows os (ops.group d b) x t h e =
       group_closed f left front shows os d b front (front_group f left front shows os d b t) e
   not_closed f left front shows os (ops.repetition b sep k) x t h e =
@@ -415,7 +420,7 @@ module _ (A : Type 0) (HasEdition : SyntaxContext → Edition → Type 0) where
 
   -- ---- another op in front
 
-  whole_shorter : (f rest left : Forest) (front : code.Front A) → IsWhole front rest left → Fits 1 front f left
+  whole_shorter : (f rest left : Forest) (front : code.OpHead A) → IsWhole front rest left → Shortens 1 front f left
       → flat_len left ≤ flat_len f
   whole_shorter f rest left code.TheVariants.Whole s fits = omega arith
   whole_shorter f rest left code.TheVariants.Ended s fits = absurd s
@@ -423,8 +428,9 @@ module _ (A : Type 0) (HasEdition : SyntaxContext → Edition → Type 0) where
   whole_shorter f rest left (code.TheVariants.Repetition body) s fits = absurd s
   whole_shorter f rest left (code.TheVariants.Refused fault) s fits = absurd s
 
-  pub plain_shorter : (f left : Forest) (front : code.Front A) (os : Ops) (o : Op) → Shows (head pattern f) front left
-      → IsPlain o → Template HasEdition pattern f (op o os) → Fits 1 front f left → flat_len left ≤ flat_len f
+  pub plain_shorter : (f left : Forest) (front : code.OpHead A) (os : Ops) (o : Op)
+      → IsOpHead (head pattern f) front left
+      → HasNoOps o → Template HasEdition pattern f (op o os) → Shortens 1 front f left → flat_len left ≤ flat_len f
   plain_shorter f left front os o shows p t fits =
       let r : Simple os f = is_simple o os f p (read t) in
       whole_shorter f r.0 left front (r.3 front left shows) fits

@@ -1,5 +1,6 @@
 -- The first rule that is refused for a repetition that can read nothing, rule after rule.
-use Rattle.std.specs.Prelude.{◌≡◌, ◌≤◌, ◌+◌, ◌||◌, ℕ, suc, Bool, true, false, if◌then◌else◌, refl, List, [], ◌∷◌, ◌++◌, length}
+use Rattle.std.specs.Prelude.{◌≡◌, ◌≤◌, ◌+◌, ◌||◌, ℕ, suc, Bool, true, false, if◌then◌else◌, refl, List, [], ◌∷◌, ◌++◌}
+use Rattle.std.specs.Prelude.{length}
 use Rattle.std.specs.Prelude.{Option, Some, None, option_map, is_some, IfSome, Result, Ok}
 use Rattle.std.specs.List.{list_any}
 use Rattle.std.proofs.Common.{ap, sym, ◌∙◌, subst, arith, length-append}
@@ -12,14 +13,16 @@ use Rattle.mbe_semantics.specs.declared.macro_call_style.MacroCallStyle.TheVaria
 use Rattle.mbe_semantics.specs.Syntax.Template.{pattern, template, Fault, empty_repetition, Template}
 use Rattle.mbe_semantics.specs.Syntax.Definition.{Rule, RuleTrees, Rules, AreParts, PartsFault, after_separator}
 use Rattle.mbe_semantics.specs.Syntax.Definition.{with_refusal, rule_trees_at, IsMacroOfArguments, one_rule, faulty}
-use Rattle.mbe_parser.specs.Reader.{mode_of, ReadsRule}
+use Rattle.mbe_parser.specs.ParserResults.{mode_of, ReadsRule}
 use Rattle.mbe_parser.proofs.RuleReading.{IsSeparated, following-some}
-use Rattle.mbe_parser.specs.declared.faults.rules.Refusal.TheVariants as why
-use Rattle.mbe_parser.specs.declared.faults.rules.RulesFault.{RulesFault}
-use Rattle.mbe_parser.specs.Faults.Places.{RulesFaultAt, pattern_place}
-use Rattle.mbe_parser.specs.Faults.Empty.{EmptyAt, RulesEmptyAt, in_rule, separated, IsEmptyPlace, IsRuleEmpty}
-use Rattle.mbe_parser.specs.Faults.Empty.{RefusedAt, by_fault, by_empty, OneRefusedAt, by_empty_of}
-use Rattle.mbe_parser.specs.Faults.Refusals.{refusal_of, AreRefused, IsOneRefused, first_of, refused, empty_within}
+use Rattle.mbe_parser.specs.declared.fault_locator.rule_faults.DefinitionRefusal.TheVariants as why
+use Rattle.mbe_parser.specs.declared.fault_locator.rule_faults.RulesFault.{RulesFault}
+use Rattle.mbe_parser.specs.FaultLocator.FaultOffsets.{RulesFaultAt, pattern_offset}
+use Rattle.mbe_parser.specs.FaultLocator.RefusedRepetitions.{EmptyAt, RulesEmptyAt, in_rule, separated, IsEmptyOffset}
+use Rattle.mbe_parser.specs.FaultLocator.RefusedRepetitions.{IsRuleEmpty}
+use Rattle.mbe_parser.specs.FaultLocator.RefusedRepetitions.{RefusedAt, by_fault, by_empty, OneRefusedAt, by_empty_of}
+use Rattle.mbe_parser.specs.FaultLocator.Refusals.{refusal_of, AreRefused, IsOneRefused, first_of, refused}
+use Rattle.mbe_parser.specs.FaultLocator.Refusals.{empty_in_pattern}
 
 -- a pattern of these is refused
 abbrev pub refuses : List Rule → Bool
@@ -45,15 +48,15 @@ same_trees o p e = cc
 -- ---- the pattern of one rule
 
 module _ (HasEdition : SyntaxContext → Edition → Type 0) where
-  pub empty_place : (f : Forest) (os : Ops) (place : Option ℕ) → IfSome place (EmptyAt HasEdition f)
-      → is_some place ≡ is_refused os → IsEmptyPlace HasEdition f os place
+  pub empty_place : (f : Forest) (os : Ops) (offset : Option ℕ) → IfSome offset (EmptyAt HasEdition f)
+      → is_some offset ≡ is_refused os → IsEmptyOffset HasEdition f os offset
   empty_place f os None w e = sym e
   empty_place f os (Some n) w e = (sym e, w)
 
   -- in the rule of these trees
-  pub rule_empty : (f : Forest) (o : RuleTrees) (r : Rule) (place : Option ℕ) (before : ℕ) → rule_trees_at f ≡ Ok o
-      → before ≡ pattern_place f o → IsEmptyPlace HasEdition o.reads r.reads place
-      → IsRuleEmpty HasEdition f r (option_map (λ n. before + n) place)
+  pub rule_empty : (f : Forest) (o : RuleTrees) (r : Rule) (offset : Option ℕ) (before : ℕ) → rule_trees_at f ≡ Ok o
+      → before ≡ pattern_offset f o → IsEmptyOffset HasEdition o.reads r.reads offset
+      → IsRuleEmpty HasEdition f r (option_map (λ n. before + n) offset)
   rule_empty f o r None before e p w = w
   rule_empty f o r (Some n) before e p w = (w.0, o, n, e, w.1, ap (λ (k : ℕ). k + n) p)
 
@@ -76,9 +79,9 @@ module _ (HasEdition : SyntaxContext → Edition → Type 0) where
         (subst (λ (x : Option Fault). IsMacroOfArguments HasEdition arguments body (r ∷ []) x) w (one_rule r p))
 
     -- it is refused for what its pattern has
-    pub one_refused : (r : Rule) (rs : List Rule) (place : Option ℕ) → rs ≡ r ∷ [] → AreParts HasEdition OneRule r
-        → IsEmptyPlace HasEdition arguments r.reads place
-        → IsOneRefused HasEdition arguments body rs (option_map (λ x. refusal_of x.fault) (empty_within place))
+    pub one_refused : (r : Rule) (rs : List Rule) (offset : Option ℕ) → rs ≡ r ∷ [] → AreParts HasEdition OneRule r
+        → IsEmptyOffset HasEdition arguments r.reads offset
+        → IsOneRefused HasEdition arguments body rs (option_map (λ x. refusal_of x.fault) (empty_in_pattern offset))
     one_refused r rs None e p w =
         one_read r rs None e p (ap (λ (b : Bool). if b || false then Some empty_repetition else None) w)
     one_refused r rs (Some n) e p w =
@@ -86,10 +89,10 @@ module _ (HasEdition : SyntaxContext → Edition → Type 0) where
         (ap (λ (b : Bool). if b || false then Some empty_repetition else None) w.0)
 
     -- there
-    pub one_placed : (reads writes : Ops) (place : Option ℕ) → Template HasEdition pattern arguments reads
-        → Template HasEdition template body writes → IsEmptyPlace HasEdition arguments reads place
-        → IfSome (empty_within place)
-        (λ x. OneRefusedAt HasEdition arguments body (refusal_of x.fault) (mode_of x.part) x.place)
+    pub one_placed : (reads writes : Ops) (offset : Option ℕ) → Template HasEdition pattern arguments reads
+        → Template HasEdition template body writes → IsEmptyOffset HasEdition arguments reads offset
+        → IfSome (empty_in_pattern offset)
+        (λ x. OneRefusedAt HasEdition arguments body (refusal_of x.fault) (mode_of x.part) x.offset)
     one_placed reads writes None r t w = tt
     one_placed reads writes (Some n) r t w = by_empty_of reads writes n r t w.1
 
@@ -107,7 +110,7 @@ module _ (HasEdition : SyntaxContext → Edition → Type 0) (separators : List 
   abbrev pub Settled : Forest → List Rule → Option RulesFault → Type 0
   Settled whole rs None = refuses rs ≡ false
   Settled whole rs (Some x) = (refuses rs ≡ true) × (x.fault ≡ why.EmptyRepetition)
-      × RulesEmptyAt HasEdition separators whole x.rule x.place
+      × RulesEmptyAt HasEdition separators whole x.rule x.offset
 
   -- else the first among the trees that are left is the first of all
   abbrev pub Goes : Forest → Forest → ℕ → Option RulesFault → Type 0
@@ -117,10 +120,10 @@ module _ (HasEdition : SyntaxContext → Edition → Type 0) (separators : List 
 
   -- one rule more was read
   pub settled-more : (whole left following : Forest) (rs : List Rule) (r : Rule) (x : Option RulesFault)
-      (place : Option ℕ) (before rules : ℕ) → rules ≡ length rs → before ≡ passed whole left → Settled whole rs x
-      → Goes whole left (length rs) x → ReadsRule HasEdition left r following → IsRuleEmpty HasEdition left r place
-      → Settled whole (rs ++ r ∷ []) (first_of x place rules before)
-  settled-more whole left following rs r (Some x) place before rules e p s g reads w =
+      (offset : Option ℕ) (before rules : ℕ) → rules ≡ length rs → before ≡ passed whole left → Settled whole rs x
+      → Goes whole left (length rs) x → ReadsRule HasEdition left r following → IsRuleEmpty HasEdition left r offset
+      → Settled whole (rs ++ r ∷ []) (first_of x offset rules before)
+  settled-more whole left following rs r (Some x) offset before rules e p s g reads w =
       (refuses-push rs r ∙ ap (λ b. b || is_refused r.reads) s.0, s.1, s.2)
   settled-more whole left following rs r None None before rules e p s g reads w =
       refuses-push rs r ∙ ap (λ b. b || is_refused r.reads) s ∙ w
@@ -137,11 +140,11 @@ module _ (HasEdition : SyntaxContext → Edition → Type 0) (separators : List 
 
   -- and a separator is after it
   pub goes-more : (whole left following rest : Forest) (rs : List Rule) (r : Rule) (x : Option RulesFault)
-      (place : Option ℕ) (before rules : ℕ) → Goes whole left (length rs) x → ReadsRule HasEdition left r following
-      → IsRuleEmpty HasEdition left r place → IsSeparated separators following → rest ≡ rest_of following
+      (offset : Option ℕ) (before rules : ℕ) → Goes whole left (length rs) x → ReadsRule HasEdition left r following
+      → IsRuleEmpty HasEdition left r offset → IsSeparated separators following → rest ≡ rest_of following
       → flat_len rest ≤ flat_len left → flat_len left ≤ flat_len whole
-      → Goes whole rest (length (rs ++ r ∷ [])) (first_of x place rules before)
-  goes-more whole left following rest rs r (Some x) place before rules g reads w e l h m = tt
+      → Goes whole rest (length (rs ++ r ∷ [])) (first_of x offset rules before)
+  goes-more whole left following rest rs r (Some x) offset before rules g reads w e l h m = tt
   goes-more whole left following rest rs r None (Some n) before rules g reads w e l h m = tt
   goes-more whole left following rest rs r None None before rules g reads w e l h m =
       let back : after_separator separators reads.rule_trees.back ≡ Some rest =
@@ -185,15 +188,15 @@ module _ (HasEdition : SyntaxContext → Edition → Type 0) (separators : List 
 
   -- and where
   pub placed-some : (f : Forest) (missing : Fault) (rs : List Rule) (x : Option RulesFault) → Settled f rs x
-      → IfSome x (λ y. RefusedAt HasEdition separators missing f (refusal_of y.fault) y.rule y.place)
+      → IfSome x (λ y. RefusedAt HasEdition separators missing f (refusal_of y.fault) y.rule y.offset)
   placed-some f missing rs None s = tt
   placed-some f missing rs (Some x) s =
-      subst (λ y. RefusedAt HasEdition separators missing f (refusal_of y) x.rule x.place) (sym s.1)
-      (by_empty x.rule x.place s.2)
+      subst (λ y. RefusedAt HasEdition separators missing f (refusal_of y) x.rule x.offset) (sym s.1)
+      (by_empty x.rule x.offset s.2)
 
   pub placed-by : (f : Forest) (missing : Fault) (rs : List Rule) (x : Option RulesFault) (fault : RulesFault)
       → Settled f rs x
-      → RulesFaultAt HasEdition separators missing (refusal_of fault.fault) f fault.rule fault.place
-      → IfSome (refused x fault) (λ y. RefusedAt HasEdition separators missing f (refusal_of y.fault) y.rule y.place)
-  placed-by f missing rs None fault s h = by_fault (refusal_of fault.fault) fault.rule fault.place h
+      → RulesFaultAt HasEdition separators missing (refusal_of fault.fault) f fault.rule fault.offset
+      → IfSome (refused x fault) (λ y. RefusedAt HasEdition separators missing f (refusal_of y.fault) y.rule y.offset)
+  placed-by f missing rs None fault s h = by_fault (refusal_of fault.fault) fault.rule fault.offset h
   placed-by f missing rs (Some x) fault s h = placed-some f missing rs (Some x) s

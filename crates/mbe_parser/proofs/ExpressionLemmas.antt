@@ -1,5 +1,6 @@
 -- What comes first, as a part of a metavariable expression; and std reads the depths that the definition says.
-use Rattle.std.specs.Prelude.{◌≡◌, ◌≤◌, ◌-◌, ◌^◌, ◌==◌, ℕ, Bool, true, false, if◌then◌else◌, nat_lt, List, length, Some, None, Result, Ok, Err, refl}
+use Rattle.std.specs.Prelude.{◌≡◌, ◌≤◌, ◌-◌, ◌^◌, ◌==◌, ℕ, Bool, true, false, if◌then◌else◌, nat_lt, List, length, Some}
+use Rattle.std.specs.Prelude.{None, Result, Ok, Err, refl}
 use Rattle.std.proofs.Common.{ap, sym, ◌∙◌, arith, length-drop}
 use Rattle.std.proofs.lemmas.Option.{none-some, same_Some}
 use Rattle.std.proofs.lemmas.Bool.{eq-eqb, eqb-true, false≢true}
@@ -10,13 +11,15 @@ use Rattle.std.specs.Result.{OkIff, result_ok}
 use Rattle.std.specs.Str.{all_ascii_digits}
 use Rattle.std.specs.Str.Parse.{AllDigits, ParsesUnsigned, digits_value, without_leading_plus}
 use Rattle.mbe_tt.specs.Trees.Leaf.{Ident, Literal, literal, punct, ident, is_underscore}
-use Rattle.mbe_tt.specs.Trees.Literals.{is_cut, text_len, is_plain, literal_text, literal_suffix, decimal_value}
+use Rattle.mbe_tt.specs.Trees.Literals.{is_char_boundary, text_len, has_no_suffix, literal_text, literal_suffix}
+use Rattle.mbe_tt.specs.Trees.Literals.{decimal_value}
 use Rattle.mbe_tt.specs.Trees.Tree.{Forest, none, leaf, group, rest_of, front_char, front_ident, front_group, any_ident}
 use Rattle.mbe_tt.specs.declared.tt.Delimiter.{Delimiter}
 use Rattle.mbe_tt.specs.declared.tt.DelimiterKind.TheVariants.{Parenthesis}
 use Rattle.mbe_semantics.specs.Syntax.Op.{ident_element, literal_element, variable_element}
 use Rattle.mbe_parser.proofs.ReaderLemmas.{some_if}
-use Rattle.mbe_semantics.specs.Syntax.Template.{expression_of, arguments_of, elements_of, elements_after_comma, element_before}
+use Rattle.mbe_semantics.specs.Syntax.Template.{expression_of, arguments_of, elements_of, elements_after_comma}
+use Rattle.mbe_semantics.specs.Syntax.Template.{element_before}
 
 -- ---- depths
 
@@ -47,11 +50,12 @@ no_more false true n m h = h
 no_more false false n m h = omega arith
 
 text_len-le : (text : List ℕ) (n : ℕ) → text_len text n ≤ length text
-text_len-le text n = no_more (nat_lt (length text) n) (is_cut text (length text - n)) (length text) (length text - n)
+text_len-le text n =
+    no_more (nat_lt (length text) n) (is_char_boundary text (length text - n)) (length text) (length text - n)
     (omega arith)
 
 -- a literal whose suffix is empty has none
-without_suffix : (l : Literal) → length (literal_suffix l) ≡ 0 → is_plain l ≡ true
+without_suffix : (l : Literal) → length (literal_suffix l) ≡ 0 → has_no_suffix l ≡ true
 without_suffix l e =
     let n = text_len l.text_and_suffix l.suffix_len in
     let h : length l.text_and_suffix - n ≡ 0 = sym (length-drop n l.text_and_suffix) ∙ e in
@@ -61,7 +65,7 @@ without_suffix l e =
 pub reads_depth : {E : Type 0} (l : Literal) (text suffix : List ℕ) (r : Result ℕ E) → text ≡ literal_text l
     → suffix ≡ literal_suffix l
     → true ≡ (length suffix == 0) → ParsesUnsigned 64 10 text r
-    → result_ok r ≡ (if is_plain l then decimal_value (literal_text l) else None)
+    → result_ok r ≡ (if has_no_suffix l then decimal_value (literal_text l) else None)
 reads_depth l text suffix r t s e h =
     let no_suffix : length (literal_suffix l) ≡ 0 = ap length (sym s) ∙ eqb-true (length suffix) 0 (sym e) in
     rw (without_suffix l no_suffix) (reads_decimal text r h ∙ ap decimal_value t)

@@ -5,14 +5,18 @@ use Rattle.mbe_tt.specs.declared.span.SyntaxContext.{SyntaxContext}
 use Rattle.mbe_tt.specs.declared.span.Edition.{Edition}
 use Rattle.mbe_tt.specs.Trees.Tree.{Forest, none, passed}
 use Rattle.mbe_semantics.specs.Syntax.Template as faults
-use Rattle.mbe_semantics.specs.Syntax.Template.{Mode, Fault, Head, ended, one, typed, opens_group, opens_repetition, head, Template, TemplateFault}
+use Rattle.mbe_semantics.specs.Syntax.Template.{Mode, Fault, Head, ended, one, typed, opens_group, opens_repetition}
+use Rattle.mbe_semantics.specs.Syntax.Template.{head, Template, TemplateFault}
 use Rattle.mbe_semantics.specs.Syntax.Op.{Ops}
 use Rattle.mbe_laws.proofs.Definitions.TemplateLemmas.{ops_or_fault}
 use Rattle.mbe_semantics.specs.Syntax.Definition as rules
 use Rattle.mbe_semantics.specs.Syntax.Definition.{Rule, Rules}
-use Rattle.mbe_parser.specs.Reader as reader
-use Rattle.mbe_parser.specs.Reader.{RuleFault}
-use Rattle.mbe_parser.specs.Faults.Places.{TemplateFaultAt, here, in_group, in_repetition, after_token, after_variable, following_group, after_repetition, RuleFaultAt, in_trees, in_pattern, in_template, RulesFaultAt, in_rule, unseparated, separated}
+use Rattle.mbe_parser.specs.ParserResults as reader
+use Rattle.mbe_parser.specs.ParserResults.{RuleFault}
+use Rattle.mbe_parser.specs.FaultLocator.FaultOffsets.{TemplateFaultAt, here, in_group, in_repetition, after_token}
+use Rattle.mbe_parser.specs.FaultLocator.FaultOffsets.{after_variable, after_group, after_repetition, RuleFaultAt}
+use Rattle.mbe_parser.specs.FaultLocator.FaultOffsets.{in_trees, in_pattern, in_template, RulesFaultAt, in_rule}
+use Rattle.mbe_parser.specs.FaultLocator.FaultOffsets.{unseparated, separated}
 
 module _ (HasEdition : SyntaxContext → Edition → Type 0) where
   -- it is the first fault of the trees
@@ -27,7 +31,7 @@ module _ (HasEdition : SyntaxContext → Edition → Type 0) where
       faults.after_token f rest o e (template_fault mode fault w)
   template_fault mode fault (after_variable f rest name span specifier n e w) =
       faults.after_variable f rest name span specifier e (template_fault mode fault w)
-  template_fault mode fault (following_group f inside rest d body n e b w) =
+  template_fault mode fault (after_group f inside rest d body n e b w) =
       faults.following_group f inside rest d body e b (template_fault mode fault w)
   template_fault mode fault (after_repetition f inside rest s repeat body n e b w) =
       faults.after_repetition f inside rest s repeat body e b (template_fault mode fault w)
@@ -97,7 +101,7 @@ module _ (HasEdition : SyntaxContext → Edition → Type 0) where
       subst (Placed mode fault (passed f rest + n) f) (sym e) (n, w, refl)
   place_by_head mode fault (after_variable f rest name span specifier n e w) =
       subst (Placed mode fault (passed f rest + n) f) (sym e) (n, w, refl)
-  place_by_head mode fault (following_group f inside rest d body n e b w) =
+  place_by_head mode fault (after_group f inside rest d body n e b w) =
       subst (Placed mode fault (passed f rest + n) f) (sym e) (inr (body, n, b, w, refl))
   place_by_head mode fault (after_repetition f inside rest s repeat body n e b w) =
       subst (Placed mode fault (passed f rest + n) f) (sym e) (inr (body, n, b, w, refl))
@@ -124,7 +128,7 @@ module _ (HasEdition : SyntaxContext → Edition → Type 0) where
   one_place mode fault (after_variable f rest name span specifier n e v) other m w =
       let p = subst (Placed mode other m f) e (place_by_head mode other w) in
       ap (λ i. passed f rest + i) (one_place mode fault v other p.0 p.1) ∙ sym p.2
-  one_place mode fault (following_group f inside rest d body n e b v) other m w =
+  one_place mode fault (after_group f inside rest d body n e b v) other m w =
       one_of (λ p. absurd (ops_or_fault HasEdition mode inside body other b (template_fault mode other p.1)))
       (λ p. ap (λ i. passed f rest + i) (one_place mode fault v other p.1 p.3) ∙ sym p.4)
       (subst (Placed mode other m f) e (place_by_head mode other w))

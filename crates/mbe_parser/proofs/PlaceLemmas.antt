@@ -5,14 +5,17 @@ use Rattle.mbe_tt.specs.declared.span.SyntaxContext.{SyntaxContext}
 use Rattle.mbe_tt.specs.declared.span.Edition.{Edition}
 use Rattle.mbe_tt.specs.Trees.Tree.{Forest, none, flat_len, passed}
 use Rattle.mbe_semantics.specs.Syntax.Op.{Op, Ops}
-use Rattle.mbe_semantics.specs.Syntax.Template.{Mode, Fault, Head, ended, one, typed, opens_group, opens_repetition, head, Template, nothing, token, variable, grouped, repeated, TemplateFault, here, in_group, in_repetition, after_token, after_variable, following_group, after_repetition}
+use Rattle.mbe_semantics.specs.Syntax.Template.{Mode, Fault, Head, ended, one, typed, opens_group, opens_repetition}
+use Rattle.mbe_semantics.specs.Syntax.Template.{head, Template, nothing, token, variable, grouped, repeated}
+use Rattle.mbe_semantics.specs.Syntax.Template.{TemplateFault, here, in_group, in_repetition, after_token}
+use Rattle.mbe_semantics.specs.Syntax.Template.{after_variable, following_group, after_repetition}
 use Rattle.mbe_ops.specs.Errors.ErrorViews.{fault_of}
 use Rattle.mbe_ops.specs.declared.errors.error.SyntaxFault as reported
 use Rattle.mbe_laws.proofs.Definitions.TemplateLemmas.{ops_or_fault}
-use Rattle.mbe_parser.specs.declared.faults.front.Front as code
-use Rattle.mbe_parser.specs.Faults.Fronts.{Shows}
-use Rattle.mbe_parser.specs.Faults.Places as places
-use Rattle.mbe_parser.specs.Faults.Places.{TemplateFaultAt}
+use Rattle.mbe_parser.specs.declared.fault_locator.op_head.OpHead as code
+use Rattle.mbe_parser.specs.FaultLocator.OpHeads.{IsOpHead}
+use Rattle.mbe_parser.specs.FaultLocator.FaultOffsets as places
+use Rattle.mbe_parser.specs.FaultLocator.FaultOffsets.{TemplateFaultAt}
 
 module _ (HasEdition : SyntaxContext → Edition → Type 0) (mode : Mode) where
   -- ---- what the head says of a fault
@@ -72,7 +75,7 @@ module _ (HasEdition : SyntaxContext → Edition → Type 0) (mode : Mode) where
   moved f mid left e p = subst (λ (g : Forest). Passes f g) e p
 
   whole_step : (A : Type 0) (f left : Forest) (h : Result Head Fault) → head mode f ≡ h
-      → Shows {A = A} h code.TheVariants.Whole left → Passes f left
+      → IsOpHead {A = A} h code.TheVariants.Whole left → Passes f left
   whole_step A f left (Ok (one o rest)) e s = moved f rest left s (record {
     at = λ fault n w. places.after_token f rest o n e w;
     others = λ fault w. subst (InHead fault) e (in_head fault w);
@@ -86,7 +89,7 @@ module _ (HasEdition : SyntaxContext → Edition → Type 0) (mode : Mode) where
   whole_step A f left (Ok (opens_repetition sep repeat inside rest)) e s = absurd s
   whole_step A f left (Err fault) e s = absurd s
 
-  pub past_whole : (A : Type 0) (f left : Forest) → Shows {A = A} (head mode f) code.TheVariants.Whole left
+  pub past_whole : (A : Type 0) (f left : Forest) → IsOpHead {A = A} (head mode f) code.TheVariants.Whole left
       → Passes f left
   past_whole A f left s = whole_step A f left (head mode f) refl s
 
@@ -96,12 +99,12 @@ module _ (HasEdition : SyntaxContext → Edition → Type 0) (mode : Mode) where
   other n (inr q) = q
 
   group_step : (A : Type 0) (f g left : Forest) (body : Ops) (h : Result Head Fault) → head mode f ≡ h
-      → Shows {A = A} h (code.TheVariants.Group g) left → Template HasEdition mode g body → Passes f left
+      → IsOpHead {A = A} h (code.TheVariants.Group g) left → Template HasEdition mode g body → Passes f left
   group_step A f g left body (Ok (opens_group d inside rest)) e s t =
       let b : Template HasEdition mode inside body =
       subst (λ (x : Forest). Template HasEdition mode x body) (sym s.0) t in
       moved f rest left s.1 (record {
-        at = λ fault n w. places.following_group f inside rest d body n e b w;
+        at = λ fault n w. places.after_group f inside rest d body n e b w;
         others = λ fault w. other (ops_or_fault HasEdition mode inside body fault b)
             (subst (InHead fault) e (in_head fault w));
       })
@@ -112,11 +115,11 @@ module _ (HasEdition : SyntaxContext → Edition → Type 0) (mode : Mode) where
   group_step A f g left body (Err fault) e s t = absurd s
 
   pub past_group : (A : Type 0) (f g left : Forest) (body : Ops)
-      → Shows {A = A} (head mode f) (code.TheVariants.Group g) left → Template HasEdition mode g body → Passes f left
+      → IsOpHead {A = A} (head mode f) (code.TheVariants.Group g) left → Template HasEdition mode g body → Passes f left
   past_group A f g left body s t = group_step A f g left body (head mode f) refl s t
 
   repetition_step : (A : Type 0) (f g left : Forest) (body : Ops) (h : Result Head Fault) → head mode f ≡ h
-      → Shows {A = A} h (code.TheVariants.Repetition g) left → Template HasEdition mode g body → Passes f left
+      → IsOpHead {A = A} h (code.TheVariants.Repetition g) left → Template HasEdition mode g body → Passes f left
   repetition_step A f g left body (Ok (opens_repetition sep repeat inside rest)) e s t =
       let b : Template HasEdition mode inside body =
       subst (λ (x : Forest). Template HasEdition mode x body) (sym s.0) t in
@@ -132,14 +135,14 @@ module _ (HasEdition : SyntaxContext → Edition → Type 0) (mode : Mode) where
   repetition_step A f g left body (Err fault) e s t = absurd s
 
   pub past_repetition : (A : Type 0) (f g left : Forest) (body : Ops)
-      → Shows {A = A} (head mode f) (code.TheVariants.Repetition g) left → Template HasEdition mode g body
+      → IsOpHead {A = A} (head mode f) (code.TheVariants.Repetition g) left → Template HasEdition mode g body
       → Passes f left
   past_repetition A f g left body s t = repetition_step A f g left body (head mode f) refl s t
 
   -- ---- a fault at the front, or inside it
 
   refused_step : (A : Type 0) (f left : Forest) (found : reported.SyntaxFault) (h : Result Head Fault)
-      → head mode f ≡ h → Shows {A = A} h (code.TheVariants.Refused found) left
+      → head mode f ≡ h → IsOpHead {A = A} h (code.TheVariants.Refused found) left
       → TemplateFaultAt HasEdition mode (fault_of found) f 0
   refused_step A f left found (Err fault) e s =
       places.here f (e ∙ ap (λ (x : Fault). let r : Result Head Fault = Err x in r) s)
@@ -150,12 +153,12 @@ module _ (HasEdition : SyntaxContext → Edition → Type 0) (mode : Mode) where
   refused_step A f left found (Ok (opens_repetition sep repeat inside rest)) e s = absurd s
 
   pub at_refused : (A : Type 0) (f left : Forest) (found : reported.SyntaxFault)
-      → Shows {A = A} (head mode f) (code.TheVariants.Refused found) left
+      → IsOpHead {A = A} (head mode f) (code.TheVariants.Refused found) left
       → TemplateFaultAt HasEdition mode (fault_of found) f 0
   at_refused A f left found s = refused_step A f left found (head mode f) refl s
 
   inside_step : (A : Type 0) (f g left : Forest) (fault : Fault) (n : ℕ) (h : Result Head Fault) → head mode f ≡ h
-      → Shows {A = A} h (code.TheVariants.Group g) left → TemplateFaultAt HasEdition mode fault g n
+      → IsOpHead {A = A} h (code.TheVariants.Group g) left → TemplateFaultAt HasEdition mode fault g n
       → TemplateFaultAt HasEdition mode fault f (1 + n)
   inside_step A f g left fault n (Ok (opens_group d inside rest)) e s w =
       places.in_group f inside rest d n e
@@ -167,12 +170,12 @@ module _ (HasEdition : SyntaxContext → Edition → Type 0) (mode : Mode) where
   inside_step A f g left fault n (Err x) e s w = absurd s
 
   pub inside_group : (A : Type 0) (f g left : Forest) (fault : Fault) (n : ℕ)
-      → Shows {A = A} (head mode f) (code.TheVariants.Group g) left → TemplateFaultAt HasEdition mode fault g n
+      → IsOpHead {A = A} (head mode f) (code.TheVariants.Group g) left → TemplateFaultAt HasEdition mode fault g n
       → TemplateFaultAt HasEdition mode fault f (1 + n)
   inside_group A f g left fault n s w = inside_step A f g left fault n (head mode f) refl s w
 
   body_step : (A : Type 0) (f g left : Forest) (fault : Fault) (n : ℕ) (h : Result Head Fault) → head mode f ≡ h
-      → Shows {A = A} h (code.TheVariants.Repetition g) left → TemplateFaultAt HasEdition mode fault g n
+      → IsOpHead {A = A} h (code.TheVariants.Repetition g) left → TemplateFaultAt HasEdition mode fault g n
       → TemplateFaultAt HasEdition mode fault f (2 + n)
   body_step A f g left fault n (Ok (opens_repetition sep repeat inside rest)) e s w =
       places.in_repetition f inside rest sep repeat n e
@@ -184,13 +187,13 @@ module _ (HasEdition : SyntaxContext → Edition → Type 0) (mode : Mode) where
   body_step A f g left fault n (Err x) e s w = absurd s
 
   pub inside_repetition : (A : Type 0) (f g left : Forest) (fault : Fault) (n : ℕ)
-      → Shows {A = A} (head mode f) (code.TheVariants.Repetition g) left → TemplateFaultAt HasEdition mode fault g n
+      → IsOpHead {A = A} (head mode f) (code.TheVariants.Repetition g) left → TemplateFaultAt HasEdition mode fault g n
       → TemplateFaultAt HasEdition mode fault f (2 + n)
   inside_repetition A f g left fault n s w = body_step A f g left fault n (head mode f) refl s w
 
   -- nothing is at the front
   ended_step : (A : Type 0) (f left : Forest) (h : Result Head Fault) → head mode f ≡ h
-      → Shows {A = A} h code.TheVariants.Ended left → (fault : Fault) → TemplateFault HasEdition mode fault f → ⊥
+      → IsOpHead {A = A} h code.TheVariants.Ended left → (fault : Fault) → TemplateFault HasEdition mode fault f → ⊥
   ended_step A f left (Ok ended) e s fault w = subst (InHead fault) e (in_head fault w)
   ended_step A f left (Ok (one o rest)) e s fault w = absurd s
   ended_step A f left (Ok (typed name span specifier rest)) e s fault w = absurd s
@@ -198,7 +201,7 @@ module _ (HasEdition : SyntaxContext → Edition → Type 0) (mode : Mode) where
   ended_step A f left (Ok (opens_repetition sep repeat inside rest)) e s fault w = absurd s
   ended_step A f left (Err x) e s fault w = absurd s
 
-  pub at_end : (A : Type 0) (f left : Forest) → Shows {A = A} (head mode f) code.TheVariants.Ended left
+  pub at_end : (A : Type 0) (f left : Forest) → IsOpHead {A = A} (head mode f) code.TheVariants.Ended left
       → (fault : Fault) → TemplateFault HasEdition mode fault f → ⊥
   at_end A f left s = ended_step A f left (head mode f) refl s
 

@@ -1,5 +1,6 @@
 -- What one op of a pattern or a template says of all its trees, and what specifiers mean.
-use Rattle.std.specs.Prelude.{◌≡◌, ℕ, Bool, true, false, if◌then◌else◌, List, [], ◌∷◌, ◌++◌, length, codes, Option, Some, None, option_and_then, Result, Ok, Err, IfErr, OnOk, IsTrue, IsFalse, refl, ◌==◌}
+use Rattle.std.specs.Prelude.{◌≡◌, ℕ, Bool, true, false, if◌then◌else◌, List, [], ◌∷◌, ◌++◌, length, codes, Option}
+use Rattle.std.specs.Prelude.{Some, None, option_and_then, Result, Ok, Err, IfErr, OnOk, IsTrue, IsFalse, refl, ◌==◌}
 use Rattle.std.proofs.Common.{ap, sym, ◌∙◌, subst}
 use Rattle.std.proofs.lemmas.Option.{none-some, same_Some}
 use Rattle.std.proofs.lemmas.Bool.{eq-eqb, ne_eqb}
@@ -11,13 +12,17 @@ use Rattle.mbe_tt.specs.declared.span.Edition.{Edition}
 use Rattle.mbe_tt.specs.declared.tt.Punct.{Punct}
 use Rattle.mbe_tt.specs.declared.span.Span.{Span}
 use Rattle.mbe_tt.specs.declared.tt.Delimiter.{Delimiter}
-use Rattle.mbe_semantics.specs.declared.kinds.MetaVarKind.{MetaVarKind}
+use Rattle.mbe_semantics.specs.declared.fragment_kinds.MetaVarKind.{MetaVarKind}
 use Rattle.mbe_semantics.specs.Syntax.Op as ops
 use Rattle.mbe_semantics.specs.Syntax.Op.{Name, Op, Ops, op, no_ops, Separator}
-use Rattle.mbe_semantics.specs.declared.kinds.RepeatKind.{RepeatKind}
+use Rattle.mbe_semantics.specs.declared.fragment_kinds.RepeatKind.{RepeatKind}
 use Rattle.mbe_semantics.specs.Fragments.Kinds.{kind_named, kind_names}
-use Rattle.mbe_semantics.specs.Syntax.Template.{Mode, Fault, Head, ended, one, typed, opens_group, opens_repetition, head, after_dollar, puncts_at, pat_kind, expr_kind, Specifies, dated_pat, dated_expr, undated, Template, token, variable, grouped, repeated, TemplateFault, here as at_front, in_group, in_repetition, after_token, after_variable, following_group, after_repetition}
-use Rattle.mbe_parser.specs.Reader.{AtHead, FaultAtHead, IsPushed, ReadsOp, Stops}
+use Rattle.mbe_semantics.specs.Syntax.Template.{Mode, Fault, Head, ended, one, typed, opens_group, opens_repetition}
+use Rattle.mbe_semantics.specs.Syntax.Template.{head, after_dollar, puncts_at, pat_kind, expr_kind, Specifies}
+use Rattle.mbe_semantics.specs.Syntax.Template.{dated_pat, dated_expr, undated, Template, token, variable, grouped}
+use Rattle.mbe_semantics.specs.Syntax.Template.{repeated, TemplateFault, here as at_front, in_group, in_repetition}
+use Rattle.mbe_semantics.specs.Syntax.Template.{after_token, after_variable, following_group, after_repetition}
+use Rattle.mbe_parser.specs.ParserResults.{AtHead, FaultAtHead, IsPushed, ReadsOp, ReadFails}
 use Rattle.mbe_ops.specs.Errors.ErrorViews.{fault_of}
 use Rattle.mbe_ops.specs.declared.errors.error.ReadError as why
 use Rattle.mbe_ops.specs.Views.{op_of, ops_of}
@@ -161,12 +166,13 @@ with_front-all (p ∷ before) = ap (op (op_of p)) (with_front-all before)
 
 -- ---- answers and faults, carried from the trees after the front to all trees
 
-pub Stops-weaker : (e : why.ReadError) (P Q : Fault → Type 0) → ((x : Fault) → P x → Q x) → Stops e P → Stops e Q
+pub Stops-weaker : (e : why.ReadError) (P Q : Fault → Type 0) → ((x : Fault) → P x → Q x) → ReadFails e P
+    → ReadFails e Q
 Stops-weaker why.TheVariants.Memory P Q h p = tt
 Stops-weaker (why.TheVariants.Fault f) P Q h p = h (fault_of f) p
 
 pub stopped : {T : Type 0} (r : Result T why.ReadError) (P Q : Fault → Type 0) → ((x : Fault) → P x → Q x)
-    → IfErr r (λ e. Stops e P) → IfErr r (λ e. Stops e Q)
+    → IfErr r (λ e. ReadFails e P) → IfErr r (λ e. ReadFails e Q)
 stopped (Ok x) P Q h p = tt
 stopped (Err e) P Q h p = Stops-weaker e P Q h p
 
@@ -181,8 +187,8 @@ module _ (HasEdition : SyntaxContext → Edition → Type 0) (m : Mode) where
       (h.0, h.1, subst (λ (g : Forest). AtHead HasEdition m (after_dollar m p g) (op_of h.0) new) (sym here) (h.2 p))
 
   pub leaf_fault : {T : Type 0} (r : Result T why.ReadError) (p : Punct) (f left : Forest) (l : Leaf) → f ≡ leaf l left
-      → IfErr r (λ e. Stops e (λ x. (d : Punct) → after_dollar m d (leaf l left) ≡ Err x))
-      → IfErr r (λ e. Stops e (FaultAtHead HasEdition m (after_dollar m p f)))
+      → IfErr r (λ e. ReadFails e (λ x. (d : Punct) → after_dollar m d (leaf l left) ≡ Err x))
+      → IfErr r (λ e. ReadFails e (FaultAtHead HasEdition m (after_dollar m p f)))
   leaf_fault r p f left l here h =
       stopped r (λ x. (d : Punct) → after_dollar m d (leaf l left) ≡ Err x)
       (FaultAtHead HasEdition m (after_dollar m p f))
@@ -219,20 +225,20 @@ module _ (HasEdition : SyntaxContext → Edition → Type 0) where
 
   pub head_fault : {T : Type 0} (r : Result T why.ReadError) (m : Mode) (f : Forest) (h : Result Head Fault)
       → head m f ≡ h
-      → IfErr r (λ e. Stops e (FaultAtHead HasEdition m h))
-      → IfErr r (λ e. Stops e (λ x. TemplateFault HasEdition m x f))
+      → IfErr r (λ e. ReadFails e (FaultAtHead HasEdition m h))
+      → IfErr r (λ e. ReadFails e (λ x. TemplateFault HasEdition m x f))
   head_fault r m f h here at = stopped r (FaultAtHead HasEdition m h) (λ x. TemplateFault HasEdition m x f)
       (λ x k. fault_head HasEdition m f x h here k) at
 
   pub group_fault : (e : why.ReadError) (m : Mode) (f inside left : Forest) (d : Delimiter) → f ≡ group d inside left
-      → Stops e (λ x. TemplateFault HasEdition m x inside) → Stops e (λ x. TemplateFault HasEdition m x f)
+      → ReadFails e (λ x. TemplateFault HasEdition m x inside) → ReadFails e (λ x. TemplateFault HasEdition m x f)
   group_fault e m f inside left d at h =
       Stops-weaker e (λ x. TemplateFault HasEdition m x inside) (λ x. TemplateFault HasEdition m x f)
       (λ x k. in_group f inside left d (ap (head m) at) k) h
 
   pub later_fault : (e : why.ReadError) (m : Mode) (f left : Forest)
       → ((x : Fault) → TemplateFault HasEdition m x left → TemplateFault HasEdition m x f)
-      → Stops e (λ x. TemplateFault HasEdition m x left) → Stops e (λ x. TemplateFault HasEdition m x f)
+      → ReadFails e (λ x. TemplateFault HasEdition m x left) → ReadFails e (λ x. TemplateFault HasEdition m x f)
   later_fault e m f left k h = Stops-weaker e (λ x. TemplateFault HasEdition m x left)
       (λ x. TemplateFault HasEdition m x f) k h
 

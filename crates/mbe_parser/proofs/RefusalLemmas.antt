@@ -1,11 +1,12 @@
 -- How the check of empty repetitions goes over ops, and over rules.
-use Rattle.std.specs.Prelude.{[], ◌∷◌, ◌++◌, ◌≡◌, ◌<◌, ◌≤◌, ◌+◌, ◌&&◌, ◌||◌, ℕ, Bool, true, false, not, is_some, List, length, get_or, drop, Option, Some, None, option_map, refl}
+use Rattle.std.specs.Prelude.{[], ◌∷◌, ◌++◌, ◌≡◌, ◌<◌, ◌≤◌, ◌+◌, ◌&&◌, ◌||◌, ℕ, Bool, true, false, not, is_some, List}
+use Rattle.std.specs.Prelude.{length, get_or, drop, Option, Some, None, option_map, refl}
 use Rattle.std.proofs.Common.{ap, sym, ◌∙◌}
 use Rattle.std.specs.List.{list_any}
 use Rattle.std.proofs.lemmas.List.{drop_more, drop_all}
 use Rattle.mbe_tt.specs.declared.tt.Delimiter.{Delimiter}
-use Rattle.mbe_ops.specs.Walk.{Stop, closing_stop, stops_of, walk}
-use Rattle.mbe_parser.specs.Refusal.{is_nullable_stop, is_refused_stop, can_read_nothing, some_refused}
+use Rattle.mbe_ops.specs.OpIter.{OpEvent, close_event, events_of, op_events}
+use Rattle.mbe_parser.specs.RepetitionCheck.{is_nullable_event, is_refused_event, are_nullable, has_refused}
 use Rattle.mbe_ops.specs.declared.ops.Separator.{Separator}
 use Rattle.mbe_parser.specs.declared.rules.Rule as written
 use Rattle.mbe_semantics.specs.Syntax.Op.{Ops, no_ops, op}
@@ -31,38 +32,38 @@ or_assoc true b c = refl
 or_assoc false b c = refl
 
 -- what was read, and then what is left, can read nothing
-pub next_nullable : (all so_far here now : Bool) (s : Stop) (left rest : List Stop) → left ≡ s ∷ rest
-    → here ≡ is_nullable_stop s
-    → now ≡ (so_far && here) → all ≡ (so_far && can_read_nothing left) → all ≡ (now && can_read_nothing rest)
+pub next_nullable : (all so_far here now : Bool) (s : OpEvent) (left rest : List OpEvent) → left ≡ s ∷ rest
+    → here ≡ is_nullable_event s
+    → now ≡ (so_far && here) → all ≡ (so_far && are_nullable left) → all ≡ (now && are_nullable rest)
 next_nullable all so_far here now s left rest l h n e =
-    e ∙ (ap (λ r. so_far && can_read_nothing r) l
-    ∙ (sym (and_assoc so_far (is_nullable_stop s) (can_read_nothing rest))
-    ∙ sym (ap (λ b. b && can_read_nothing rest) (n ∙ ap (λ b. so_far && b) h))))
+    e ∙ (ap (λ r. so_far && are_nullable r) l
+    ∙ (sym (and_assoc so_far (is_nullable_event s) (are_nullable rest))
+    ∙ sym (ap (λ b. b && are_nullable rest) (n ∙ ap (λ b. so_far && b) h))))
 
 -- the same of a refused repetition
-pub next_refused : (all so_far here now : Bool) (s : Stop) (left rest : List Stop) → left ≡ s ∷ rest
-    → here ≡ is_refused_stop s
-    → now ≡ (so_far || here) → all ≡ (so_far || some_refused left) → all ≡ (now || some_refused rest)
+pub next_refused : (all so_far here now : Bool) (s : OpEvent) (left rest : List OpEvent) → left ≡ s ∷ rest
+    → here ≡ is_refused_event s
+    → now ≡ (so_far || here) → all ≡ (so_far || has_refused left) → all ≡ (now || has_refused rest)
 next_refused all so_far here now s left rest l h n e =
-    e ∙ (ap (λ r. so_far || some_refused r) l
-    ∙ (sym (or_assoc so_far (is_refused_stop s) (some_refused rest))
-    ∙ sym (ap (λ b. b || some_refused rest) (n ∙ ap (λ b. so_far || b) h))))
+    e ∙ (ap (λ r. so_far || has_refused r) l
+    ∙ (sym (or_assoc so_far (is_refused_event s) (has_refused rest))
+    ∙ sym (ap (λ b. b || has_refused rest) (n ∙ ap (λ b. so_far || b) h))))
 
 -- a body can read nothing if its ops can
-pub nothing_read : (os : Ops) → can_read_nothing (walk None os) ≡ is_nullable os
+pub nothing_read : (os : Ops) → are_nullable (op_events None os) ≡ is_nullable os
 nothing_read no_ops = refl
 nothing_read (op o os) = ap (λ b. is_nullable_op o && b) (nothing_read os)
 
 -- and what is refused is among the ops, also between an opening and a closing
-refused_before : (os : Ops) (d : Delimiter) → some_refused (stops_of os ++ closing_stop d ∷ []) ≡ is_refused os
+refused_before : (os : Ops) (d : Delimiter) → has_refused (events_of os ++ close_event d ∷ []) ≡ is_refused os
 refused_before no_ops d = refl
 refused_before (op o os) d = ap (λ b. is_refused_op o || b) (refused_before os d)
 
-refused_alone : (os : Ops) → some_refused (stops_of os) ≡ is_refused os
+refused_alone : (os : Ops) → has_refused (events_of os) ≡ is_refused os
 refused_alone no_ops = refl
 refused_alone (op o os) = ap (λ b. is_refused_op o || b) (refused_alone os)
 
-pub refused_inside : (around : Option Delimiter) (os : Ops) → some_refused (walk around os) ≡ is_refused os
+pub refused_inside : (around : Option Delimiter) (os : Ops) → has_refused (op_events around os) ≡ is_refused os
 refused_inside None os = refused_alone os
 refused_inside (Some d) os = refused_before os d
 

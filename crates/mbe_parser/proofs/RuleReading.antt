@@ -1,5 +1,6 @@
 -- What one rule of a definition says of all its rules.
-use Rattle.std.specs.Prelude.{◌≡◌, ◌≢◌, ◌==◌, ℕ, Bool, true, false, List, [], ◌∷◌, ◌++◌, Option, Some, None, option_map, if◌then◌else◌, Result, Ok, Err, IfOk, IfErr, OnOk, ◌<◌, refl}
+use Rattle.std.specs.Prelude.{◌≡◌, ◌≢◌, ◌==◌, ℕ, Bool, true, false, List, [], ◌∷◌, ◌++◌, Option, Some, None, option_map}
+use Rattle.std.specs.Prelude.{if◌then◌else◌, Result, Ok, Err, IfOk, IfErr, OnOk, ◌<◌, refl}
 use Rattle.std.proofs.Common.{ap, sym, ◌∙◌, subst, append-nil}
 use Rattle.std.specs.List.{Contains, list_any}
 use Rattle.std.proofs.lemmas.Option.{none-some, same_Some}
@@ -18,12 +19,16 @@ use Rattle.mbe_ops.specs.declared.errors.error.ReadError as why
 use Rattle.mbe_parser.specs.declared.rules.Rule as code
 use Rattle.mbe_semantics.specs.Syntax.Op.{Ops}
 use Rattle.mbe_semantics.specs.Syntax.Template.{Fault, pattern, template, Template, TemplateFault}
-use Rattle.mbe_semantics.specs.Syntax.Definition.{RuleTrees, Rule, rule_trees_at, pattern_at, AreParts, PartsFault, in_template, Rules, ended, no_rule, faulty_rule, unseparated, separated, after_separator, with_refusal, IsMacroOfArguments, one_rule, faulty}
-use Rattle.mbe_parser.specs.Reader.{IsStyled, AreRuleTrees, ReadsRule, RuleFault, in_trees, in_parts, AreRules, IsOneRule, Stops}
+use Rattle.mbe_semantics.specs.Syntax.Definition.{RuleTrees, Rule, rule_trees_at, pattern_at, AreParts, PartsFault}
+use Rattle.mbe_semantics.specs.Syntax.Definition.{in_template, Rules, ended, no_rule, faulty_rule, unseparated}
+use Rattle.mbe_semantics.specs.Syntax.Definition.{separated, after_separator, with_refusal, IsMacroOfArguments}
+use Rattle.mbe_semantics.specs.Syntax.Definition.{one_rule, faulty}
+use Rattle.mbe_parser.specs.ParserResults.{IsStyled, AreRuleTrees, ReadsRule, RuleFault, in_trees, in_parts, AreRules}
+use Rattle.mbe_parser.specs.ParserResults.{IsOneRule, ReadFails}
 use Rattle.mbe_ops.specs.Errors.ErrorViews.{fault_of}
 use Rattle.mbe_parser.specs.RuleViews.{rule_of, rules_seen}
 use Rattle.mbe_semantics.specs.Expansion.Macro.{Macro}
-use Rattle.mbe_semantics.specs.Expansion.ReadAs.{IsReadAs, IsReadAsMacro}
+use Rattle.mbe_semantics.specs.Expansion.ParsedMacro.{IsParsedRules, IsParsedMacro}
 use Rattle.mbe_parser.proofs.RuleTreeLemmas.{rule_trees_back}
 use Rattle.mbe_parser.proofs.ReaderLemmas.{Stops-weaker, on_ok}
 
@@ -74,8 +79,8 @@ module _ (HasEdition : SyntaxContext → Edition → Type 0) where
   pub parts_fault : (style : MacroCallStyle) (e : why.ReadError) (parts : Forest × Forest) (f mid left : Forest)
       → rule_trees_at f ≡ pattern_at style mid
       → AreRuleTrees style (Ok parts) (pattern_at style mid) left
-      → Stops e (λ x. (back : Forest) → PartsFault HasEdition (rule_trees_of style parts back) x)
-      → Stops e (λ x. RuleFault HasEdition x f)
+      → ReadFails e (λ x. (back : Forest) → PartsFault HasEdition (rule_trees_of style parts back) x)
+      → ReadFails e (λ x. RuleFault HasEdition x f)
   parts_fault style e parts f mid left at h k =
       Stops-weaker e (λ x. (back : Forest) → PartsFault HasEdition (rule_trees_of style parts back) x)
       (λ x. RuleFault HasEdition x f)
@@ -94,15 +99,15 @@ module _ (HasEdition : SyntaxContext → Edition → Type 0) where
   pub rule_faulty : {T : Type 0} (r : Result T why.ReadError) (style : MacroCallStyle) (parts : Forest × Forest)
       (f mid left : Forest)
       → rule_trees_at f ≡ pattern_at style mid → AreRuleTrees style (Ok parts) (pattern_at style mid) left
-      → IfErr r (λ e. Stops e (λ x. (back : Forest) → PartsFault HasEdition (rule_trees_of style parts back) x))
-      → IfErr r (λ e. Stops e (λ x. RuleFault HasEdition x f))
+      → IfErr r (λ e. ReadFails e (λ x. (back : Forest) → PartsFault HasEdition (rule_trees_of style parts back) x))
+      → IfErr r (λ e. ReadFails e (λ x. RuleFault HasEdition x f))
   rule_faulty (Ok x) style parts f mid left at h p = tt
   rule_faulty (Err e) style parts f mid left at h p = parts_fault style e parts f mid left at h p
 
   pub template_stops : (e : why.ReadError) (style : MacroCallStyle) (parts : Forest × Forest) (reads : Ops)
       → Template HasEdition pattern parts.0 reads
-      → Stops e (λ x. TemplateFault HasEdition template x parts.1)
-      → Stops e (λ x. (back : Forest) → PartsFault HasEdition (rule_trees_of style parts back) x)
+      → ReadFails e (λ x. TemplateFault HasEdition template x parts.1)
+      → ReadFails e (λ x. (back : Forest) → PartsFault HasEdition (rule_trees_of style parts back) x)
   template_stops e style parts reads t k =
       Stops-weaker e (λ x. TemplateFault HasEdition template x parts.1)
       (λ x. (back : Forest) → PartsFault HasEdition (rule_trees_of style parts back) x)
@@ -119,7 +124,7 @@ rule_shorter r style parts f mid left at h =
 -- the fault of a `macro` with arguments
 pub one_fault : (HasEdition : SyntaxContext → Edition → Type 0) (x : reported.SyntaxFault) (arguments body : Forest)
     (rs : List Rule) → rs ≡ []
-    → Stops (why.TheVariants.Fault x) (λ y. (back : Forest)
+    → ReadFails (why.TheVariants.Fault x) (λ y. (back : Forest)
     → PartsFault HasEdition (rule_trees_of FnLike (arguments, body) back) y)
     → IsOneRule HasEdition arguments body rs (Some x)
 one_fault HasEdition x arguments body rs e h = (e, h none)
@@ -230,21 +235,21 @@ macro_with rs x = record { rules = rs; err = with_refusal rs (option_map fault_o
 module _ (HasEdition : SyntaxContext → Edition → Type 0) where
   pub read_as : (f trees : Forest) (rs : List Rule) (x : Option reported.SyntaxFault) (m : Macro) → f ≡ trees
       → AreRules HasEdition (59 ∷ []) (fault_of reported.TheVariants.ExpectedSemicolon) f rs x → m ≡ macro_with rs x
-      → IsReadAs HasEdition trees m
+      → IsParsedRules HasEdition trees m
   read_as f trees rs x m same h e =
-      subst (λ (g : Forest). IsReadAs HasEdition g m) same
-      (subst (IsReadAs HasEdition f) (sym e) (option_map fault_of x, h, refl))
+      subst (λ (g : Forest). IsParsedRules HasEdition g m) same
+      (subst (IsParsedRules HasEdition f) (sym e) (option_map fault_of x, h, refl))
 
   pub read_as_body : (f trees : Forest) (rs : List Rule) (x : Option reported.SyntaxFault) (m : Macro) → f ≡ trees
       → AreRules HasEdition (59 ∷ 44 ∷ []) (fault_of reported.TheVariants.ExpectedSeparator) f rs x
-      → m ≡ macro_with rs x → IsReadAsMacro HasEdition None trees m
+      → m ≡ macro_with rs x → IsParsedMacro HasEdition None trees m
   read_as_body f trees rs x m same h e =
-      subst (λ (g : Forest). IsReadAsMacro HasEdition None g m) same
-      (subst (IsReadAsMacro HasEdition None f) (sym e) (option_map fault_of x, h, refl))
+      subst (λ (g : Forest). IsParsedMacro HasEdition None g m) same
+      (subst (IsParsedMacro HasEdition None f) (sym e) (option_map fault_of x, h, refl))
 
   reported_one : (arguments body : Forest) (rs : List Rule) (x : Option reported.SyntaxFault)
       → IsOneRule HasEdition arguments body rs x
-      → IsReadAsMacro HasEdition (Some arguments) body (macro_with rs x)
+      → IsParsedMacro HasEdition (Some arguments) body (macro_with rs x)
   reported_one arguments body rs None (r, e, p) =
       subst (λ (qs : List Rule). IsMacroOfArguments HasEdition arguments body qs (with_refusal qs None)) (sym e)
       (one_rule r p)
@@ -254,8 +259,8 @@ module _ (HasEdition : SyntaxContext → Edition → Type 0) where
 
   pub read_as_one : (f h arguments body : Forest) (rs : List Rule) (x : Option reported.SyntaxFault) (m : Macro)
       → f ≡ arguments → h ≡ body
-      → IsOneRule HasEdition f h rs x → m ≡ macro_with rs x → IsReadAsMacro HasEdition (Some arguments) body m
+      → IsOneRule HasEdition f h rs x → m ≡ macro_with rs x → IsParsedMacro HasEdition (Some arguments) body m
   read_as_one f h arguments body rs x m same_arguments same_body k e =
-      subst (λ (g : Forest). IsReadAsMacro HasEdition (Some g) body m) same_arguments
-      (subst (λ (g : Forest). IsReadAsMacro HasEdition (Some f) g m) same_body
-      (subst (IsReadAsMacro HasEdition (Some f) h) (sym e) (reported_one f h rs x k)))
+      subst (λ (g : Forest). IsParsedMacro HasEdition (Some g) body m) same_arguments
+      (subst (λ (g : Forest). IsParsedMacro HasEdition (Some f) g m) same_body
+      (subst (IsParsedMacro HasEdition (Some f) h) (sym e) (reported_one f h rs x k)))

@@ -4,8 +4,8 @@ use Rattle.std.proofs.Common.{ap, sym, ◌∙◌}
 use Rattle.std.proofs.lemmas.Option.{none-some, same_Some}
 use Rattle.mbe_tt.specs.declared.tt.Delimiter.{Delimiter}
 use Rattle.mbe_tt.specs.Trees.Tree.{Forest, none, leaf, group, flat_len, rest_of, front_group, front_char}
-use Rattle.mbe_parser.specs.Reader.{is_word}
-use Rattle.mbe_parser.specs.Stops.{is_group, wanting, stop_at_pattern, stop_at_style, stop_in_rule}
+use Rattle.mbe_parser.specs.ParserResults.{begins_with_ident}
+use Rattle.mbe_parser.specs.RuleStops.{is_group, after_expected, stop_at_pattern, stop_at_style, stop_in_rule}
 use Rattle.mbe_parser.proofs.RuleTreeLemmas.{Left, passed, stayed}
 
 -- ---- what is wanted next
@@ -27,10 +27,10 @@ no_group_there (leaf l rest) e = refl
 no_group_there (group d inside rest) e = absurd (none-some (d, inside) (sym e))
 
 pub past_group : (k : Forest → Forest) (f : Forest) (g : Delimiter × Forest) → front_group f ≡ Some g
-    → wanting is_group k f ≡ k (rest_of f)
+    → after_expected is_group k f ≡ k (rest_of f)
 past_group k f g e = if_so (is_group f) (k (rest_of f)) f (group_there f g e)
 
-pub at_no_group : (k : Forest → Forest) (f : Forest) → front_group f ≡ None → wanting is_group k f ≡ f
+pub at_no_group : (k : Forest → Forest) (f : Forest) → front_group f ≡ None → after_expected is_group k f ≡ f
 at_no_group k f e = if_not (is_group f) (k (rest_of f)) f (no_group_there f e)
 
 -- ---- how long they are
@@ -50,13 +50,13 @@ char_len (group d inside rest) c e = absurd (none-some c e)
 
 -- ---- the words before the pattern
 
-pub after_unsafe : (r : Bool) (f mid : Forest) → r ≡ is_word (codes "unsafe") f → Left r f mid
+pub after_unsafe : (r : Bool) (f mid : Forest) → r ≡ begins_with_ident (codes "unsafe") f → Left r f mid
     → stop_in_rule f ≡ stop_at_style mid
 after_unsafe r f mid e l = sym (ap stop_at_style (l ∙ ap (λ (b : Bool). if b then rest_of f else f) e))
 
 styled : (a d : Bool) (f : Forest) → (a || d) ≡ true
-    → (if a || d then wanting is_group stop_at_pattern (rest_of f) else stop_at_pattern f)
-    ≡ wanting is_group stop_at_pattern (rest_of f)
+    → (if a || d then after_expected is_group stop_at_pattern (rest_of f) else stop_at_pattern f)
+    ≡ after_expected is_group stop_at_pattern (rest_of f)
 styled a d f e = if_so (a || d) _ _ e
 
 or_left : (a d : Bool) → a ≡ true → (a || d) ≡ true
@@ -65,26 +65,26 @@ or_left a d e = ap (λ (b : Bool). b || d) e
 or_right : (a d : Bool) → a ≡ false → (a || d) ≡ d
 or_right a d e = ap (λ (b : Bool). b || d) e
 
-pub after_attr : (r : Bool) (f left : Forest) → r ≡ is_word (codes "attr") f → Left r f left → r ≡ true
-    → stop_at_style f ≡ wanting is_group stop_at_pattern left
+pub after_attr : (r : Bool) (f left : Forest) → r ≡ begins_with_ident (codes "attr") f → Left r f left → r ≡ true
+    → stop_at_style f ≡ after_expected is_group stop_at_pattern left
 after_attr r f left e l h =
-    styled (is_word (codes "attr") f) (is_word (codes "derive") f) f (or_left _ _ (sym e ∙ h))
-    ∙ ap (wanting is_group stop_at_pattern) (passed r f left l h)
+    styled (begins_with_ident (codes "attr") f) (begins_with_ident (codes "derive") f) f (or_left _ _ (sym e ∙ h))
+    ∙ ap (after_expected is_group stop_at_pattern) (passed r f left l h)
 
-module _ (r q : Bool) (f mid left : Forest) (attr : r ≡ is_word (codes "attr") f) (at : Left r f mid)
-    (no_attr : r ≡ false) (derive : q ≡ is_word (codes "derive") mid) (following : Left q mid left) where
-  derive_at : is_word (codes "derive") f ≡ q
-  derive_at = ap (is_word (codes "derive")) (stayed r f mid at no_attr) ∙ sym derive
+module _ (r q : Bool) (f mid left : Forest) (attr : r ≡ begins_with_ident (codes "attr") f) (at : Left r f mid)
+    (no_attr : r ≡ false) (derive : q ≡ begins_with_ident (codes "derive") mid) (following : Left q mid left) where
+  derive_at : begins_with_ident (codes "derive") f ≡ q
+  derive_at = ap (begins_with_ident (codes "derive")) (stayed r f mid at no_attr) ∙ sym derive
 
-  pub after_derive : q ≡ true → stop_at_style f ≡ wanting is_group stop_at_pattern left
+  pub after_derive : q ≡ true → stop_at_style f ≡ after_expected is_group stop_at_pattern left
   after_derive h =
-      styled (is_word (codes "attr") f) (is_word (codes "derive") f) f
+      styled (begins_with_ident (codes "attr") f) (begins_with_ident (codes "derive") f) f
       (or_right _ _ (sym attr ∙ no_attr) ∙ (derive_at ∙ h))
-      ∙ ap (wanting is_group stop_at_pattern)
+      ∙ ap (after_expected is_group stop_at_pattern)
       (ap rest_of (stayed r f mid at no_attr) ∙ passed q mid left following h)
 
   pub after_nothing : q ≡ false → stop_at_style f ≡ stop_at_pattern left
   after_nothing h =
-      if_not (is_word (codes "attr") f || is_word (codes "derive") f) _ _
+      if_not (begins_with_ident (codes "attr") f || begins_with_ident (codes "derive") f) _ _
       (or_right _ _ (sym attr ∙ no_attr) ∙ (derive_at ∙ h))
       ∙ ap stop_at_pattern (stayed r f mid at no_attr ∙ stayed q mid left following h)

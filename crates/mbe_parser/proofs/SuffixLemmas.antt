@@ -1,5 +1,6 @@
 -- Which leaves are a separator, and which they are with one leaf more; how a suffix is read so far.
-use Rattle.std.specs.Prelude.{◌≡◌, ◌<◌, ◌==◌, Bool, true, false, if◌then◌else◌, List, [], ◌∷◌, ◌++◌, length, map, Option, Some, None, option_map, option_and_then, nat_le, refl}
+use Rattle.std.specs.Prelude.{◌≡◌, ◌<◌, ◌==◌, Bool, true, false, if◌then◌else◌, List, [], ◌∷◌, ◌++◌, length, map}
+use Rattle.std.specs.Prelude.{Option, Some, None, option_map, option_and_then, nat_le, refl}
 use Rattle.std.proofs.Common.{ap, sym, ◌∙◌, arith}
 use Rattle.std.proofs.lemmas.Option.{none-some, same_Some}
 use Rattle.std.proofs.lemmas.Bool.{ne_eqb, lt-leb}
@@ -7,9 +8,11 @@ use Rattle.std.proofs.lemmas.List.{append_assoc}
 use Rattle.mbe_tt.specs.Trees.Leaf.{Leaf, Ident, Literal, literal, punct, ident}
 use Rattle.mbe_tt.specs.Trees.Tree.{Forest, none, leaf, group, Tree, Leaf_tree, Group_tree, first, rest_of}
 use Rattle.mbe_tt.specs.declared.tt.Punct.{Punct}
-use Rattle.mbe_semantics.specs.Syntax.Op.{Separator, ident_separator, literal_separator, punct_separator, lifetime_separator}
-use Rattle.mbe_semantics.specs.Syntax.Template.{Suffix, suffix_of, leaf_in_suffix, separator_of, all_puncts, up_to_three}
-use Rattle.mbe_parser.specs.Reader.{IsExtended, NeverExtended}
+use Rattle.mbe_semantics.specs.Syntax.Op.{Separator, ident_separator, literal_separator, punct_separator}
+use Rattle.mbe_semantics.specs.Syntax.Op.{lifetime_separator}
+use Rattle.mbe_semantics.specs.Syntax.Template.{Suffix, suffix_of, leaf_in_suffix, separator_of, all_puncts}
+use Rattle.mbe_semantics.specs.Syntax.Template.{up_to_three}
+use Rattle.mbe_parser.specs.ParserResults.{ExtendsSeparator, NeverExtendsSeparator}
 
 -- ---- the leaves of a separator
 
@@ -70,16 +73,16 @@ separator_leaves (punct p ∷ ident i ∷ l ∷ ls) s e = absurd (none-some s e)
 -- ---- one leaf more
 
 is_extended : (old : Option Separator) (l : Leaf) (new : Separator)
-    → separator_of (leaves_of old ++ l ∷ []) ≡ Some (Some new) → IsExtended old l new
+    → separator_of (leaves_of old ++ l ∷ []) ≡ Some (Some new) → ExtendsSeparator old l new
 is_extended old l new e = λ before b. ap (λ ls. separator_of (ls ++ l ∷ [])) (separator_leaves before old b) ∙ e
 
 never_extended : (old : Option Separator) (l : Leaf)
-    → ((following : List Leaf) → separator_of (leaves_of old ++ l ∷ following) ≡ None) → NeverExtended old l
+    → ((following : List Leaf) → separator_of (leaves_of old ++ l ∷ following) ≡ None) → NeverExtendsSeparator old l
 never_extended old l h = λ before following b. ap (λ ls. separator_of (ls ++ l ∷ following))
     (separator_leaves before old b)
     ∙ h following
 
-no_puncts : (l : Leaf) → NeverExtended (Some (punct_separator [])) l
+no_puncts : (l : Leaf) → NeverExtendsSeparator (Some (punct_separator [])) l
 no_puncts l before following b =
     absurd (none-some (punct_separator []) (same_Some None _ (ap separator_of (sym (separator_leaves before _ b)) ∙ b)))
 
@@ -95,7 +98,7 @@ no_separator : (ls : List Leaf) → all_puncts ls ≡ None
 no_separator ls e = ap (λ o. option_map Some (option_and_then up_to_three o)) e
 
 -- a literal is a separator alone
-pub literal_alone : (s : Separator) (k : Literal) → NeverExtended (Some s) (literal k)
+pub literal_alone : (s : Separator) (k : Literal) → NeverExtendsSeparator (Some s) (literal k)
 literal_alone (ident_separator i) k = never_extended _ _ (λ following. refl)
 literal_alone (literal_separator l) k = never_extended _ _ (λ following. refl)
 literal_alone (lifetime_separator p i) k = never_extended _ _ (λ following. refl)
@@ -107,7 +110,7 @@ literal_alone (punct_separator (p ∷ q ∷ ps)) k =
 
 -- an identifier comes after no puncts but a quote
 pub no_lifetime : (ps : List Punct) (i : Ident) → ((q : Punct) → ps ≡ q ∷ [] → q.char ≡ 39 → ⊥)
-    → NeverExtended (Some (punct_separator ps)) (ident i)
+    → NeverExtendsSeparator (Some (punct_separator ps)) (ident i)
 no_lifetime [] i n = no_puncts (ident i)
 no_lifetime (q ∷ []) i n = never_extended _ _ (λ following. go following (ne_eqb q.char 39 (n q refl)))
   where
@@ -120,16 +123,17 @@ no_lifetime (q ∷ r ∷ ps) i n =
 
 -- three puncts at most separate
 pub puncts_more : (ps : List Punct) (p : Punct) → length ps < 3
-    → IsExtended (Some (punct_separator ps)) (punct p) (punct_separator (ps ++ p ∷ []))
+    → ExtendsSeparator (Some (punct_separator ps)) (punct p) (punct_separator (ps ++ p ∷ []))
 puncts_more [] p h = is_extended _ _ _ refl
 puncts_more (q ∷ []) p h = is_extended _ _ _ refl
 puncts_more (q ∷ r ∷ []) p h = is_extended _ _ _ refl
 puncts_more (q ∷ r ∷ s ∷ ps) p h = absurd (omega (arith, h))
 
-pub first_punct : (p : Punct) → IsExtended None (punct p) (punct_separator (p ∷ []))
+pub first_punct : (p : Punct) → ExtendsSeparator None (punct p) (punct_separator (p ∷ []))
 first_punct p = is_extended _ _ _ refl
 
-pub four_puncts : (ps : List Punct) (p : Punct) → length ps ≡ 3 → NeverExtended (Some (punct_separator ps)) (punct p)
+pub four_puncts : (ps : List Punct) (p : Punct) → length ps ≡ 3
+    → NeverExtendsSeparator (Some (punct_separator ps)) (punct p)
 four_puncts [] p h = absurd (omega (arith, h))
 four_puncts (q ∷ []) p h = absurd (omega (arith, h))
 four_puncts (q ∷ r ∷ []) p h = absurd (omega (arith, h))
@@ -173,7 +177,7 @@ leaf_at (Group_tree d inside) = None
 pub so_far_with : (f : Forest) (s : Option Separator) (left back : Forest) (l : Leaf) (new : Separator) → SoFar f s left
     → first left ≡ Some (Leaf_tree l) → back ≡ rest_of left
     → ((rest : Forest) → suffix_of (leaf l rest) ≡ option_map (leaf_in_suffix l) (suffix_of rest))
-    → IsExtended s l new → SoFar f (Some new) back
+    → ExtendsSeparator s l new → SoFar f (Some new) back
 so_far_with f s none back l new h e b goes_on extended = absurd (none-some _ e)
 so_far_with f s (group d inside rest) back l new h e b goes_on extended =
     absurd (none-some l (ap (λ o. option_and_then leaf_at o) e))

@@ -1,5 +1,5 @@
-pub mod Reader
-pub mod Refusal
+pub mod ParserResults
+pub mod RepetitionCheck
 pub mod RuleViews
-pub mod Stops
-pub mod Faults
+pub mod RuleStops
+pub mod FaultLocator

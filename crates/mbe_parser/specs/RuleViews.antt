@@ -1,4 +1,4 @@
--- What the code's rules are, whatever memory holds them.
+-- How contracts see the code's rules, independent of memory.
 use Rattle.std.specs.Prelude.{List, map}
 use Rattle.mbe_parser.specs.declared.rules.Rule as written
 use Rattle.mbe_semantics.specs.Syntax.Definition.{Rule}

@@ -8,7 +8,8 @@ use crate::rules::Rule;
 use mbe_ops::same_templates;
 use std::alloc::{AllocError, Allocator};
 
-/// Whether the rules are the same, one by one: separators count by their texts alone.
+/// Returns whether the rules are the same, one by one. Separators are compared by their texts
+/// alone.
 pub fn same_rules<A: Allocator>(one: &[Rule<A>], two: &[Rule<A>]) -> bool
     ensures { IsTrue result ↔ AreSameRules (rules_seen one.now) (rules_seen two.now) }
 {
@@ -35,8 +36,8 @@ fn same_rule<A: Allocator>(one: &Rule<A>, two: &Rule<A>) -> bool
         && same_templates(&one.rhs, &two.rhs)
 }
 
-/// Equal copies of the rules, or out of memory.
-pub fn copied_rules<A: Allocator + Copy>(
+/// Returns equal copies of the rules. `AllocError` if out of memory.
+pub fn clone_rules<A: Allocator + Copy>(
     alloc: A,
     rules: &[Rule<A>],
 ) -> Result<Vec<Rule<A>, A>, AllocError>
@@ -51,7 +52,7 @@ pub fn copied_rules<A: Allocator + Copy>(
 }
 
 impl<A: Allocator + Copy> Rule<A> {
-    /// An equal copy, or out of memory.
+    /// Returns an equal copy. `AllocError` if out of memory.
     pub fn try_clone(&self, alloc: A) -> Result<Rule<A>, AllocError>
         ensures { IfOk result (λ copy. rule_of copy ≡ rule_of self.now) }
     {

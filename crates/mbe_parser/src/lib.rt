@@ -1,8 +1,9 @@
-// Reads definitions, and says where one is refused. A layer of `mbe`: use that crate.
+// The parser of definitions: token trees to rules. It also finds the offset at which a definition
+// is refused, and checks for repetitions that can match no token. A layer of `mbe`: use that crate.
 #![tactic(auto)]
 
 pub mod equality;
-pub mod faults;
+pub mod fault_locator;
 pub mod parser;
+pub mod repetition_check;
 pub mod rules;
-pub mod validate;

@@ -1,22 +1,33 @@
-// Reads patterns and templates into ops.
-ghost use Rattle.std.specs.Prelude.{◌≡◌, ◌<◌, ◌≤◌, ◌+◌, [], ◌∷◌, codes, IsFalse, length, true, is_some, vec_len, vec_capacity, option_map, Some, Ok, Err, IfOk, IfErr, IfSome, IfNone, OnOk};
+// The parser of patterns and templates: token trees to ops. A pattern and a template have the same
+// grammar, except after a `$`. The `push_` functions consume trees from `src` and add ops to `ops`.
+ghost use Rattle.std.specs.Prelude.{◌≡◌, ◌<◌, ◌≤◌, ◌+◌, [], ◌∷◌, codes, IsFalse, length, true};
+ghost use Rattle.std.specs.Prelude.{is_some, vec_len, vec_capacity, option_map, Some, Ok, Err};
+ghost use Rattle.std.specs.Prelude.{IfOk, IfErr, IfSome, IfNone, OnOk};
 ghost use Rattle.std.specs.Result.{result_ok};
-ghost use Rattle.mbe_tt.specs.Trees.Tree.{Forest, Leaf_tree, flat_len, first, is_truth, leaf as leaf_before, front_ident, front_punct, rest_of, skip};
+ghost use Rattle.mbe_tt.specs.Trees.Tree.{Forest, Leaf_tree, flat_len, first, is_bool_text};
+ghost use Rattle.mbe_tt.specs.Trees.Tree.{leaf as leaf_before, front_ident, front_punct, rest_of};
+ghost use Rattle.mbe_tt.specs.Trees.Tree.{skip};
 ghost use Rattle.mbe_tt.specs.Trees.Glue.{glue};
-ghost use Rattle.mbe_tt.specs.Trees.Leaf.{ident as ident_leaf, literal as literal_leaf, punct as punct_leaf};
-ghost use Rattle.mbe_tt.specs.Views.Shown.{ident_of, literal_of, leaf_of};
+ghost use Rattle.mbe_tt.specs.Trees.Leaf.{ident as ident_leaf, literal as literal_leaf};
+ghost use Rattle.mbe_tt.specs.Trees.Leaf.{punct as punct_leaf};
+ghost use Rattle.mbe_tt.specs.Views.LeafViews.{ident_of, literal_of, leaf_of};
 ghost use Rattle.mbe_tt.specs.declared.span.Span.{Span as SpecSpan};
 ghost use Rattle.mbe_tt.specs.declared.span.Edition.{Edition as SpecEdition};
 ghost use Rattle.mbe_tt.specs.declared.tt.IdentIsRaw.TheVariants.{No};
 ghost use Rattle.mbe_tt.specs.declared.tt.Punct.{Punct as SpecPunct};
-ghost use Rattle.mbe_semantics.specs.Syntax.Op.{Name, token, puncts, ident as ident_token, literal as literal_token, variable as variable_op};
+ghost use Rattle.mbe_semantics.specs.Syntax.Op.{Name, token, puncts, ident as ident_token};
+ghost use Rattle.mbe_semantics.specs.Syntax.Op.{literal as literal_token, variable as variable_op};
 ghost use Rattle.mbe_semantics.specs.Syntax.Template as grammar;
-ghost use Rattle.mbe_semantics.specs.Syntax.Template.{Template, TemplateFault, Specifies, opens_repetition, suffix_of, leaf_in_suffix, invalid_repeat};
-ghost use Rattle.mbe_parser.specs.Reader.{mode_of, Stops, IsExtended, NeverExtended, IsPushed, AtHead, FaultAtHead, ReadsOp};
+ghost use Rattle.mbe_semantics.specs.Syntax.Template.{Template, TemplateFault, Specifies};
+ghost use Rattle.mbe_semantics.specs.Syntax.Template.{opens_repetition, suffix_of, leaf_in_suffix};
+ghost use Rattle.mbe_semantics.specs.Syntax.Template.{invalid_repeat};
+ghost use Rattle.mbe_parser.specs.ParserResults.{mode_of, ReadFails, ExtendsSeparator};
+ghost use Rattle.mbe_parser.specs.ParserResults.{NeverExtendsSeparator, IsPushed, AtHead};
+ghost use Rattle.mbe_parser.specs.ParserResults.{FaultAtHead, ReadsOp};
 ghost use Rattle.mbe_ops.specs.Errors.ErrorViews.{fault_of};
 ghost use Rattle.mbe_semantics.specs.Fragments.Kinds.{kind_named, kind_names};
 ghost use Rattle.mbe_tt.specs.Trees.Leaf.{is_text};
-ghost use Rattle.mbe_semantics.specs.Laws.Marking.{MayAsk};
+ghost use Rattle.mbe_semantics.specs.Laws.Callbacks.{MayAsk};
 ghost use Rattle.mbe_ops.specs.Views.{op_of, template_of, separator_seen};
 
 mod metavar_expr;
@@ -24,9 +35,9 @@ mod metavar_expr;
 use crate::parser::metavar_expr::parse_metavar_expr;
 use arrayvec::ArrayVec;
 use mbe_ops::errors::error::{ReadError, SyntaxFault};
-use mbe_ops::held::{Around, Between, Puncts};
+use mbe_ops::op_fields::{OpDelimiter, OpSeparator, Puncts};
 use mbe_ops::ops::{MetaTemplate, Op, Separator};
-use mbe_semantics::kinds::{ExprKind, MetaVarKind, RepeatKind};
+use mbe_semantics::fragment_kinds::{ExprKind, MetaVarKind, RepeatKind};
 use mbe_tt::span::{Edition, Span, SyntaxContext};
 use mbe_tt::symbol::Symbol;
 use mbe_tt::tt::{
@@ -34,21 +45,23 @@ use mbe_tt::tt::{
 };
 use std::alloc::{AllocError, Allocator};
 
-/// Whether a pattern is read, or a template.
+/// Whether a pattern or a template is parsed.
 #[derive(Clone, Copy, Debug, PartialEq, Eq)]
 pub enum Mode {
     Pattern,
     Template,
 }
 
-/// How many groups and repetitions of a pattern or a template may be in one another.
+/// The greatest depth of groups and repetitions in a pattern or a template.
 ///
-/// What reads, checks, copies, compares, drops, matches or writes a definition, and what builds or drops what it binds,
-/// calls itself once for each of them. With so many they fit the machine's stack, so reading is out of memory beyond them.
+/// Each function that parses, checks, copies, compares, drops, matches or writes a definition calls
+/// itself once per level. The same holds for functions that build or drop its bindings. With this
+/// depth they fit the machine's stack. Deeper definitions are refused as if out of memory.
 pub const NESTING_LIMIT: usize = 256;
 
-/// Reads all the trees. `edition` is asked what `pat` and `expr` mean, by the context of the
-/// specifier's own span. It is out of memory, too, beyond `NESTING_LIMIT`.
+/// Parses all the trees. `edition` returns the edition of a context. It decides what `pat` and
+/// `expr` mean, by the context of the specifier's own span. Out of memory also beyond
+/// `NESTING_LIMIT`.
 pub fn parse_template<A: Allocator + Copy, E: Copy + Fn(SyntaxContext) -> Edition>(
     alloc: A,
     edition: E,
@@ -58,15 +71,15 @@ pub fn parse_template<A: Allocator + Copy, E: Copy + Fn(SyntaxContext) -> Editio
     requires { MayAsk (E.pre edition) }
     ensures ops { IfOk result (λ t. Template (E.post edition) (mode_of mode)
         src.entry (template_of t)) }
-    ensures fault { IfErr result (λ e. Stops e (λ f. TemplateFault (E.post edition)
+    ensures fault { IfErr result (λ e. ReadFails e (λ f. TemplateFault (E.post edition)
         (mode_of mode) f src.entry)) }
 {
-    template_within(alloc, edition, src, mode, NESTING_LIMIT)
+    parse_template_within(alloc, edition, src, mode, NESTING_LIMIT)
 }
 
-// Reads all the trees, of which no more than so many are in one another.
+// Parses all the trees. At most `levels` groups and repetitions may be nested.
 #[cycle(template)]
-fn template_within<A: Allocator + Copy, E: Copy + Fn(SyntaxContext) -> Edition>(
+fn parse_template_within<A: Allocator + Copy, E: Copy + Fn(SyntaxContext) -> Edition>(
     alloc: A,
     edition: E,
     src: TtIter<'_, A>,
@@ -76,11 +89,11 @@ fn template_within<A: Allocator + Copy, E: Copy + Fn(SyntaxContext) -> Edition>(
     requires { MayAsk (E.pre edition) }
     ensures ops { IfOk result (λ t. Template (E.post edition) (mode_of mode)
         src.entry (template_of t)) }
-    ensures fault { IfErr result (λ e. Stops e (λ f. TemplateFault (E.post edition)
+    ensures fault { IfErr result (λ e. ReadFails e (λ f. TemplateFault (E.post edition)
         (mode_of mode) f src.entry)) }
 {
     let mut src = src;
-    let mut ops = Vec::with_capacity(alloc, about_ops(src.fork(), mode))?;
+    let mut ops = Vec::with_capacity(alloc, estimate_ops(src.fork(), mode))?;
     'trees: while !src.is_empty() {
         ops.reserve(1)?;
         let Some(first) = src.peek() else {
@@ -94,21 +107,27 @@ fn template_within<A: Allocator + Copy, E: Copy + Fn(SyntaxContext) -> Edition>(
             }
             TtElement::Subtree(subtree, inside) => {
                 let _group = src.next();
-                let tokens = template_within(alloc, edition, inside, mode, entered(levels)?)?;
-                let delimiter = Around::new(alloc, subtree.delimiter)?;
+                let tokens = parse_template_within(
+                    alloc,
+                    edition,
+                    inside,
+                    mode,
+                    enter_level(levels)?,
+                )?;
+                let delimiter = OpDelimiter::new(alloc, subtree.delimiter)?;
                 ops.push_reserved(Op::Subtree { tokens, delimiter });
             }
         }
     }
-    Ok(MetaTemplate(fitted(alloc, ops)?))
+    Ok(MetaTemplate(shrink_ops(alloc, ops)?))
 }
 
-// How many trees are looked at to say about how many ops there are.
+// The number of trees that an estimate looks at.
 const SAMPLE: usize = 64;
 
-// About how many ops the trees are: each is one, but what is after a `$` is left out, up to a specifier, or to what ends a
-// repetition. Of a long list the first trees are looked at, and the others are taken to be like them.
-fn about_ops<A: Allocator>(src: TtIter<'_, A>, mode: Mode) -> usize
+// Estimates the number of ops. Each tree counts as one, except the trees that belong to a `$`. In a
+// long list the estimate looks at the first trees and expects the others to be like them.
+fn estimate_ops<A: Allocator>(src: TtIter<'_, A>, mode: Mode) -> usize
     ensures { result ≤ flat_len src.entry }
 {
     let all = src.remaining().flat_len();
@@ -119,18 +138,18 @@ fn about_ops<A: Allocator>(src: TtIter<'_, A>, mode: Mode) -> usize
         if let TtElement::Leaf(Leaf::Punct(punct)) = tree
             && punct.char == '$'
         {
-            pass_dollar(&mut src, mode);
+            skip_after_dollar(&mut src, mode);
         }
         if count == SAMPLE {
-            return count + about_left(count, all, src.remaining().flat_len());
+            return count + estimate_rest(count, all, src.remaining().flat_len());
         }
     }
     count
 }
 
-// About how many ops are in the flat tokens that are left, where those before them have so many: an eighth more rather than one
-// too few, for which the list would be moved.
-fn about_left(count: usize, all: usize, left: usize) -> usize
+// Estimates the number of ops in the `left` flat tokens, where the tokens before them have `count`
+// ops. It adds an eighth: one op too few would move the list.
+fn estimate_rest(count: usize, all: usize, left: usize) -> usize
     ensures { result ≤ left }
 {
     let more = match left
@@ -144,7 +163,7 @@ fn about_left(count: usize, all: usize, left: usize) -> usize
 }
 
 #[inline(always)]
-fn pass_dollar<A: Allocator>(src: &mut TtIter<'_, A>, mode: Mode)
+fn skip_after_dollar<A: Allocator>(src: &mut TtIter<'_, A>, mode: Mode)
     ensures { flat_len src.new ≤ flat_len src.old }
 {
     if let Some(TtElement::Leaf(_)) = src.next() {
@@ -158,16 +177,16 @@ fn pass_dollar<A: Allocator>(src: &mut TtIter<'_, A>, mode: Mode)
     let _end = src.next();
 }
 
-// How many levels may be inside one of so many. Out of memory if there is none.
-fn entered(levels: usize) -> Result<usize, AllocError>
+// Returns how many levels may be inside the next one. `AllocError` if no next one is allowed.
+fn enter_level(levels: usize) -> Result<usize, AllocError>
     ensures { IfOk result (λ inside. inside + 1 ≡ levels) }
 {
     levels.checked_sub(1).ok_or(AllocError)
 }
 
-// The ops in a block of their size, where the one they are in has room for more than half as many again: there may be fewer
-// ops than trees. `shrink_to_fit` would pass over a refused request.
-fn fitted<A: Allocator>(alloc: A, ops: Vec<Op<A>, A>) -> Result<Vec<Op<A>, A>, AllocError>
+// Moves the ops into a block of their size if theirs has room for more than half as many again:
+// there may be fewer ops than trees. `shrink_to_fit` wouldn't report an allocation failure.
+fn shrink_ops<A: Allocator>(alloc: A, ops: Vec<Op<A>, A>) -> Result<Vec<Op<A>, A>, AllocError>
     ensures { IfOk result (λ fit. fit.items ≡ ops.items) }
 {
     if ops.capacity().saturating_sub(ops.len()) <= ops.len() / 2 {
@@ -179,8 +198,9 @@ fn fitted<A: Allocator>(alloc: A, ops: Vec<Op<A>, A>) -> Result<Vec<Op<A>, A>, A
     Ok(fit)
 }
 
-// Adds the identifier that is the next tree. It and what comes after it are inlined, and each adds the op where it is made, since an
-// op is large: moved from result to result, it would cost more than to read it.
+// Adds the identifier that is the next tree. This function and those it calls are inlined, and each
+// adds the op where it is made. An op is large: returning it through several results would cost
+// more than parsing it.
 #[inline(always)]
 #[tactic(auto, using(mbe_ops::proofs::OpViews::views))]
 fn push_ident<A: Allocator>(
@@ -195,7 +215,7 @@ fn push_ident<A: Allocator>(
 {
     let _word = src.next();
     let Some(sym) = ident.sym.copied() else {
-        return push_shared(ident, ops);
+        return push_shared_ident(ident, ops);
     };
     ops.push_reserved(Op::Ident(Ident {
         sym,
@@ -205,10 +225,13 @@ fn push_ident<A: Allocator>(
     Ok(())
 }
 
-// Adds the identifier, whose text is shared.
+// Adds the identifier, whose text is shared memory.
 #[inline(never)]
 #[tactic(auto, using(mbe_ops::proofs::OpViews::views))]
-fn push_shared<A: Allocator>(ident: &Ident<A>, ops: &mut Vec<Op<A>, A>) -> Result<(), AllocError>
+fn push_shared_ident<A: Allocator>(
+    ident: &Ident<A>,
+    ops: &mut Vec<Op<A>, A>,
+) -> Result<(), AllocError>
     requires { vec_len ops.old < vec_capacity ops.old }
     ensures { OnOk result (IsPushed ops.old.items ops.new.items (λ o.
         o ≡ token (ident_token (ident_of ident.now)))) }
@@ -243,7 +266,7 @@ fn push_literal<A: Allocator>(
     Ok(())
 }
 
-// Adds the literal, whose text is shared.
+// Adds the literal, whose text is shared memory.
 #[inline(never)]
 #[tactic(auto, using(mbe_ops::proofs::OpViews::views))]
 fn push_shared_literal<A: Allocator>(
@@ -258,7 +281,7 @@ fn push_shared_literal<A: Allocator>(
     Ok(())
 }
 
-// Adds the op that begins with the next tree, which is this punct.
+// Adds the op that begins with this punct, which is the next tree.
 #[inline(always)]
 #[cycle(template)]
 #[tactic(auto, using(mbe_ops::proofs::OpViews::views))]
@@ -276,7 +299,7 @@ fn push_at_punct<A: Allocator + Copy, E: Copy + Fn(SyntaxContext) -> Edition>(
     requires room { vec_len ops.old < vec_capacity ops.old }
     ensures op { OnOk result (IsPushed ops.old.items ops.new.items (λ o. ReadsOp (E.post edition)
         (mode_of mode) src.old o src.new)) }
-    ensures fault { IfErr result (λ e. Stops e (λ f. TemplateFault (E.post edition)
+    ensures fault { IfErr result (λ e. ReadFails e (λ f. TemplateFault (E.post edition)
         (mode_of mode) f src.old)) }
     ensures shorter { OnOk result (flat_len src.new < flat_len src.old) }
 {
@@ -309,7 +332,7 @@ fn push_puncts<A: Allocator + Copy>(
     Ok(())
 }
 
-// Adds what is after a `$`.
+// Adds the op that a `$` begins. The `$` is consumed.
 #[inline(always)]
 #[cycle(template)]
 #[tactic(auto, using(mbe_ops::proofs::OpViews::views))]
@@ -326,7 +349,7 @@ fn push_after_dollar<A: Allocator + Copy, E: Copy + Fn(SyntaxContext) -> Edition
     requires room { vec_len ops.old < vec_capacity ops.old }
     ensures op { OnOk result (IsPushed ops.old.items ops.new.items (λ o. AtHead (E.post edition)
         (mode_of mode) (grammar.after_dollar (mode_of mode) dollar src.old) o src.new)) }
-    ensures fault { IfErr result (λ e. Stops e (FaultAtHead (E.post edition) (mode_of mode)
+    ensures fault { IfErr result (λ e. ReadFails e (FaultAtHead (E.post edition) (mode_of mode)
         (grammar.after_dollar (mode_of mode) dollar src.old))) }
     ensures no_longer { OnOk result (flat_len src.new ≤ flat_len src.old) }
 {
@@ -343,7 +366,7 @@ fn push_after_dollar<A: Allocator + Copy, E: Copy + Fn(SyntaxContext) -> Edition
     }
 }
 
-// Adds what a `$` and a group are.
+// Adds the op that a `$` and a group make.
 #[inline(never)]
 #[cycle(template)]
 fn push_group_after_dollar<A: Allocator + Copy, E: Copy + Fn(SyntaxContext) -> Edition>(
@@ -361,13 +384,13 @@ fn push_group_after_dollar<A: Allocator + Copy, E: Copy + Fn(SyntaxContext) -> E
     ensures op { OnOk result (IsPushed ops.old.items ops.new.items (λ o. AtHead (E.post edition)
         (mode_of mode) (grammar.group_after_dollar (mode_of mode) kind inside.entry src.old)
         o src.new)) }
-    ensures fault { IfErr result (λ e. Stops e (FaultAtHead (E.post edition) (mode_of mode)
+    ensures fault { IfErr result (λ e. ReadFails e (FaultAtHead (E.post edition) (mode_of mode)
         (grammar.group_after_dollar (mode_of mode) kind inside.entry src.old))) }
     ensures no_longer { OnOk result (flat_len src.new ≤ flat_len src.old) }
 {
     let op = match kind {
         DelimiterKind::Parenthesis => repetition(alloc, edition, inside, src, mode, levels)?,
-        DelimiterKind::Brace => expression_after_dollar(alloc, inside, mode)?,
+        DelimiterKind::Brace => parse_expression(alloc, inside, mode)?,
         DelimiterKind::Bracket | DelimiterKind::Invisible => {
             return Err(ReadError::Fault(SyntaxFault::ExpectedRepetition));
         }
@@ -376,7 +399,7 @@ fn push_group_after_dollar<A: Allocator + Copy, E: Copy + Fn(SyntaxContext) -> E
     Ok(())
 }
 
-// The repetition with these trees as its body. Its suffix is read first.
+// Parses the repetition that has this body. The suffix is parsed first.
 #[cycle(template)]
 #[tactic(auto, using(mbe_ops::proofs::OpViews::views))]
 fn repetition<A: Allocator + Copy, E: Copy + Fn(SyntaxContext) -> Edition>(
@@ -390,13 +413,13 @@ fn repetition<A: Allocator + Copy, E: Copy + Fn(SyntaxContext) -> Edition>(
     requires { MayAsk (E.pre edition) }
     ensures op { IfOk result (λ o. AtHead (E.post edition) (mode_of mode)
         (grammar.repetition_at body.entry (suffix_of src.old)) (op_of o) src.new) }
-    ensures fault { IfErr result (λ e. Stops e (FaultAtHead (E.post edition) (mode_of mode)
+    ensures fault { IfErr result (λ e. ReadFails e (FaultAtHead (E.post edition) (mode_of mode)
         (grammar.repetition_at body.entry (suffix_of src.old)))) }
     ensures no_longer { OnOk result (flat_len src.new ≤ flat_len src.old) }
 {
     let (separator, kind) = parse_repeat(src)?;
-    let tokens = template_within(alloc, edition, body, mode, entered(levels)?)?;
-    let separator = Between::new(alloc, separator)?;
+    let tokens = parse_template_within(alloc, edition, body, mode, enter_level(levels)?)?;
+    let separator = OpSeparator::new(alloc, separator)?;
     Ok(Op::Repeat {
         tokens,
         kind,
@@ -404,9 +427,9 @@ fn repetition<A: Allocator + Copy, E: Copy + Fn(SyntaxContext) -> Edition>(
     })
 }
 
-// `${..}`, which is in templates alone.
+// Parses `${..}`, which only templates may have.
 #[inline(never)]
-fn expression_after_dollar<A: Allocator + Copy>(
+fn parse_expression<A: Allocator + Copy>(
     alloc: A,
     inside: TtIter<'_, A>,
     mode: Mode,
@@ -414,7 +437,7 @@ fn expression_after_dollar<A: Allocator + Copy>(
     ensures op { IfOk result (λ o. (rest : Forest)
         → grammar.expression_at (mode_of mode) rest (grammar.expression_of inside.entry)
         ≡ Ok (grammar.one (op_of o) rest)) }
-    ensures fault { IfErr result (λ e. Stops e (λ f. (rest : Forest)
+    ensures fault { IfErr result (λ e. ReadFails e (λ f. (rest : Forest)
         → grammar.expression_at (mode_of mode) rest (grammar.expression_of inside.entry) ≡ Err f)) }
 {
     match mode {
@@ -423,7 +446,7 @@ fn expression_after_dollar<A: Allocator + Copy>(
     }
 }
 
-// Adds what a `$` and this leaf are.
+// Adds the op that a `$` and this leaf make.
 #[inline(always)]
 #[tactic(auto, using(mbe_ops::proofs::OpViews::views))]
 fn push_leaf_after_dollar<A: Allocator + Copy, E: Copy + Fn(SyntaxContext) -> Edition>(
@@ -440,7 +463,7 @@ fn push_leaf_after_dollar<A: Allocator + Copy, E: Copy + Fn(SyntaxContext) -> Ed
         → AtHead (E.post edition) (mode_of mode)
         (grammar.after_dollar (mode_of mode) dollar (leaf_before (leaf_of leaf.now) src.old))
         o src.new)) }
-    ensures fault { IfErr result (λ e. Stops e (λ f. (dollar : SpecPunct)
+    ensures fault { IfErr result (λ e. ReadFails e (λ f. (dollar : SpecPunct)
         → grammar.after_dollar (mode_of mode) dollar (leaf_before (leaf_of leaf.now) src.old)
         ≡ Err f)) }
     ensures no_longer { flat_len src.new ≤ flat_len src.old }
@@ -458,7 +481,7 @@ fn push_leaf_after_dollar<A: Allocator + Copy, E: Copy + Fn(SyntaxContext) -> Ed
     }
 }
 
-// Adds the variable `true` or `false`: no other literal is a name.
+// Adds the variable `true` or `false`. No other literal is a name.
 #[inline(always)]
 #[tactic(auto, using(mbe_ops::proofs::OpViews::views))]
 fn push_literal_after_dollar<A: Allocator, E: Copy + Fn(SyntaxContext) -> Edition>(
@@ -473,7 +496,7 @@ fn push_literal_after_dollar<A: Allocator, E: Copy + Fn(SyntaxContext) -> Editio
     ensures op { OnOk result (IsPushed ops.old.items ops.new.items (λ o. (dollar : SpecPunct)
         → AtHead (E.post edition) (mode_of mode) (grammar.after_dollar (mode_of mode) dollar
         (leaf_before (literal_leaf (literal_of literal.now)) src.old)) o src.new)) }
-    ensures fault { IfErr result (λ e. Stops e (λ f. (dollar : SpecPunct)
+    ensures fault { IfErr result (λ e. ReadFails e (λ f. (dollar : SpecPunct)
         → grammar.after_dollar (mode_of mode) dollar
         (leaf_before (literal_leaf (literal_of literal.now)) src.old) ≡ Err f)) }
     ensures no_longer { flat_len src.new ≤ flat_len src.old }
@@ -485,7 +508,7 @@ fn push_literal_after_dollar<A: Allocator, E: Copy + Fn(SyntaxContext) -> Editio
     push_variable(edition, name, literal.span, src, mode, ops)
 }
 
-// Adds the second `$` of `$$`, which is in templates alone.
+// Adds the second `$` of `$$`, which only templates may have.
 #[inline(always)]
 #[tactic(auto, using(mbe_ops::proofs::OpViews::views))]
 fn push_punct_after_dollar<A: Allocator>(
@@ -498,7 +521,7 @@ fn push_punct_after_dollar<A: Allocator>(
         (dollar : SpecPunct) (rest : Forest)
         → grammar.after_dollar (mode_of mode) dollar (leaf_before (punct_leaf punct) rest)
         ≡ Ok (grammar.one o rest))) }
-    ensures fault { IfErr result (λ e. Stops e (λ f. (dollar : SpecPunct) (rest : Forest)
+    ensures fault { IfErr result (λ e. ReadFails e (λ f. (dollar : SpecPunct) (rest : Forest)
         → grammar.after_dollar (mode_of mode) dollar (leaf_before (punct_leaf punct) rest)
         ≡ Err f)) }
 {
@@ -514,7 +537,7 @@ fn push_punct_after_dollar<A: Allocator>(
     }
 }
 
-// Whether the word is `crate`.
+// Returns whether the identifier is `crate`.
 #[inline(always)]
 fn is_crate(word: &str) -> bool
     ensures { result ≡ is_text word.now (codes "crate") }
@@ -522,7 +545,7 @@ fn is_crate(word: &str) -> bool
     word.len() == 5 && word == "crate"
 }
 
-// Adds the identifier that `$crate` stands for.
+// Adds the identifier `$crate`.
 #[inline(never)]
 #[tactic(auto, using(mbe_ops::proofs::OpViews::views))]
 fn push_dollar_crate<A: Allocator + Copy>(
@@ -557,7 +580,7 @@ fn push_variable<A: Allocator, E: Copy + Fn(SyntaxContext) -> Edition>(
     requires room { vec_len ops.old < vec_capacity ops.old }
     ensures op { OnOk result (IsPushed ops.old.items ops.new.items (λ o. AtHead (E.post edition)
         (mode_of mode) (grammar.variable_at (mode_of mode) name.now id src.old) o src.new)) }
-    ensures fault { IfErr result (λ e. Stops e (λ f.
+    ensures fault { IfErr result (λ e. ReadFails e (λ f.
         grammar.variable_at (mode_of mode) name.now id src.old ≡ Err f)) }
     ensures no_longer { flat_len src.new ≤ flat_len src.old }
 {
@@ -571,7 +594,7 @@ fn push_variable<A: Allocator, E: Copy + Fn(SyntaxContext) -> Edition>(
     Ok(())
 }
 
-// Adds the variable of that name, whose text is shared.
+// Adds the variable of that name, whose text is shared memory.
 #[inline(never)]
 #[tactic(auto, using(mbe_ops::proofs::OpViews::views))]
 fn push_long_variable<A: Allocator>(
@@ -589,7 +612,7 @@ fn push_long_variable<A: Allocator>(
     Ok(())
 }
 
-// In a pattern, `:` and the specifier. In a template a variable is its name alone.
+// Consumes `:` and the specifier in a pattern. In a template a variable is its name alone.
 #[inline(always)]
 fn eat_fragment_kind<A: Allocator, E: Copy + Fn(SyntaxContext) -> Edition>(
     edition: E,
@@ -619,7 +642,7 @@ fn eat_fragment_kind<A: Allocator, E: Copy + Fn(SyntaxContext) -> Edition>(
     }
 }
 
-// Consumes a specifier, an identifier other than `_`, and returns it with its kind.
+// Consumes a specifier: an identifier other than `_`. Returns it with its kind.
 #[inline(always)]
 fn eat_specifier<'a, A: Allocator, E: Copy + Fn(SyntaxContext) -> Edition>(
     edition: E,
@@ -645,7 +668,8 @@ fn eat_specifier<'a, A: Allocator, E: Copy + Fn(SyntaxContext) -> Edition>(
     Ok((specifier, fragment_kind(edition, specifier)))
 }
 
-// The kind that a specifier names, in the edition of its own span; an unknown one is no kind.
+// Returns the kind of a specifier, by the edition of its own span. `None` if the specifier is
+// unknown.
 #[inline(never)]
 fn fragment_kind<A: Allocator, E: Copy + Fn(SyntaxContext) -> Edition>(
     edition: E,
@@ -661,7 +685,7 @@ fn fragment_kind<A: Allocator, E: Copy + Fn(SyntaxContext) -> Edition>(
     if is_pat(name) {
         return Some(pat_kind(edition, specifier.span.ctx));
     }
-    MetaVarKind::named(name)
+    MetaVarKind::from_specifier(name)
 }
 
 #[inline(always)]
@@ -685,7 +709,7 @@ fn is_underscore(specifier: &str) -> bool
     matches!(specifier.as_bytes(), [b'_'])
 }
 
-// The kinds that most specifiers name, by their bytes, which takes less than to compare texts.
+// Returns the kinds of the most common specifiers. Comparing bytes is faster than comparing texts.
 #[inline(always)]
 fn common_kind(specifier: &str) -> Option<MetaVarKind>
     ensures { IfSome result (λ kind. (kind_named kind_names specifier.now ≡ Some kind)
@@ -705,7 +729,7 @@ fn common_kind(specifier: &str) -> Option<MetaVarKind>
     }
 }
 
-// `pat` in the edition of the context.
+// Returns the kind of `pat` in the edition of the context.
 fn pat_kind<E: Fn(SyntaxContext) -> Edition>(edition: E, ctx: SyntaxContext) -> MetaVarKind
     requires { MayAsk (E.pre edition) }
     ensures { (e : SpecEdition) × E.post edition ctx e × (result ≡ grammar.pat_kind e) }
@@ -717,7 +741,7 @@ fn pat_kind<E: Fn(SyntaxContext) -> Edition>(edition: E, ctx: SyntaxContext) -> 
     }
 }
 
-// `expr` in the edition of the context.
+// Returns the kind of `expr` in the edition of the context.
 fn expr_kind<E: Fn(SyntaxContext) -> Edition>(edition: E, ctx: SyntaxContext) -> MetaVarKind
     requires { MayAsk (E.pre edition) }
     ensures { (e : SpecEdition) × E.post edition ctx e × (result ≡ grammar.expr_kind e) }
@@ -730,20 +754,20 @@ fn expr_kind<E: Fn(SyntaxContext) -> Edition>(edition: E, ctx: SyntaxContext) ->
 }
 
 fn is_boolean_literal<A: Allocator>(literal: &Literal<A>) -> bool
-    ensures { result ≡ is_truth (literal_of literal.now).text_and_suffix }
+    ensures { result ≡ is_bool_text (literal_of literal.now).text_and_suffix }
 {
     let text = literal.text_and_suffix.as_str();
     text == "true" || text == "false"
 }
 
-/// The suffix of a repetition: a separator or none, and then `*`, `+` or `?`, which are consumed.
+/// Consumes the suffix of a repetition: a separator or none, and then `*`, `+` or `?`.
 pub fn parse_repeat<A: Allocator>(
     src: &mut TtIter<'_, A>,
 ) -> Result<(Option<Separator<A>>, RepeatKind), ReadError>
     ensures suffix { IfOk result (λ s. (body : Forest)
         → grammar.repetition_at body (suffix_of src.old)
         ≡ Ok (opens_repetition (option_map separator_seen s.0) s.1 body src.new)) }
-    ensures fault { IfErr result (λ e. Stops e (λ f. (body : Forest)
+    ensures fault { IfErr result (λ e. ReadFails e (λ f. (body : Forest)
         → grammar.repetition_at body (suffix_of src.old) ≡ Err f)) }
     ensures no_longer { OnOk result (flat_len src.new ≤ flat_len src.old) }
 {
@@ -757,7 +781,7 @@ pub fn parse_repeat<A: Allocator>(
     Err(ReadError::Fault(SyntaxFault::InvalidRepeat))
 }
 
-// Whether the leaf ends a suffix, and how often the repetition may then go round.
+// Returns the kind of repetition if the leaf ends the suffix.
 fn repeat_kind<A: Allocator>(leaf: &Leaf<A>) -> Option<RepeatKind>
     ensures ends { IfSome result (λ kind. (rest : Forest)
         → suffix_of (leaf_before (leaf_of leaf.now) rest)
@@ -777,15 +801,15 @@ fn repeat_kind<A: Allocator>(leaf: &Leaf<A>) -> Option<RepeatKind>
     }
 }
 
-// The separator with one leaf more at its end.
+// Adds a leaf to the end of the separator.
 fn with_leaf<A: Allocator>(
     separator: Option<Separator<A>>,
     leaf: &Leaf<A>,
 ) -> Result<Separator<A>, ReadError>
-    ensures separator { IfOk result (λ s. IsExtended (option_map separator_seen separator)
+    ensures separator { IfOk result (λ s. ExtendsSeparator (option_map separator_seen separator)
         (leaf_of leaf.now) (separator_seen s)) }
-    ensures fault { IfErr result (λ e. Stops e (λ f. (f ≡ invalid_repeat)
-        × NeverExtended (option_map separator_seen separator) (leaf_of leaf.now))) }
+    ensures fault { IfErr result (λ e. ReadFails e (λ f. (f ≡ invalid_repeat)
+        × NeverExtendsSeparator (option_map separator_seen separator) (leaf_of leaf.now))) }
 {
     match leaf {
         Leaf::Literal(literal) => match separator {
@@ -797,15 +821,16 @@ fn with_leaf<A: Allocator>(
     }
 }
 
-// An identifier separates alone, or as a lifetime after a quote.
+// Adds an identifier: it is a separator alone, or a lifetime after a quote.
 fn with_ident<A: Allocator>(
     separator: Option<Separator<A>>,
     ident: &Ident<A>,
 ) -> Result<Separator<A>, ReadError>
-    ensures separator { IfOk result (λ s. IsExtended (option_map separator_seen separator)
+    ensures separator { IfOk result (λ s. ExtendsSeparator (option_map separator_seen separator)
         (ident_leaf (ident_of ident.now)) (separator_seen s)) }
-    ensures fault { IfErr result (λ e. Stops e (λ f. (f ≡ invalid_repeat)
-        × NeverExtended (option_map separator_seen separator) (ident_leaf (ident_of ident.now)))) }
+    ensures fault { IfErr result (λ e. ReadFails e (λ f. (f ≡ invalid_repeat)
+        × NeverExtendsSeparator (option_map separator_seen separator)
+        (ident_leaf (ident_of ident.now)))) }
 {
     match separator {
         None => Ok(Separator::Ident(ident.clone()?)),
@@ -817,15 +842,15 @@ fn with_ident<A: Allocator>(
     }
 }
 
-// One to three puncts separate.
+// Adds a punct: a separator has at most three.
 fn with_punct<A: Allocator>(
     separator: Option<Separator<A>>,
     punct: Punct,
 ) -> Result<Separator<A>, ReadError>
-    ensures separator { IfOk result (λ s. IsExtended (option_map separator_seen separator)
+    ensures separator { IfOk result (λ s. ExtendsSeparator (option_map separator_seen separator)
         (punct_leaf punct) (separator_seen s)) }
-    ensures fault { IfErr result (λ e. Stops e (λ f. (f ≡ invalid_repeat)
-        × NeverExtended (option_map separator_seen separator) (punct_leaf punct))) }
+    ensures fault { IfErr result (λ e. ReadFails e (λ f. (f ≡ invalid_repeat)
+        × NeverExtendsSeparator (option_map separator_seen separator) (punct_leaf punct))) }
 {
     let mut puncts = match separator {
         None => ArrayVec::new(),

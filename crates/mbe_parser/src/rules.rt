@@ -1,13 +1,19 @@
-// Reads the rules of definitions.
-ghost use Rattle.std.specs.Prelude.{◌≡◌, ◌<◌, ◌≤◌, ◌+◌, IfOk, IfErr, OnOk, OnErr, is_ok, if◌then◌else◌};
+// The parser of rules. A rule is an optional `unsafe`, an optional `attr` or `derive` with a group,
+// the pattern's group, `=>`, and the template's group. Parsing stops at the first fault and keeps
+// the rules before it.
+ghost use Rattle.std.specs.Prelude.{◌≡◌, ◌<◌, ◌≤◌, ◌+◌, IfOk, IfErr, OnOk, OnErr, is_ok};
+ghost use Rattle.std.specs.Prelude.{if◌then◌else◌};
 ghost use Rattle.mbe_tt.specs.Trees.Tree.{Forest, flat_len, rest_of};
-ghost use Rattle.mbe_semantics.specs.Syntax.Definition.{rule_trees_at, pattern_at, AreParts, PartsFault};
+ghost use Rattle.mbe_semantics.specs.Syntax.Definition.{rule_trees_at, pattern_at, AreParts};
+ghost use Rattle.mbe_semantics.specs.Syntax.Definition.{PartsFault};
 ghost use Rattle.mbe_ops.specs.Errors.ErrorViews.{fault_of};
-ghost use Rattle.mbe_parser.specs.Reader.{is_word, IsStyled, AreRuleTrees, ReadsRule, RuleFault, AreRules, IsOneRule, Stops};
-ghost use Rattle.mbe_parser.specs.Stops.{stop_at_pattern, stop_in_rule};
+ghost use Rattle.mbe_parser.specs.ParserResults.{begins_with_ident, IsStyled, AreRuleTrees};
+ghost use Rattle.mbe_parser.specs.ParserResults.{ReadsRule, RuleFault, AreRules, IsOneRule};
+ghost use Rattle.mbe_parser.specs.ParserResults.{ReadFails};
+ghost use Rattle.mbe_parser.specs.RuleStops.{stop_at_pattern, stop_in_rule};
 ghost use Rattle.mbe_parser.specs.RuleViews.{rule_of, rules_seen};
 ghost use Rattle.mbe_semantics.specs.declared.macro_call_style.MacroCallStyle.{MacroCallStyle as SpecStyle};
-ghost use Rattle.mbe_semantics.specs.Laws.Marking.{MayAsk};
+ghost use Rattle.mbe_semantics.specs.Laws.Callbacks.{MayAsk};
 
 use crate::parser::{Mode, parse_template};
 use mbe_ops::errors::error::{ReadError, SyntaxFault};
@@ -17,7 +23,7 @@ use mbe_tt::span::{Edition, SyntaxContext};
 use mbe_tt::tt::{Leaf, TtElement, TtIter};
 use std::alloc::{AllocError, Allocator, Global};
 
-/// A rule of a definition.
+/// A rule of a definition: its style, its pattern (`lhs`) and its template (`rhs`).
 #[derive(Drop)]
 #[derive_where(Debug)]
 pub struct Rule<A: Allocator = Global> {
@@ -26,7 +32,8 @@ pub struct Rule<A: Allocator = Global> {
     pub rhs: MetaTemplate<A>,
 }
 
-/// The rules that the chars separate, up to the first fault, and that fault.
+/// Parses rules, which the chars separate, up to the first fault. Returns the rules and the fault.
+/// `missing` is the fault of a missing separator. `AllocError` if out of memory.
 pub fn parse_rules<A: Allocator + Copy, E: Copy + Fn(SyntaxContext) -> Edition>(
     alloc: A,
     ctx_edition: E,
@@ -58,7 +65,7 @@ pub fn parse_rules<A: Allocator + Copy, E: Copy + Fn(SyntaxContext) -> Edition>(
     Ok((rules, None))
 }
 
-/// The rule of a `macro` with arguments, or its first fault.
+/// Parses the rule of a `macro` with arguments. Returns the rule, or its first fault.
 pub fn parse_one_rule<A: Allocator + Copy, E: Copy + Fn(SyntaxContext) -> Edition>(
     alloc: A,
     ctx_edition: E,
@@ -70,7 +77,7 @@ pub fn parse_one_rule<A: Allocator + Copy, E: Copy + Fn(SyntaxContext) -> Editio
         (rules_seen r.0.items) r.1) }
 {
     let mut rules = Vec::new(alloc);
-    match Rule::of_parts(alloc, ctx_edition, MacroCallStyle::FnLike, args, body) {
+    match Rule::from_parts(alloc, ctx_edition, MacroCallStyle::FnLike, args, body) {
         Ok(rule) => rules.push(rule)?,
         Err(error) => {
             let fault = error.fault()?;
@@ -89,17 +96,17 @@ impl<A: Allocator + Copy> Rule<A> {
         requires { MayAsk (E.pre ctx_edition) }
         ensures rule { IfOk result (λ r. ReadsRule (E.post ctx_edition)
             src.old (rule_of r) src.new) }
-        ensures fault { IfErr result (λ e. Stops e (λ f. RuleFault (E.post ctx_edition)
+        ensures fault { IfErr result (λ e. ReadFails e (λ f. RuleFault (E.post ctx_edition)
             f src.old)) }
         ensures shorter { OnOk result (flat_len src.new < flat_len src.old) }
     {
         let style = parse_rule_style(src)?;
-        let (pattern, template) = rule_groups(src)?;
-        Rule::of_parts(alloc, ctx_edition, style, pattern, template)
+        let (pattern, template) = eat_rule_groups(src)?;
+        Rule::from_parts(alloc, ctx_edition, style, pattern, template)
     }
 
-    // The rule of a pattern and a template. The pattern is read first.
-    fn of_parts<E: Copy + Fn(SyntaxContext) -> Edition>(
+    // Makes a rule of the trees of its pattern and its template. The pattern is parsed first.
+    fn from_parts<E: Copy + Fn(SyntaxContext) -> Edition>(
         alloc: A,
         ctx_edition: E,
         style: MacroCallStyle,
@@ -114,7 +121,7 @@ impl<A: Allocator + Copy> Rule<A> {
               writes = template.entry;
               back = back;
             }) (rule_of r)) }
-        ensures fault { IfErr result (λ e. Stops e (λ f. (back : Forest)
+        ensures fault { IfErr result (λ e. ReadFails e (λ f. (back : Forest)
             → PartsFault (E.post ctx_edition) (record {
               style = style;
               reads = pattern.entry;
@@ -128,8 +135,9 @@ impl<A: Allocator + Copy> Rule<A> {
     }
 }
 
-/// The call that a rule is for: `attr` or `derive` and a group, or else a function-like call. An
-/// `unsafe` may come before. A token that can't be read isn't consumed.
+/// Consumes the style of a rule. `attr` or `derive` has a group after it. A rule without one of
+/// them is for function-like calls. `unsafe` may stand before. A token that is refused isn't
+/// consumed.
 pub fn parse_rule_style<A: Allocator>(
     src: &mut TtIter<'_, A>,
 ) -> Result<MacroCallStyle, SyntaxFault>
@@ -138,10 +146,10 @@ pub fn parse_rule_style<A: Allocator>(
         else src.new) }
     ensures shorter { flat_len src.new ≤ flat_len src.old }
 {
-    let _unsafe = eat_word(src, "unsafe");
-    let style = if eat_word(src, "attr") {
+    let _unsafe = eat_ident(src, "unsafe");
+    let style = if eat_ident(src, "attr") {
         MacroCallStyle::Attr
-    } else if eat_word(src, "derive") {
+    } else if eat_ident(src, "derive") {
         MacroCallStyle::Derive
     } else {
         return Ok(MacroCallStyle::FnLike);
@@ -152,9 +160,9 @@ pub fn parse_rule_style<A: Allocator>(
     Ok(style)
 }
 
-// Consumes the identifier of that text, raw or not, where it comes first.
-fn eat_word<A: Allocator>(src: &mut TtIter<'_, A>, word: &str) -> bool
-    ensures value { result ≡ is_word word.now src.old }
+// Consumes the identifier of this text, raw or not, if it is the next tree.
+fn eat_ident<A: Allocator>(src: &mut TtIter<'_, A>, word: &str) -> bool
+    ensures value { result ≡ begins_with_ident word.now src.old }
     ensures rest { src.new ≡ (if result then rest_of src.old else src.old) }
     ensures shorter { flat_len src.new ≤ flat_len src.old }
 {
@@ -167,8 +175,9 @@ fn eat_word<A: Allocator>(src: &mut TtIter<'_, A>, word: &str) -> bool
     false
 }
 
-/// The trees of a rule's pattern and of its template. A token that can't be read isn't consumed.
-pub fn rule_groups<'a, A: Allocator>(
+/// Consumes a rule's groups and `=>`. Returns the trees of the pattern and of the template. A token
+/// that is refused isn't consumed.
+pub fn eat_rule_groups<'a, A: Allocator>(
     src: &mut TtIter<'a, A>,
 ) -> Result<(TtIter<'a, A>, TtIter<'a, A>), SyntaxFault>
     ensures trees { (style : SpecStyle)

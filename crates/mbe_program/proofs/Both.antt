@@ -1,15 +1,16 @@
 -- The trees of both texts, or the first fault.
 use Rattle.std.proofs.Common.{◌≡◌, ℕ, List, Ok, refl}
 use Rattle.mbe_tt.specs.Trees.Top.{Top}
-use Rattle.mbe_text.specs.Tokens.{IsMade}
-use Rattle.mbe_text.specs.Division.{sample_trees}
+use Rattle.mbe_text.specs.Tokens.{IsLexed}
+use Rattle.mbe_text.specs.LexedTrees.{sample_trees}
 use Rattle.mbe_program.specs.declared.program.Outcome.{Outcome}
-use Rattle.mbe_program.specs.declared.program.Outcome.TheVariants.{Expanded, Linted, Faulted, Refused, CannotLex, CannotWrite, OutOfMemory}
-use Rattle.mbe_program.specs.Expansion.{AreTrees, both_trees, IsAtFault, IsUnlexed}
+use Rattle.mbe_program.specs.declared.program.Outcome.TheVariants.{Expanded, Linted, Faulted, Refused, CannotLex}
+use Rattle.mbe_program.specs.declared.program.Outcome.TheVariants.{CannotWrite, OutOfMemory}
+use Rattle.mbe_program.specs.TextExpansion.{AreTrees, both_trees, IsAtFault, IsUnlexed}
 
 -- both texts have trees
-pub trees : (def_text arg_text : List ℕ) (definition argument : Top) → IsMade 0 def_text definition
-    → IsMade 1 arg_text argument
+pub trees : (def_text arg_text : List ℕ) (definition argument : Top) → IsLexed 0 def_text definition
+    → IsLexed 1 arg_text argument
     → sample_trees 0 def_text ≡ Ok definition → sample_trees 1 arg_text ≡ Ok argument
     → AreTrees def_text arg_text definition argument
 trees def_text arg_text definition argument defined given d e =

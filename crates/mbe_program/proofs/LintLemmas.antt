@@ -1,17 +1,18 @@
 -- The lines of verdicts, one rule after another.
-use Rattle.std.proofs.Common.{◌≡◌, ◌<◌, ◌≤◌, ◌+◌, ◌∙◌, ℕ, zero, suc, List, [], ◌∷◌, ◌++◌, map, length, take, slice_get, slice_index_or, Some, refl, sym, ap, subst, arith, add-one}
+use Rattle.std.proofs.Common.{◌≡◌, ◌<◌, ◌≤◌, ◌+◌, ◌∙◌, ℕ, zero, suc, List, [], ◌∷◌, ◌++◌, map, length, take, slice_get}
+use Rattle.std.proofs.Common.{slice_index_or, Some, refl, sym, ap, subst, arith, add-one}
 use Rattle.std.specs.Prelude.{codes}
 use Rattle.std.proofs.lemmas.List.{append_assoc, append-nil, map-append, take_all}
 use Rattle.std.proofs.lemmas.Option.{none-some, same_Some}
 use Rattle.mbe_tt.specs.Trees.Tree.{Forest}
-use Rattle.mbe_tt.specs.Fragments.Grammar.{Grammar}
+use Rattle.mbe_tt.specs.Grammars.Grammar.{Grammar}
 use Rattle.mbe_semantics.specs.Syntax.Definition.{Rule}
 use Rattle.mbe_semantics.specs.Readings.Verdict.{Verdict, IsVerdict}
-use Rattle.mbe_matcher.specs.declared.matching.Verdict as given
-use Rattle.mbe.specs.Matched.{verdict_seen}
-use Rattle.mbe.specs.Explaining.{Explains}
+use Rattle.mbe_matcher.specs.declared.matcher.Verdict as given
+use Rattle.mbe.specs.MatchResults.{verdict_seen}
+use Rattle.mbe.specs.RuleExplanation.{Explains}
 use Rattle.mbe.proofs.ChoiceLemmas.{all_seen}
-use Rattle.mbe_program.specs.Linting.{line_of, lines_from}
+use Rattle.mbe_program.specs.VerdictLines.{line_of, lines_from}
 
 line_at : (first : ℕ) (vs : List Verdict) (n : ℕ) (v : Verdict) → slice_get vs n ≡ Some v
     → lines_from first (take (suc n) vs) ≡ lines_from first (take n vs) ++ (line_of (first + n) v ++ codes "\n")

@@ -6,17 +6,18 @@ use Rattle.std.proofs.KnownBytes.{Appends-kept}
 use Rattle.mbe_tt.specs.declared.span.Edition.{Edition}
 use Rattle.mbe_tt.specs.Trees.Tree.{Forest}
 use Rattle.mbe_tt.specs.Trees.Top.{Top}
-use Rattle.mbe_text.specs.Printing.{lines}
-use Rattle.mbe_text.specs.Writing.{Takes, Writes}
-use Rattle.mbe_text.proofs.Taken.{takes_whole}
+use Rattle.mbe_text.specs.TreeDump.{lines}
+use Rattle.mbe_text.specs.WriterBytes.{WritesPrefix, Writes}
+use Rattle.mbe_text.proofs.WriterLemmas.{takes_whole}
 use Rattle.mbe_program.specs.declared.program.Outcome.{Outcome}
-use Rattle.mbe_program.specs.declared.program.Outcome.TheVariants.{Expanded, Linted, Faulted, Refused, CannotLex, CannotWrite, OutOfMemory}
+use Rattle.mbe_program.specs.declared.program.Outcome.TheVariants.{Expanded, Linted, Faulted, Refused, CannotLex}
+use Rattle.mbe_program.specs.declared.program.Outcome.TheVariants.{CannotWrite, OutOfMemory}
 use Rattle.mbe_semantics.specs.Expansion.Error.{ExpandError}
-use Rattle.mbe_program.specs.Printed.{head, printed}
-use Rattle.mbe_program.specs.Expansion.{AreTrees, IsRefused, IsUnexpanded, IsUnlexed, outcome_of}
-use Rattle.mbe_program.specs.Expanding.{HasNoMacro}
-use Rattle.mbe_program.specs.declared.expanding.Unread.{Unread}
-use Rattle.mbe_program.specs.declared.expanding.Unread.TheVariants as unread
+use Rattle.mbe_program.specs.ExpansionText.{head, printed}
+use Rattle.mbe_program.specs.TextExpansion.{AreTrees, IsRefused, IsUnexpanded, IsUnlexed, outcome_of}
+use Rattle.mbe_program.specs.TreeExpansion.{HasNoMacro}
+use Rattle.mbe_program.specs.declared.tree_expansion.DefinitionError.{DefinitionError}
+use Rattle.mbe_program.specs.declared.tree_expansion.DefinitionError.TheVariants as unread
 
 -- a text isn't lexed
 pub unlexed : {A : Type 0} (edition : Edition) (def_text arg_text : List ℕ) (outcome : Outcome A)
@@ -43,7 +44,7 @@ refused edition def_text arg_text definition argument CannotWrite trees h = absu
 refused edition def_text arg_text definition argument OutOfMemory trees h = tt
 
 -- the definition is refused, or there is no memory
-pub no_macro : {A : Type 0} (edition : Edition) (definition : Forest) (why : Unread A) (outcome : Outcome A)
+pub no_macro : {A : Type 0} (edition : Edition) (definition : Forest) (why : DefinitionError A) (outcome : Outcome A)
     → HasNoMacro edition definition why → outcome ≡ outcome_of why → IsRefused edition definition outcome
 no_macro edition definition (unread.Refused error) outcome h is =
     subst (IsRefused edition definition) (sym is) h
@@ -71,7 +72,7 @@ printed_all a b (Err x) text out index err e h w = absurd (false≢true h)
 pub printed_some : {T E : Type 0} (a b : Option (List ℕ)) (r : Result T E) (text : List ℕ) (out : Forest)
     (index : Option ℕ) (err : Option ExpandError)
     → text ≡ head err index → IsErr r → Writes a b r (text ++ lines 0 out)
-    → (left : List ℕ) × Takes a b (printed out index err) left
+    → (left : List ℕ) × WritesPrefix a b (printed out index err) left
 printed_some a b (Ok x) text out index err e h w = absurd (false≢true h)
 printed_some a b (Err x) text out index err e h w =
-    (w.0, subst (λ (l : List ℕ). Takes a b l w.0) (printed_whole text out index err e) w.1)
+    (w.0, subst (λ (l : List ℕ). WritesPrefix a b l w.0) (printed_whole text out index err e) w.1)

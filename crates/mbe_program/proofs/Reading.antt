@@ -7,20 +7,20 @@ use Rattle.mbe_grammar.specs.SampleGrammar.{sample}
 use Rattle.mbe_semantics.specs.declared.macro_call_style.MacroCallStyle.TheVariants.{FnLike}
 use Rattle.mbe_semantics.specs.Expansion.Error.{ExpandError}
 use Rattle.mbe_semantics.specs.Expansion.Macro.{Macro}
-use Rattle.mbe_semantics.specs.Expansion.ReadAs.{IsReadAs}
+use Rattle.mbe_semantics.specs.Expansion.ParsedMacro.{IsParsedRules}
 use Rattle.mbe_semantics.specs.Readings.Verdict.{Verdict}
 use Rattle.mbe.specs.OneAnswer.{IsAnswer}
 use Rattle.mbe_text.specs.Tokens.{bytes_of}
-use Rattle.mbe_program.specs.declared.expanding.Unread.{Unread}
+use Rattle.mbe_program.specs.declared.tree_expansion.DefinitionError.{DefinitionError}
 use Rattle.mbe_program.specs.declared.program.Outcome.{Outcome}
-use Rattle.mbe_program.specs.Expanding.{AreVerdicts, HasNoMacro, IsEdition, IsItself, IsMacroOf}
-use Rattle.mbe_program.specs.Expansion.{AreRead, AreTrees, ExpandsTexts, IsUnexpanded, outcome_of}
-use Rattle.mbe_program.specs.Linting.{ExplainsTexts}
+use Rattle.mbe_program.specs.TreeExpansion.{AreVerdicts, HasNoMacro, IsEdition, IsItself, IsMacroOf}
+use Rattle.mbe_program.specs.TextExpansion.{AreRead, AreTrees, ExpandsTexts, IsUnexpanded, outcome_of}
+use Rattle.mbe_program.specs.VerdictLines.{ExplainsTexts}
 use Rattle.mbe_program.proofs.OutcomeLemmas.{no_macro, refused}
 
 -- the definition is a macro's
 pub macro_is : (edition : Edition) (definition : Forest) (m : Macro)
-    → IsReadAs (IsEdition edition) definition (record { rules = m.rules; err = None }) → m.err ≡ None
+    → IsParsedRules (IsEdition edition) definition (record { rules = m.rules; err = None }) → m.err ≡ None
     → IsMacroOf edition definition m
 macro_is edition definition m read faultless = record { read = read; faultless = faultless }
 
@@ -32,7 +32,8 @@ both_are edition def_text arg_text definition argument m trees is =
     record { definition = definition; trees = trees; macro_is = is }
 
 -- both texts have trees, and the definition has no macro
-pub unread : {A : Type 0} (edition : Edition) (def_text arg_text : List ℕ) (definition argument : Top) (why : Unread A)
+pub unread : {A : Type 0} (edition : Edition) (def_text arg_text : List ℕ) (definition argument : Top)
+    (why : DefinitionError A)
     (outcome : Outcome A)
     → AreTrees def_text arg_text definition argument → HasNoMacro edition definition.1 why
     → outcome ≡ outcome_of why → IsUnexpanded edition def_text arg_text outcome

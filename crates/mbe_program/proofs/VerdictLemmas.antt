@@ -1,15 +1,16 @@
 -- Verdicts, one rule after another.
-use Rattle.std.proofs.Common.{◌≡◌, ◌≤◌, ◌+◌, ℕ, zero, suc, List, [], ◌∷◌, ◌++◌, map, length, take, slice_get, Some, sym, subst, add-one}
+use Rattle.std.proofs.Common.{◌≡◌, ◌≤◌, ◌+◌, ℕ, zero, suc, List, [], ◌∷◌, ◌++◌, map, length, take, slice_get, Some, sym}
+use Rattle.std.proofs.Common.{subst, add-one}
 use Rattle.std.proofs.lemmas.List.{map-append, take_all}
 use Rattle.std.proofs.lemmas.Option.{none-some, same_Some}
 use Rattle.mbe_tt.specs.Trees.Tree.{Forest}
-use Rattle.mbe_tt.specs.Fragments.Grammar.{Grammar}
+use Rattle.mbe_tt.specs.Grammars.Grammar.{Grammar}
 use Rattle.mbe_semantics.specs.Syntax.Definition.{Rule}
 use Rattle.mbe_semantics.specs.Readings.Verdict.{Verdict, IsVerdict}
-use Rattle.mbe_matcher.specs.declared.matching.Verdict as given
-use Rattle.mbe_matcher.specs.Matched.{verdict_seen}
-use Rattle.mbe.specs.Explaining.{Explains}
-use Rattle.mbe_program.specs.Expanding.{AreVerdicts}
+use Rattle.mbe_matcher.specs.declared.matcher.Verdict as given
+use Rattle.mbe_matcher.specs.MatchResults.{verdict_seen}
+use Rattle.mbe.specs.RuleExplanation.{Explains}
+use Rattle.mbe_program.specs.TreeExpansion.{AreVerdicts}
 
 verdict_at : (g : Grammar) (argument : Forest) (rs : List Rule) (n : ℕ) (vs : List Verdict) (r : Rule) (v : Verdict)
     → AreVerdicts g argument (take n rs) vs → slice_get rs n ≡ Some r → IsVerdict g r.reads argument v

@@ -1,8 +1,8 @@
-pub mod Expanding
-pub mod Expansion
-pub mod Linting
+pub mod TreeExpansion
+pub mod TextExpansion
+pub mod VerdictLines
 pub mod Options
 pub mod Outcomes
-pub mod Printed
-pub mod Unread
+pub mod ExpansionText
+pub mod FileFailures
 pub mod Replies

@@ -1,13 +1,15 @@
--- How a run ends.
+-- How a run ends: its exit status, and the line on standard error.
 use Rattle.std.specs.Prelude.{ℕ, ⊤, ◌≡◌, ◌≤◌, List, ◌++◌, Option, codes}
 use Rattle.std.specs.Fmt.{decimal}
 use Rattle.mbe_semantics.specs.Expansion.Error.{text_of_fault}
 use Rattle.mbe_ops.specs.Errors.ErrorViews.{parse_error_of}
 use Rattle.mbe_program.specs.declared.program.Outcome.{Outcome}
-use Rattle.mbe_program.specs.declared.program.Outcome.TheVariants.{Expanded, Linted, Faulted, Refused, CannotLex, CannotWrite, OutOfMemory}
-use Rattle.mbe_program.specs.declared.reports.Report.{Report}
-use Rattle.mbe_program.specs.declared.reports.Report.TheVariants as says
-use Rattle.mbe_program.specs.declared.settings.Options.{Options}
+use Rattle.mbe_program.specs.declared.program.Outcome.TheVariants.{Expanded, Linted, Faulted}
+use Rattle.mbe_program.specs.declared.program.Outcome.TheVariants.{Refused, CannotLex, CannotWrite}
+use Rattle.mbe_program.specs.declared.program.Outcome.TheVariants.{OutOfMemory}
+use Rattle.mbe_program.specs.declared.failure.Failure.{Failure}
+use Rattle.mbe_program.specs.declared.failure.Failure.TheVariants as says
+use Rattle.mbe_program.specs.declared.options.Options.{Options}
 use Rattle.mbe_program.specs.Options.{name_of}
 
 -- the exit status of a run
@@ -20,7 +22,8 @@ status_of CannotWrite = 3
 status_of (CannotLex file offset) = 4
 status_of OutOfMemory = 5
 
--- a run that comes neither to an expansion nor to verdicts writes nothing
+-- A run without an expansion and without verdicts writes nothing. A run that ends as `CannotWrite`
+-- had one of them.
 abbrev pub IsSilent : {A : Type 0} → Outcome A → Option (List ℕ) → Option (List ℕ) → Type 0
 IsSilent Expanded before after = ⊤
 IsSilent Linted before after = ⊤
@@ -30,7 +33,7 @@ IsSilent CannotWrite before after = ⊤
 IsSilent (CannotLex file offset) before after = after ≡ before
 IsSilent OutOfMemory before after = after ≡ before
 
--- a text that isn't lexed is at fault in that file, which is so long, or at its end
+-- A text that can't be lexed is at fault in that file, at a byte of its `len` bytes or at its end.
 abbrev pub FaultsIn : {A : Type 0} → ℕ → ℕ → Outcome A → Type 0
 FaultsIn file len Expanded = ⊤
 FaultsIn file len Linted = ⊤
@@ -40,30 +43,32 @@ FaultsIn file len CannotWrite = ⊤
 FaultsIn file len (CannotLex f offset) = (f ≡ file) × (offset ≤ len)
 FaultsIn file len OutOfMemory = ⊤
 
--- the exit status of a program that says this
-abbrev pub report_status : {A : Type 0} → Report A → ℕ
-report_status (says.Refused error) = 2
-report_status says.Usage = 3
-report_status (says.CannotRead name) = 3
-report_status says.CannotWrite = 3
-report_status (says.CannotLex name offset) = 4
-report_status says.OutOfMemory = 5
+-- The exit status of a program that prints this line.
+abbrev pub failure_status : {A : Type 0} → Failure A → ℕ
+failure_status (says.Refused error) = 2
+failure_status says.Usage = 3
+failure_status (says.CannotRead name) = 3
+failure_status says.CannotWrite = 3
+failure_status (says.CannotLex name offset) = 4
+failure_status says.OutOfMemory = 5
 
--- A line says what a run with these options ended by: the error of the definition, or the file that isn't lexed, by its
--- name,
--- and the byte.
-abbrev pub Tells : {A : Type 0} → Options → Outcome A → Report A → Type 0
-Tells o (Refused error) (says.Refused reported) = reported.now ≡ error
-Tells o (CannotLex file offset) (says.CannotLex name at) = (name.now ≡ name_of o file) × (at ≡ offset)
-Tells o CannotWrite says.CannotWrite = ⊤
-Tells o OutOfMemory says.OutOfMemory = ⊤
-Tells o outcome report = ⊥
+-- A line says how a run with these options ended. It has the error of the definition, or the name
+-- of the file that can't be lexed and the byte at fault.
+abbrev pub IsFailureOf : {A : Type 0} → Options → Outcome A → Failure A → Type 0
+IsFailureOf o (Refused error) (says.Refused reported) = reported.now ≡ error
+IsFailureOf o (CannotLex file offset) (says.CannotLex name at) =
+    (name.now ≡ name_of o file) × (at ≡ offset)
+IsFailureOf o CannotWrite says.CannotWrite = ⊤
+IsFailureOf o OutOfMemory says.OutOfMemory = ⊤
+IsFailureOf o outcome failure = ⊥
 
--- the line itself
-abbrev pub report_text : {A : Type 0} → Report A → List ℕ
-report_text says.Usage = codes "usage: mbex [--lint] DEF-FILE ARG-FILE [EDITION]"
-report_text (says.CannotRead name) = codes "cannot read " ++ name.now
-report_text (says.Refused error) = codes "definition refused: " ++ text_of_fault (parse_error_of error.now)
-report_text (says.CannotLex name offset) = codes "cannot lex " ++ (name.now ++ (codes " at " ++ decimal offset))
-report_text says.CannotWrite = codes "cannot write"
-report_text says.OutOfMemory = codes "out of memory"
+-- The text of the line.
+abbrev pub failure_text : {A : Type 0} → Failure A → List ℕ
+failure_text says.Usage = codes "usage: mbex [--lint] DEF-FILE ARG-FILE [EDITION]"
+failure_text (says.CannotRead name) = codes "cannot read " ++ name.now
+failure_text (says.Refused error) =
+    codes "definition refused: " ++ text_of_fault (parse_error_of error.now)
+failure_text (says.CannotLex name offset) =
+    codes "cannot lex " ++ (name.now ++ (codes " at " ++ decimal offset))
+failure_text says.CannotWrite = codes "cannot write"
+failure_text says.OutOfMemory = codes "out of memory"

@@ -1,7 +1,7 @@
--- What the calls of other languages answer.
-pub mod Asked
+-- What the functions behind the C library answer.
+pub mod RequestCodes
 pub mod Answers
-pub mod Calls
-pub mod ReadOnce
-pub mod Kept
+pub mod Requests
+pub mod ReadMacros
+pub mod KeptMacros
 pub mod Flat

@@ -1,15 +1,15 @@
-// The words after the program's name.
+// The command line of `mbex`.
 ghost use Rattle.std.specs.Prelude.{◌≡◌, map, option_map};
 ghost use Rattle.std.specs.String.{string_bytes};
 ghost use Rattle.mbe_program.specs.Options.{edition_of, files_of, options_of, seen};
 
-use crate::settings::Options;
+use crate::options::Options;
 use mbe_tt::span::Edition;
 
-fn edition(word: &str) -> Option<Edition>
-    ensures { result ≡ edition_of word.now }
+fn edition(year: &str) -> Option<Edition>
+    ensures { result ≡ edition_of year.now }
 {
-    match word {
+    match year {
         "2015" => Some(Edition::Edition2015),
         "2018" => Some(Edition::Edition2018),
         "2021" => Some(Edition::Edition2021),
@@ -18,33 +18,34 @@ fn edition(word: &str) -> Option<Edition>
     }
 }
 
-fn files(lint: bool, words: &[String]) -> Option<Options<'_>>
-    ensures { option_map seen result ≡ files_of lint (map string_bytes words.now) }
+fn files(lint: bool, argv: &[String]) -> Option<Options<'_>>
+    ensures { option_map seen result ≡ files_of lint (map string_bytes argv.now) }
 {
-    match words {
+    match argv {
         [def, arg] => Some(Options {
             lint,
             def: def.as_str(),
             arg: arg.as_str(),
             edition: Edition::Edition2024,
         }),
-        [def, arg, word] => Some(Options {
+        [def, arg, year] => Some(Options {
             lint,
             def: def.as_str(),
             arg: arg.as_str(),
-            edition: edition(word.as_str())?,
+            edition: edition(year.as_str())?,
         }),
         _ => None,
     }
 }
 
-/// What the words after the program's name ask for: `[--lint] DEF-FILE ARG-FILE [EDITION]`, the edition one of `2015`,
-/// `2018`, `2021` and `2024`, by default `2024`. `None` for all other words. A first word `--lint` is never a file.
-pub fn options(words: &[String]) -> Option<Options<'_>>
-    ensures { option_map seen result ≡ options_of (map string_bytes words.now) }
+/// Parses the arguments after the program's name: `[--lint] DEF-FILE ARG-FILE [EDITION]`. The
+/// edition is `2015`, `2018`, `2021` or `2024`, by default `2024`. `None` for any other arguments.
+/// A first argument `--lint` is never a file.
+pub fn options(argv: &[String]) -> Option<Options<'_>>
+    ensures { option_map seen result ≡ options_of (map string_bytes argv.now) }
 {
-    match words.split_first() {
+    match argv.split_first() {
         Some((first, rest)) if first.as_str() == "--lint" => files(true, rest),
-        _ => files(false, words),
+        _ => files(false, argv),
     }
 }

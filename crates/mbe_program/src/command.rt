@@ -1,41 +1,42 @@
-// A run of the program: its words, its files, its standard output and error.
+// A run of the program: it parses the arguments, reads both files, and writes to standard output
+// and to standard error.
 ghost use Rattle.std.specs.Prelude.{◌≡◌, ◌<◌, ◌^◌, ◌↔◌, IfErr, IfOk, IsOk};
 ghost use Rattle.std.specs.String.{string_len};
 ghost use Rattle.std.specs.IoError.{error_kind};
 ghost use Rattle.mbe_program.specs.Options.{name_of};
-ghost use Rattle.mbe_program.specs.Unread.{IsUnread, CannotBeRead};
+ghost use Rattle.mbe_program.specs.FileFailures.{IsUnread, CannotBeRead};
 
 use crate::arguments::options;
+use crate::failure::Failure;
+use crate::options::Options;
 use crate::program::{Outcome, run};
-use crate::reports::Report;
-use crate::settings::Options;
 use std::alloc::Global;
 use std::io::{BufWriter, Read};
 use std::rt::{Env, Files};
 use std::{env, fs, io};
 
-/// Runs on the words after the program's name, and returns the exit status. The runtime, a parameter here and below, has the
-/// words, the files and the outputs.
+/// Runs on the arguments of the program, and returns the exit status. The runtime `rt`, here and
+/// below, gives access to the arguments, the files and the outputs.
 pub fn run_command<R: Env + Files + Print + Eprint + AllocGlobal>(rt: &R) -> u8 {
-    match words(rt) {
-        Ok(words) => started(rt, words.as_slice()),
+    match argv(rt) {
+        Ok(argv) => run_arguments(rt, argv.as_slice()),
         Err(error) => match error.kind() {
-            io::ErrorKind::OutOfMemory => say(rt, Report::OutOfMemory),
-            _ => say(rt, Report::Usage),
+            io::ErrorKind::OutOfMemory => print_failure(rt, Failure::OutOfMemory),
+            _ => print_failure(rt, Failure::Usage),
         },
     }
 }
 
-// The words after the program's name.
-fn words<R: Env + AllocGlobal>(rt: &R) -> io::Result<Vec<String>> {
-    let mut words = Vec::new(rt.alloc());
-    for word in env::args(rt)?.skip(1) {
-        words.push(word)?;
+// Returns the arguments after the program's name.
+fn argv<R: Env + AllocGlobal>(rt: &R) -> io::Result<Vec<String>> {
+    let mut argv = Vec::new(rt.alloc());
+    for argument in env::args(rt)?.skip(1) {
+        argv.push(argument)?;
     }
-    Ok(words)
+    Ok(argv)
 }
 
-// The text, if it is shorter than 2^32 bytes.
+// Returns the text, if it is shorter than 2^32 bytes.
 fn short(text: String) -> io::Result<String>
     ensures short { IsOk result ↔ (string_len text < 2 ^ 32) }
     ensures same { IfOk result (λ same. same ≡ text) }
@@ -46,18 +47,18 @@ fn short(text: String) -> io::Result<String>
     Ok(text)
 }
 
-// The line on a file of that name which isn't read: out of memory, or that it can't be read.
-fn unread<'a>(error: &io::Error, name: &'a str) -> Report<'a, Global>
+// Returns the line on a file that can't be read: out of memory, or its name.
+fn read_failure<'a>(error: &io::Error, name: &'a str) -> Failure<'a, Global>
     ensures { IsUnread (error_kind error.now) name.now result }
 {
     match error.kind() {
-        io::ErrorKind::OutOfMemory => Report::OutOfMemory,
-        _ => Report::CannotRead(name),
+        io::ErrorKind::OutOfMemory => Failure::OutOfMemory,
+        _ => Failure::CannotRead(name),
     }
 }
 
-// The text of the file of that name, if it is shorter than 2^32 bytes. No more than these are read of any file, so that
-// one which never ends is refused too.
+// Reads the file of that name. A text of 2^32 bytes or more is an error. No more than 2^32 bytes
+// are read, so a file that never ends is an error too.
 fn short_text<R: Files + AllocGlobal>(rt: &R, name: &str) -> io::Result<String>
     ensures short { IfOk result (λ text. string_len text < 2 ^ 32) }
 {
@@ -65,37 +66,39 @@ fn short_text<R: Files + AllocGlobal>(rt: &R, name: &str) -> io::Result<String>
     short(io::read_to_string(rt.alloc(), file.take(1 << 32))?)
 }
 
-// The text of that file of the run (0 is the definition, 1 the argument), or the line on why there is none.
+// Reads a file of the run: 0 is the definition, 1 the argument. The error is the line to print.
 fn read<'a, R: Files + AllocGlobal>(
     rt: &R,
     options: &Options<'a>,
     file: u32,
-) -> Result<String, Report<'a, Global>>
+) -> Result<String, Failure<'a, Global>>
     ensures short { IfOk result (λ text. string_len text < 2 ^ 32) }
     ensures named { IfErr result (CannotBeRead (name_of options.now file)) }
 {
     let name = options.name_of(file);
     match short_text(rt, name) {
         Ok(text) => Ok(text),
-        Err(error) => Err(unread(&error, name)),
+        Err(error) => Err(read_failure(&error, name)),
     }
 }
 
-// Writes the line to standard error, where it can, and returns the exit status that goes with it.
-fn say(rt: &impl Eprint, report: Report<'_, Global>) -> u8 {
-    let _ = eprintln!(rt; "{report}");
-    report.status()
+// Prints the line to standard error, if that can be written, and returns the exit status of the
+// line.
+fn print_failure(rt: &impl Eprint, failure: Failure<'_, Global>) -> u8 {
+    let _ = eprintln!(rt; "{failure}");
+    failure.status()
 }
 
-// The outcome of a run on both files that writes to standard output, or the line on why there is none.
+// Runs on both files, and writes to standard output. The error is the line to print if a file can't
+// be read, or memory runs out before the run.
 fn run_files<'a, R: Files + Print + AllocGlobal>(
     rt: &R,
     options: &Options<'a>,
-) -> Result<Outcome<Global>, Report<'a, Global>> {
+) -> Result<Outcome<Global>, Failure<'a, Global>> {
     let def = read(rt, options, 0)?;
     let arg = read(rt, options, 1)?;
     let Ok(mut out) = BufWriter::new(rt.alloc(), io::writer(rt)) else {
-        return Err(Report::OutOfMemory);
+        return Err(Failure::OutOfMemory);
     };
     Ok(run(
         rt.alloc(),
@@ -107,16 +110,16 @@ fn run_files<'a, R: Files + Print + AllocGlobal>(
     ))
 }
 
-/// Runs on the files that the words after the program's name ask for, writes to standard output, says on standard error why
-/// nothing is written, and returns the exit status.
-pub fn started<R: Files + Print + Eprint + AllocGlobal>(rt: &R, words: &[String]) -> u8 {
-    let Some(options) = options(words) else {
-        return say(rt, Report::Usage);
+/// Runs on the files that the arguments name. It writes to standard output, and to standard error
+/// why nothing is written. Returns the exit status.
+pub fn run_arguments<R: Files + Print + Eprint + AllocGlobal>(rt: &R, argv: &[String]) -> u8 {
+    let Some(options) = options(argv) else {
+        return print_failure(rt, Failure::Usage);
     };
     match run_files(rt, &options) {
-        Err(report) => say(rt, report),
-        Ok(outcome) => match outcome.report(&options) {
-            Some(report) => say(rt, report),
+        Err(failure) => print_failure(rt, failure),
+        Ok(outcome) => match outcome.failure(&options) {
+            Some(failure) => print_failure(rt, failure),
             None => outcome.status(),
         },
     }

@@ -1,13 +1,16 @@
-// The program `mbex` without its `main`: what its words ask for, a run from two texts to what is written, and what is said
-// where nothing is. Beside it, what the calls of other languages answer.
+// The program `mbex` without its `main`, and the functions behind the C library.
+//
+// `command` runs `mbex`: `arguments` parses the command line, `program` lexes both texts and
+// expands or lints, `expansion_printer` and `verdict_lines` write the output, and `failure` says
+// why a run failed. `replies` holds what `mbe_c` exports: requests in numbers, and their answers.
 #![tactic(auto)]
 
 pub mod arguments;
 pub mod command;
-pub mod expanding;
-pub mod linting;
-pub mod printing;
+pub mod expansion_printer;
+pub mod failure;
+pub mod options;
 pub mod program;
 pub mod replies;
-pub mod reports;
-pub mod settings;
+pub mod tree_expansion;
+pub mod verdict_lines;

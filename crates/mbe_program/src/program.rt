@@ -1,25 +1,28 @@
-// A run, from both texts to what is written.
+// A run of `mbex` from two texts to its output, for any allocator and any writer.
+//
+// It lexes the definition and the argument, reads the macro, and writes the expansion or, with
+// `lint`, the verdict of each rule. `Outcome` says how the run ended.
 ghost use Rattle.std.specs.Prelude.{◌≡◌, ◌<◌, ◌^◌, ◌⊎◌, length, map, true, false, Ok, IfErr, IfOk};
 ghost use Rattle.mbe_tt.specs.Trees.Top.{top_group};
 ghost use Rattle.mbe_ops.specs.Errors.ErrorViews.{errors_of};
 ghost use Rattle.mbe.specs.MacroViews.{macro_of};
-ghost use Rattle.mbe.specs.Matched.{verdict_seen};
-ghost use Rattle.mbe_text.specs.Tokens.{IsMade};
-ghost use Rattle.mbe_text.specs.Division.{sample_trees};
-ghost use Rattle.mbe_program.specs.Expanding.{HasNoMacro, IsMacroOf};
-ghost use Rattle.mbe_program.specs.Expansion.{AreRead, ExpandsTexts, EndsAs};
-ghost use Rattle.mbe_program.specs.Expansion.{IsAtFault, IsUnexpanded};
-ghost use Rattle.mbe_program.specs.Linting.{ExplainsTexts, Lints};
+ghost use Rattle.mbe.specs.MatchResults.{verdict_seen};
+ghost use Rattle.mbe_text.specs.Tokens.{IsLexed};
+ghost use Rattle.mbe_text.specs.LexedTrees.{sample_trees};
+ghost use Rattle.mbe_program.specs.TreeExpansion.{HasNoMacro, IsMacroOf};
+ghost use Rattle.mbe_program.specs.TextExpansion.{AreRead, ExpandsTexts, EndsExpand};
+ghost use Rattle.mbe_program.specs.TextExpansion.{IsAtFault, IsUnexpanded};
+ghost use Rattle.mbe_program.specs.VerdictLines.{ExplainsTexts, Lints};
 ghost use Rattle.mbe_program.specs.Outcomes.{FaultsIn, IsSilent, status_of};
 
-use crate::expanding::{Expansion, Unread, defined, expansion_by, explained};
-use crate::linting::{lines_of, print_lines};
-use crate::printing::{head_of, print_expansion};
+use crate::expansion_printer::{head_of, print_expansion};
+use crate::tree_expansion::{DefinitionError, Expansion, defined, expand_with, explain_rules};
+use crate::verdict_lines::{lines_of, print_lines};
 use mbe::{DeclarativeMacro, MacroCallStyle, ParseError, Verdict};
 use mbe_grammar::SampleGrammar;
-use mbe_text::lexer::{LexError, lex_in};
+use mbe_text::lexer::{LexError, lex_with_table};
 use mbe_text::scanner::file_span;
-use mbe_text::symbols::SymbolTable;
+use mbe_text::symbol_table::SymbolTable;
 use mbe_tt::span::Edition;
 use mbe_tt::tt::TopSubtree;
 use std::alloc::{AllocError, Allocator};
@@ -30,13 +33,14 @@ use std::io::Write;
 pub enum Outcome<A: Allocator> {
     /// The expansion is written.
     Expanded,
-    /// The verdicts on the rules are written.
+    /// The verdicts of the rules are written.
     Linted,
     /// The expansion has an error, and both are written.
     Faulted,
-    /// The definition isn't one.
+    /// The definition has an error.
     Refused(ParseError<A>),
-    /// What isn't lexed begins at this byte of the definition (file 0) or the argument (file 1).
+    /// A text can't be lexed. The fault is at byte `offset` of the definition (file 0) or of the
+    /// argument (file 1).
     CannotLex { file: u32, offset: u32 },
     CannotWrite,
     OutOfMemory,
@@ -68,32 +72,32 @@ impl<A: Allocator> From<AllocError> for Outcome<A> {
     }
 }
 
-impl<A: Allocator> From<Unread<A>> for Outcome<A> {
-    ghost use Rattle.mbe_program.specs.Expansion.{outcome_of};
+impl<A: Allocator> From<DefinitionError<A>> for Outcome<A> {
+    ghost use Rattle.mbe_program.specs.TextExpansion.{outcome_of};
 
     ghost from_gives = { λ unread outcome. outcome ≡ outcome_of unread };
 
-    fn from(unread: Unread<A>) -> Outcome<A> {
+    fn from(unread: DefinitionError<A>) -> Outcome<A> {
         match unread {
-            Unread::Refused(error) => Outcome::Refused(error),
-            Unread::OutOfMemory => Outcome::OutOfMemory,
+            DefinitionError::Refused(error) => Outcome::Refused(error),
+            DefinitionError::OutOfMemory => Outcome::OutOfMemory,
         }
     }
 }
 
-// The trees of a file's text, or the byte at fault.
+// Lexes the text of a file. The error is the byte at fault.
 fn lexed<A: Allocator + Copy>(
     table: &mut SymbolTable<A>,
     text: &str,
     file: u32,
 ) -> Result<TopSubtree<A>, Outcome<A>>
     requires { length text.now < 2 ^ 32 }
-    ensures made { IfOk result (IsMade file text.now) }
+    ensures made { IfOk result (IsLexed file text.now) }
     ensures divided { IfOk result (λ trees. sample_trees file text.now ≡ Ok trees) }
     ensures fault { IfErr result (IsAtFault file text.now) }
     ensures within { IfErr result (FaultsIn file (length text.now)) }
 {
-    match lex_in(table, text, file) {
+    match lex_with_table(table, text, file) {
         Ok(tree) => Ok(tree),
         Err(LexError::Fault(fault)) => Err(Outcome::CannotLex {
             file,
@@ -103,24 +107,25 @@ fn lexed<A: Allocator + Copy>(
     }
 }
 
-// The macro of a definition, whose trees are given back.
+// Reads the macro of a definition, and frees the definition's trees.
 #[tactic(auto, using(crate::proofs::Reading::macro_is))]
-fn taken<A: Allocator + Copy>(
+fn read_rules_of<A: Allocator + Copy>(
     alloc: A,
     definition: TopSubtree<A>,
     edition: Edition,
-) -> Result<DeclarativeMacro<A>, Unread<A>>
+) -> Result<DeclarativeMacro<A>, DefinitionError<A>>
     ensures read { IfOk result (λ m. IsMacroOf edition definition.1 (macro_of m)) }
     ensures refused { IfErr result (HasNoMacro edition definition.1) }
 {
     defined(alloc, &definition, edition)
 }
 
-// The macro of the definition and the trees of the argument, or the first fault: a text that isn't
-// lexed comes before a definition that is refused. The definition's trees are given back before the
-// argument's are made, so memory never holds both. A long text that both have is kept once.
+// Reads the macro of the definition and the trees of the argument. The error is the first fault: a
+// text that can't be lexed comes before a definition that is refused. The definition's trees are
+// freed before the argument's are made, so memory never holds both. A long text that both have is
+// stored once.
 #[tactic(auto, using(crate::proofs::Both::trees, crate::proofs::Both::first_fault, crate::proofs::Both::second_fault, crate::proofs::OutcomeLemmas::unlexed, crate::proofs::Reading::both_are, crate::proofs::Reading::unread))]
-fn both_read<A: Allocator + Copy>(
+fn read_both<A: Allocator + Copy>(
     alloc: A,
     def: &str,
     arg: &str,
@@ -135,14 +140,14 @@ fn both_read<A: Allocator + Copy>(
 {
     let mut table = SymbolTable::new(alloc);
     let definition = lexed(&mut table, def, 0)?;
-    let rules = taken(alloc, definition, edition);
+    let rules = read_rules_of(alloc, definition, edition);
     let argument = lexed(&mut table, arg, 1)?;
     Ok((rules?, argument))
 }
 
-// What the text of a definition makes of that of an argument.
+// Expands the text of an argument by the text of a definition.
 #[tactic(auto, using(crate::proofs::Reading::faultless, crate::proofs::Reading::expands))]
-fn texts_expansion<A: Allocator + Copy>(
+fn expand_texts<A: Allocator + Copy>(
     alloc: A,
     def: &str,
     arg: &str,
@@ -156,16 +161,16 @@ fn texts_expansion<A: Allocator + Copy>(
     ensures within { IfErr result (λ outcome.
         FaultsIn 0 (length def.now) outcome ⊎ FaultsIn 1 (length arg.now) outcome) }
 {
-    let (rules, argument) = both_read(alloc, def, arg, edition)?;
+    let (rules, argument) = read_both(alloc, def, arg, edition)?;
     let call_site = file_span(1, 0, arg.len() as u32);
     let style = MacroCallStyle::FnLike;
-    let expansion = expansion_by(alloc, &SampleGrammar, &rules, &argument, style, call_site)?;
+    let expansion = expand_with(alloc, &SampleGrammar, &rules, &argument, style, call_site)?;
     Ok(expansion)
 }
 
-// The verdicts of the rules in the text of a definition on that of an argument.
+// Returns the verdicts of a definition's rules on an argument, both given as texts.
 #[tactic(auto, using(crate::proofs::Reading::faultless, crate::proofs::Reading::explains))]
-fn texts_verdicts<A: Allocator + Copy>(
+fn explain_texts<A: Allocator + Copy>(
     alloc: A,
     def: &str,
     arg: &str,
@@ -179,13 +184,13 @@ fn texts_verdicts<A: Allocator + Copy>(
     ensures within { IfErr result (λ outcome.
         FaultsIn 0 (length def.now) outcome ⊎ FaultsIn 1 (length arg.now) outcome) }
 {
-    let (rules, argument) = both_read(alloc, def, arg, edition)?;
-    let verdicts = explained(alloc, &SampleGrammar, &rules, &argument)?;
+    let (rules, argument) = read_both(alloc, def, arg, edition)?;
+    let verdicts = explain_rules(alloc, &SampleGrammar, &rules, &argument)?;
     Ok(verdicts)
 }
 
-// A run that expands.
-fn expanded<A: Allocator + Copy, W: Write>(
+// Runs without `--lint`.
+fn run_expand<A: Allocator + Copy, W: Write>(
     alloc: A,
     def: &str,
     arg: &str,
@@ -195,11 +200,11 @@ fn expanded<A: Allocator + Copy, W: Write>(
     requires def { length def.now < 2 ^ 32 }
     requires arg { length arg.now < 2 ^ 32 }
     ensures silent { IsSilent result (W.contents out.old) (W.contents out.new) }
-    ensures ended { EndsAs edition def.now arg.now
+    ensures ended { EndsExpand edition def.now arg.now
         (W.contents out.old) (W.contents out.new) result }
     ensures within { FaultsIn 0 (length def.now) result ⊎ FaultsIn 1 (length arg.now) result }
 {
-    let expansion = match texts_expansion(alloc, def, arg, edition) {
+    let expansion = match expand_texts(alloc, def, arg, edition) {
         Ok(expansion) => expansion,
         Err(outcome) => return outcome,
     };
@@ -216,8 +221,8 @@ fn expanded<A: Allocator + Copy, W: Write>(
     }
 }
 
-// A run that lints.
-fn linted<A: Allocator + Copy, W: Write>(
+// Runs with `--lint`.
+fn run_lint<A: Allocator + Copy, W: Write>(
     alloc: A,
     def: &str,
     arg: &str,
@@ -231,7 +236,7 @@ fn linted<A: Allocator + Copy, W: Write>(
         (W.contents out.old) (W.contents out.new) result }
     ensures within { FaultsIn 0 (length def.now) result ⊎ FaultsIn 1 (length arg.now) result }
 {
-    let verdicts = match texts_verdicts(alloc, def, arg, edition) {
+    let verdicts = match explain_texts(alloc, def, arg, edition) {
         Ok(verdicts) => verdicts,
         Err(failure) => return failure,
     };
@@ -244,13 +249,14 @@ fn linted<A: Allocator + Copy, W: Write>(
     }
 }
 
-/// Expands the text of an argument by the text of a definition, in which every token is of that edition, and writes the
-/// error, if there is one, the rule used and the tree, and flushes. With `lint` it expands nothing, and writes a line for
-/// each rule of the definition, of every style: how it reads the argument.
+/// Expands the text of an argument by the text of a definition. Every token is of the edition
+/// `edition`. It writes the error if there is one, the rule that was used and the tree, and
+/// flushes. With `lint` it expands nothing, and writes a line for each rule of the definition, of
+/// every style: how the rule reads the argument.
 ///
-/// Nothing is written if a text isn't lexed, the definition is refused or memory runs out. Where a text isn't lexed, the
-/// outcome has the file and the byte at fault, of the definition before the argument. If a write fails, the outcome says
-/// so, and what was written is a prefix.
+/// Nothing is written if a text can't be lexed, the definition is refused or memory runs out. If a
+/// text can't be lexed, the outcome has its file and the byte at fault; the definition is lexed
+/// first. If a write fails, the outcome says so, and a prefix was written.
 pub fn run<A: Allocator + Copy, W: Write>(
     alloc: A,
     def: &str,
@@ -262,15 +268,15 @@ pub fn run<A: Allocator + Copy, W: Write>(
     requires def { length def.now < 2 ^ 32 }
     requires arg { length arg.now < 2 ^ 32 }
     ensures silent { IsSilent result (W.contents out.old) (W.contents out.new) }
-    ensures expands { lint ≡ false → EndsAs edition def.now arg.now
+    ensures expands { lint ≡ false → EndsExpand edition def.now arg.now
         (W.contents out.old) (W.contents out.new) result }
     ensures lints { lint ≡ true → Lints edition def.now arg.now
         (W.contents out.old) (W.contents out.new) result }
     ensures within { FaultsIn 0 (length def.now) result ⊎ FaultsIn 1 (length arg.now) result }
 {
     if lint {
-        linted(alloc, def, arg, edition, out)
+        run_lint(alloc, def, arg, edition, out)
     } else {
-        expanded(alloc, def, arg, edition, out)
+        run_expand(alloc, def, arg, edition, out)
     }
 }

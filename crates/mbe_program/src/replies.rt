@@ -1,7 +1,8 @@
-// What each call of a program in another language answers: flat tokens, bytes and numbers, in memory of an allocator.
+// The functions behind the C library. A `Request` in numbers, with texts or flat tokens, goes in;
+// an `Answer` comes out, in memory of an allocator. `mbe_c` copies it into memory of the caller.
 pub mod answer;
-pub mod asked;
-pub mod calls;
 pub mod flat;
-pub mod kept;
+pub mod kept_macro;
 pub mod read_macro;
+pub mod request_codes;
+pub mod requests;

@@ -1,23 +1,27 @@
 -- What is read is cut from the front of the trees.
 use Rattle.mbe_tt.specs.Laws.TreeLaws.{IsCut}
-use Rattle.mbe_tt.proofs.Places.CutLemmas.{cut_trees-append, no_cut, if_cut, good_cut}
-use Rattle.std.specs.Prelude.{codes, ◌≡◌, ◌==◌, ◌&&◌, ◌||◌, ℕ, Bool, true, false, if◌then◌else◌, List, [], ◌∷◌, length, Option, Some, None, refl}
+use Rattle.mbe_tt.proofs.Offsets.CutLemmas.{cut_trees-append, no_cut, if_cut, good_cut}
+use Rattle.std.specs.Prelude.{codes, ◌≡◌, ◌==◌, ◌&&◌, ◌||◌, ℕ, Bool, true, false, if◌then◌else◌, List, [], ◌∷◌, length}
+use Rattle.std.specs.Prelude.{Option, Some, None, refl}
 use Rattle.std.proofs.Common.{subst}
 use Rattle.std.specs.Str.{bytes_eq}
 use Rattle.std.proofs.lemmas.Option.{same_Some}
-use Rattle.mbe_semantics.specs.declared.kinds.MetaVarKind.{MetaVarKind}
-use Rattle.mbe_semantics.specs.declared.kinds.Taker.{Taker}
-use Rattle.mbe_semantics.specs.declared.kinds.Taker.TheVariants as takers
+use Rattle.mbe_semantics.specs.declared.fragment_kinds.MetaVarKind.{MetaVarKind}
+use Rattle.mbe_semantics.specs.declared.fragment_kinds.FragmentParser.{FragmentParser}
+use Rattle.mbe_semantics.specs.declared.fragment_kinds.FragmentParser.TheVariants as fragment_parsers
 use Rattle.mbe_semantics.specs.Fragments.Kinds.{facts}
 use Rattle.mbe_tt.specs.Trees.Leaf.{ident, literal, punct}
-use Rattle.mbe_tt.specs.Trees.Tree.{Forest, none, leaf, group, Cut, cut, cut_trees, is_truth}
+use Rattle.mbe_tt.specs.Trees.Tree.{Forest, none, leaf, group, Cut, cut, cut_trees, is_bool_text}
 use Rattle.mbe_tt.specs.Trees.Glue.{glue, chars_of}
 use Rattle.mbe_semantics.specs.Syntax.Op as ops
 use Rattle.mbe_semantics.specs.Syntax.Op.{Op, Ops, no_ops, op}
-use Rattle.mbe_tt.specs.Fragments.Grammar.{Grammar, good_front}
+use Rattle.mbe_tt.specs.Grammars.Grammar.{Grammar, accepted_front}
 use Rattle.mbe_tt.specs.Trees.Leaf.{is_text, is_underscore}
-use Rattle.mbe_semantics.specs.Fragments.Takes.{takes, takes_by, is_refused, ident_front, lifetime_front, unsigned_front, literal_front, tree_front, with_leaf}
-use Rattle.mbe_semantics.specs.Readings.Fit.{token_front, literal_text_front, ident_text_front, puncts_front, lifetime_text_front, literal_separator_front, between_front}
+use Rattle.mbe_semantics.specs.Fragments.FragmentFront.{fragment_front, fragment_front_by, is_refused, ident_front}
+use Rattle.mbe_semantics.specs.Fragments.FragmentFront.{lifetime_front, unsigned_front, literal_front, tree_front}
+use Rattle.mbe_semantics.specs.Fragments.FragmentFront.{with_leaf}
+use Rattle.mbe_semantics.specs.Readings.Fit.{token_front, literal_text_front, ident_text_front, puncts_front}
+use Rattle.mbe_semantics.specs.Readings.Fit.{lifetime_text_front, literal_separator_front, between_front}
 
 literal_text_cut : (text : List ℕ) (f : Forest) (c : Cut) → literal_text_front text f ≡ Some c → IsCut f c
 literal_text_cut text (leaf (literal l) rest) c e =
@@ -51,7 +55,7 @@ lifetime_text_cut text (leaf (punct p) (leaf (ident i) rest)) c e =
 lifetime_text_cut text _ c e = no_cut e
 
 literal_separator_cut : (text : List ℕ) (f : Forest) (c : Cut) → literal_separator_front text f ≡ Some c → IsCut f c
-literal_separator_cut text (leaf (ident i) rest) c e = go (is_truth text) e
+literal_separator_cut text (leaf (ident i) rest) c e = go (is_bool_text text) e
   where
     go : (b : Bool) → (if b then ident_text_front text (leaf (ident i) rest) else None) ≡ Some c
         → IsCut (leaf (ident i) rest) c
@@ -122,18 +126,19 @@ tree_cut (leaf (ident i) rest) c e = subst (IsCut (leaf (ident i) rest)) (same_S
 tree_cut (group d inside rest) c e = subst (IsCut (group d inside rest)) (same_Some _ c e)
     (cut_trees-append 1 (group d inside rest))
 
-takes_by_cut : (g : Grammar) (kind : MetaVarKind) (taker : Taker) (f : Forest) (c : Cut)
-    → takes_by g kind taker f ≡ Some c → IsCut f c
-takes_by_cut g kind (takers.Grammar entry) f c e = go (is_refused kind f) e
+takes_by_cut : (g : Grammar) (kind : MetaVarKind) (fragment_parser : FragmentParser) (f : Forest) (c : Cut)
+    → fragment_front_by g kind fragment_parser f ≡ Some c → IsCut f c
+takes_by_cut g kind (fragment_parsers.Grammar entry) f c e = go (is_refused kind f) e
   where
-    go : (b : Bool) → (if b then None else good_front g entry f) ≡ Some c → IsCut f c
+    go : (b : Bool) → (if b then None else accepted_front g entry f) ≡ Some c → IsCut f c
     go true h = no_cut h
     go false h = good_cut g entry f c h
-takes_by_cut g kind takers.Identifier f c e = ident_cut f c e
-takes_by_cut g kind takers.Lifetime f c e = lifetime_cut f c e
-takes_by_cut g kind takers.Tree f c e = tree_cut f c e
-takes_by_cut g kind takers.Literal f c e = literal_cut f c e
+takes_by_cut g kind fragment_parsers.Identifier f c e = ident_cut f c e
+takes_by_cut g kind fragment_parsers.Lifetime f c e = lifetime_cut f c e
+takes_by_cut g kind fragment_parsers.Tree f c e = tree_cut f c e
+takes_by_cut g kind fragment_parsers.Literal f c e = literal_cut f c e
 
-pub takes_cut : (g : Grammar) (kind : Option MetaVarKind) (f : Forest) (c : Cut) → takes g kind f ≡ Some c → IsCut f c
+pub takes_cut : (g : Grammar) (kind : Option MetaVarKind) (f : Forest) (c : Cut) → fragment_front g kind f ≡ Some c
+    → IsCut f c
 takes_cut g None f c e = no_cut e
-takes_cut g (Some kind) f c e = takes_by_cut g kind (facts kind).taker f c e
+takes_cut g (Some kind) f c e = takes_by_cut g kind (facts kind).fragment_parser f c e

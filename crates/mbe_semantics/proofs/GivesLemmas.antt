@@ -1,6 +1,9 @@
 -- What entries give, after what earlier ones give.
 use Rattle.std.specs.Prelude.{List, ◌++◌}
-use Rattle.mbe_semantics.specs.Bindings.Account.{Commands, CommandRounds, Entry, RoundEntry, Log, Gives, GivesRounds, gives_nothing, gives_binding, gives_empty, gives_skip, gives_missing, gives_nested, gives_link, gives_no_rounds, gives_round, gives_linked_rounds}
+use Rattle.mbe_semantics.specs.Bindings.Account.{Commands, CommandRounds, Entry, RoundEntry, Log, Gives, GivesRounds}
+use Rattle.mbe_semantics.specs.Bindings.Account.{gives_nothing, gives_binding, gives_empty, gives_skip, gives_missing}
+use Rattle.mbe_semantics.specs.Bindings.Account.{gives_nested, gives_link, gives_no_rounds, gives_round}
+use Rattle.mbe_semantics.specs.Bindings.Account.{gives_linked_rounds}
 
 -- entries after those that are there
 pub follow : (log : Log) {cs middle : Commands} {es : List Entry} → Gives log cs es middle

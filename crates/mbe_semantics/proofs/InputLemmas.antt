@@ -1,18 +1,19 @@
 -- What an argument and a lawful grammar give is a lawful input.
-use Rattle.std.specs.Prelude.{◌≡◌, ◌≤◌, ◌<◌, ◌+◌, ◌-◌, ◌&&◌, ℕ, zero, suc, Bool, true, false, if◌then◌else◌, nat_le, nat_lt, Option, Some, None, refl}
+use Rattle.std.specs.Prelude.{◌≡◌, ◌≤◌, ◌<◌, ◌+◌, ◌-◌, ◌&&◌, ℕ, zero, suc, Bool, true, false, if◌then◌else◌, nat_le}
+use Rattle.std.specs.Prelude.{nat_lt, Option, Some, None, refl}
 use Rattle.std.proofs.Common.{arith, ap, ◌∙◌, leb-false, ltb-true}
 use Rattle.std.proofs.lemmas.Option.{none-some, same_Some}
-use Rattle.mbe_semantics.specs.declared.kinds.MetaVarKind.{MetaVarKind}
+use Rattle.mbe_semantics.specs.declared.fragment_kinds.MetaVarKind.{MetaVarKind}
 use Rattle.mbe_tt.specs.declared.tt.DelimiterKind.{DelimiterKind}
 use Rattle.mbe_tt.specs.Trees.Tree.{Forest, none, leaf, group, flat_len, Cut, rest_at}
 use Rattle.mbe_tt.specs.Laws.TreeLaws.{IsCut}
-use Rattle.mbe_tt.specs.Fragments.Grammar.{Grammar, IsLawful}
-use Rattle.mbe_tt.proofs.Places.CutLemmas.{no_true, both_left, flat_len-append}
+use Rattle.mbe_tt.specs.Grammars.Grammar.{Grammar, IsLawful}
+use Rattle.mbe_tt.proofs.Offsets.CutLemmas.{no_true, both_left, flat_len-append}
 use Rattle.mbe_semantics.specs.Syntax.Op.{Token, Separator}
 use Rattle.mbe_semantics.specs.Syntax.Nullable.{is_vis}
 use Rattle.mbe_semantics.specs.Fragments.Kinds.{style_of}
 use Rattle.mbe_semantics.specs.Readings.Item.{Fragment}
-use Rattle.mbe_semantics.specs.Fragments.Takes.{takes}
+use Rattle.mbe_semantics.specs.Fragments.FragmentFront.{fragment_front}
 use Rattle.mbe_semantics.specs.Readings.Fit.{token_front, separator_front}
 use Rattle.mbe_semantics.specs.Readings.Input.{length_of, fragment_of, is_opening, is_none, input_of}
 use Rattle.mbe_semantics.specs.Laws.Lawful.{Lawful}
@@ -91,16 +92,17 @@ module _ (g : Grammar) (argument : Forest) where
       rest_within argument p n (separator_some s p n e) (omega (arith, m, k))
 
   fragment_empty : IsLawful g → (kind : Option MetaVarKind) (p : ℕ) (x : Fragment)
-      → fragment_of kind (takes g kind (rest_at argument p)) ≡ Some x → flat_len x.trees ≡ 0 → is_vis kind ≡ true
+      → fragment_of kind (fragment_front g kind (rest_at argument p)) ≡ Some x → flat_len x.trees ≡ 0 → is_vis kind
+      ≡ true
   fragment_empty w kind p x e z =
-      let r = fragment_from kind (takes g kind (rest_at argument p)) x e in
+      let r = fragment_from kind (fragment_front g kind (rest_at argument p)) x e in
       takes_empty g w kind (rest_at argument p) r.0 r.1 (ap flat_len r.2 ∙ z)
 
   pub fragment_end : (kind : Option MetaVarKind) (p : ℕ) (x : Fragment)
-      → fragment_of kind (takes g kind (rest_at argument p)) ≡ Some x → 0 < flat_len x.trees
+      → fragment_of kind (fragment_front g kind (rest_at argument p)) ≡ Some x → 0 < flat_len x.trees
       → p + flat_len x.trees ≤ flat_len argument
   fragment_end kind p x e l =
-      let r = fragment_from kind (takes g kind (rest_at argument p)) x e in
+      let r = fragment_from kind (fragment_front g kind (rest_at argument p)) x e in
       let m = front_within (rest_at argument p) r.0 (takes_cut g kind (rest_at argument p) r.0 r.1) in
       let k = ap flat_len r.2 in
       rest_within argument p (flat_len x.trees) l (omega (arith, m, k))

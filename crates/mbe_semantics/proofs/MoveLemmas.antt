@@ -1,24 +1,28 @@
 -- What is read at a place takes at least one flat token; only a fragment of kind `vis` may take none.
-use Rattle.std.specs.Prelude.{codes, ◌≡◌, ◌≤◌, ◌<◌, ◌+◌, ◌==◌, ◌&&◌, ◌||◌, not, ℕ, zero, suc, Bool, true, false, if◌then◌else◌, List, [], ◌∷◌, length, take, Option, Some, None, refl}
+use Rattle.std.specs.Prelude.{codes, ◌≡◌, ◌≤◌, ◌<◌, ◌+◌, ◌==◌, ◌&&◌, ◌||◌, not, ℕ, zero, suc, Bool, true, false}
+use Rattle.std.specs.Prelude.{if◌then◌else◌, List, [], ◌∷◌, length, take, Option, Some, None, refl}
 use Rattle.std.proofs.Common.{arith, ap, subst, eqb-true}
 use Rattle.std.specs.Str.{bytes_eq}
 use Rattle.std.proofs.lemmas.Option.{same_Some}
-use Rattle.mbe_semantics.specs.declared.kinds.MetaVarKind.{MetaVarKind}
-use Rattle.mbe_semantics.specs.declared.kinds.Taker.{Taker}
-use Rattle.mbe_semantics.specs.declared.kinds.Taker.TheVariants as takers
+use Rattle.mbe_semantics.specs.declared.fragment_kinds.MetaVarKind.{MetaVarKind}
+use Rattle.mbe_semantics.specs.declared.fragment_kinds.FragmentParser.{FragmentParser}
+use Rattle.mbe_semantics.specs.declared.fragment_kinds.FragmentParser.TheVariants as fragment_parsers
 use Rattle.mbe_semantics.specs.Fragments.Kinds.{facts}
 use Rattle.mbe_tt.specs.declared.tt.Punct.{Punct}
 use Rattle.mbe_tt.specs.declared.grammar.PrefixEntryPoint.{PrefixEntryPoint}
 use Rattle.mbe_tt.specs.declared.grammar.PrefixEntryPoint.TheVariants as entries
 use Rattle.mbe_tt.specs.Trees.Leaf.{Leaf, ident, literal, punct, is_text, is_underscore}
-use Rattle.mbe_tt.specs.Trees.Tree.{Forest, none, leaf, group, flat, flat_len, Cut, cut_trees, is_truth}
+use Rattle.mbe_tt.specs.Trees.Tree.{Forest, none, leaf, group, flat, flat_len, Cut, cut_trees, is_bool_text}
 use Rattle.mbe_tt.specs.Trees.Glue.{glue, chars_of, if_joint, joined, longest_operator, is_operator}
-use Rattle.mbe_tt.specs.Fragments.Grammar.{Grammar, IsLawful, front, is_good, good_front}
-use Rattle.mbe_tt.proofs.Places.CutLemmas.{no_cut, if_moves, no_true, both_left, both_right}
+use Rattle.mbe_tt.specs.Grammars.Grammar.{Grammar, IsLawful, front, is_accepted, accepted_front}
+use Rattle.mbe_tt.proofs.Offsets.CutLemmas.{no_cut, if_moves, no_true, both_left, both_right}
 use Rattle.mbe_semantics.specs.Syntax.Op as ops
 use Rattle.mbe_semantics.specs.Syntax.Nullable.{is_vis, may_find_nothing}
-use Rattle.mbe_semantics.specs.Fragments.Takes.{takes, takes_by, is_refused, ident_front, lifetime_front, unsigned_front, literal_front, tree_front, with_leaf}
-use Rattle.mbe_semantics.specs.Readings.Fit.{token_front, literal_text_front, ident_text_front, puncts_front, lifetime_text_front, literal_separator_front, separator_front}
+use Rattle.mbe_semantics.specs.Fragments.FragmentFront.{fragment_front, fragment_front_by, is_refused, ident_front}
+use Rattle.mbe_semantics.specs.Fragments.FragmentFront.{lifetime_front, unsigned_front, literal_front, tree_front}
+use Rattle.mbe_semantics.specs.Fragments.FragmentFront.{with_leaf}
+use Rattle.mbe_semantics.specs.Readings.Fit.{token_front, literal_text_front, ident_text_front, puncts_front}
+use Rattle.mbe_semantics.specs.Readings.Fit.{lifetime_text_front, literal_separator_front, separator_front}
 
 pub leaf_moves : (n : ℕ) (l : Leaf) (rest : Forest) → 0 < n → 1 ≤ flat_len (cut_trees n (leaf l rest)).front
 leaf_moves zero l rest h = absurd (omega (arith, h))
@@ -55,7 +59,7 @@ lifetime_text_moves text _ c e = no_cut e
 
 literal_separator_moves : (text : List ℕ) (f : Forest) (c : Cut) → literal_separator_front text f ≡ Some c
     → 1 ≤ flat_len c.front
-literal_separator_moves text (leaf (ident i) rest) c e = go (is_truth text) e
+literal_separator_moves text (leaf (ident i) rest) c e = go (is_bool_text text) e
   where
     go : (b : Bool) → (if b then ident_text_front text (leaf (ident i) rest) else None) ≡ Some c → 1 ≤ flat_len c.front
     go true h = ident_moves text (leaf (ident i) rest) c h
@@ -146,10 +150,10 @@ not_true false e = refl
 
 -- a good front of no flat token was asked for at the entry of `vis`
 good_empty : (g : Grammar) → IsLawful g → (entry : PrefixEntryPoint) (f : Forest) (c : Cut)
-    → good_front g entry f ≡ Some c → flat_len c.front ≡ 0 → entry ≡ entries.Vis
-good_empty g w entry f c e z = go (is_good g entry f) refl e
+    → accepted_front g entry f ≡ Some c → flat_len c.front ≡ 0 → entry ≡ entries.Vis
+good_empty g w entry f c e z = go (is_accepted g entry f) refl e
   where
-    go : (b : Bool) → is_good g entry f ≡ b → (if b then Some (front g entry f) else None) ≡ Some c
+    go : (b : Bool) → is_accepted g entry f ≡ b → (if b then Some (front g entry f) else None) ≡ Some c
         → entry ≡ entries.Vis
     go true h k =
         let same : flat_len (front g entry f).front ≡ (g.parse entry (flat f)).count =
@@ -164,21 +168,23 @@ good_empty g w entry f c e z = go (is_good g entry f) refl e
 some_taken : {A : Type 0} (c : Cut) → 1 ≤ flat_len c.front → flat_len c.front ≡ 0 → A
 some_taken c l z = absurd (omega (arith, l, z))
 
-takes_by_empty : (g : Grammar) → IsLawful g → (kind : MetaVarKind) (taker : Taker) (f : Forest) (c : Cut)
-    → takes_by g kind taker f ≡ Some c → flat_len c.front ≡ 0 → may_find_nothing taker ≡ true
-takes_by_empty g w kind (takers.Grammar entry) f c e z = go (is_refused kind f) e
+takes_by_empty : (g : Grammar) → IsLawful g
+    → (kind : MetaVarKind) (fragment_parser : FragmentParser) (f : Forest) (c : Cut)
+    → fragment_front_by g kind fragment_parser f ≡ Some c → flat_len c.front ≡ 0 → may_find_nothing fragment_parser
+    ≡ true
+takes_by_empty g w kind (fragment_parsers.Grammar entry) f c e z = go (is_refused kind f) e
   where
-    go : (b : Bool) → (if b then None else good_front g entry f) ≡ Some c
-        → may_find_nothing (takers.Grammar entry) ≡ true
+    go : (b : Bool) → (if b then None else accepted_front g entry f) ≡ Some c
+        → may_find_nothing (fragment_parsers.Grammar entry) ≡ true
     go true h = no_cut h
-    go false h = ap (λ x. may_find_nothing (takers.Grammar x)) (good_empty g w entry f c h z)
-takes_by_empty g w kind takers.Identifier f c e z = some_taken c (name_moves f c e) z
-takes_by_empty g w kind takers.Lifetime f c e z = some_taken c (lifetime_moves f c e) z
-takes_by_empty g w kind takers.Tree f c e z = some_taken c (tree_moves f c e) z
-takes_by_empty g w kind takers.Literal f c e z = some_taken c (number_moves f c e) z
+    go false h = ap (λ x. may_find_nothing (fragment_parsers.Grammar x)) (good_empty g w entry f c h z)
+takes_by_empty g w kind fragment_parsers.Identifier f c e z = some_taken c (name_moves f c e) z
+takes_by_empty g w kind fragment_parsers.Lifetime f c e z = some_taken c (lifetime_moves f c e) z
+takes_by_empty g w kind fragment_parsers.Tree f c e z = some_taken c (tree_moves f c e) z
+takes_by_empty g w kind fragment_parsers.Literal f c e z = some_taken c (number_moves f c e) z
 
 -- what a variable takes over no flat token, it takes as a `vis`
 pub takes_empty : (g : Grammar) → IsLawful g → (kind : Option MetaVarKind) (f : Forest) (c : Cut)
-    → takes g kind f ≡ Some c → flat_len c.front ≡ 0 → is_vis kind ≡ true
+    → fragment_front g kind f ≡ Some c → flat_len c.front ≡ 0 → is_vis kind ≡ true
 takes_empty g w None f c e z = no_cut e
-takes_empty g w (Some kind) f c e z = takes_by_empty g w kind (facts kind).taker f c e z
+takes_empty g w (Some kind) f c e z = takes_by_empty g w kind (facts kind).fragment_parser f c e z

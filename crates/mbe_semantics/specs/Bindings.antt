@@ -1,4 +1,4 @@
--- What a reading binds, and the account of a handle into the log.
+-- What a reading binds, and what a handle of the log of bindings stands for.
 pub mod Environment
 pub mod Missing
 pub mod Account

@@ -1,8 +1,8 @@
 -- The expansion theorem: macros, errors, the choice of the rule, recovery.
 pub mod Macro
 pub mod Error
-pub mod Failing
+pub mod MatchError
 pub mod Expansion
 pub mod Recovery
-pub mod ReadAs
+pub mod ParsedMacro
 pub mod FromTrees

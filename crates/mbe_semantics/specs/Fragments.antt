@@ -1,3 +1,3 @@
--- The kinds of fragments, and what a variable takes of an argument.
+-- The kinds of fragments, and the fragment that a variable matches at the front of trees.
 pub mod Kinds
-pub mod Takes
+pub mod FragmentFront

@@ -1,4 +1,4 @@
--- Statements about the definitions, proved in mbe_laws.
+-- Laws of the specification, proved in mbe_laws.
 pub mod Laws
-pub mod Marking
+pub mod Callbacks
 pub mod Lawful

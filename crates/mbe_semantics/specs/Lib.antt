@@ -2,7 +2,7 @@ pub mod Syntax
 pub mod Fragments
 pub mod Readings
 pub mod Bindings
-pub mod Writing
+pub mod Transcription
 pub mod Expansion
 pub mod Laws
 pub mod Examples

@@ -1,8 +1,8 @@
--- Tools of the matcher's proof: runs, outlines, what is held at a place.
+-- How the matcher works, for its proof: runs, threads, and the closure at each offset.
 pub mod Lists
-pub mod Story
-pub mod Outline
-pub mod Dots
-pub mod Held
+pub mod Trace
+pub mod ThreadModel
+pub mod States
+pub mod Closure
 pub mod Run
-pub mod Settled
+pub mod Frontier

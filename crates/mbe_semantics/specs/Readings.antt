@@ -1,4 +1,4 @@
--- How a pattern reads an argument: items, beginnings, steps, ambiguity, verdicts.
+-- How a pattern reads an argument: items, partial readings, steps, local ambiguity, verdicts.
 pub mod Item
 pub mod Fit
 pub mod Input

@@ -1,8 +1,10 @@
-// What macros by example mean: the grammar of definitions, matching, transcription; and the plain words of it. A layer of
-// `mbe`: use that crate.
+// What macros by example mean. The specification is in `specs`: the grammar of definitions,
+// matching, bindings, transcription, and which rule expands a call. The code here is only the small
+// types that the specification and the other crates share. Callers use the crate `mbe`, which is
+// built on this one.
 #![tactic(auto)]
 
-pub mod kinds;
-pub mod log;
+pub mod current_round;
+pub mod fragment_kinds;
+pub mod list_prefix;
 pub mod macro_call_style;
-pub mod rounds;

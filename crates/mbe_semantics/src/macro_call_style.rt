@@ -1,5 +1,5 @@
-// How a macro is called.
-/// The style of a macro call, which a rule of a definition is for (as in rust-analyzer).
+// The three styles of macro calls.
+/// The style of a macro call. Each rule of a definition is for one style (as in rust-analyzer).
 #[derive(Clone, Copy, Debug, Drop, PartialEq, Eq)]
 pub enum MacroCallStyle {
     /// `name!(..)`.

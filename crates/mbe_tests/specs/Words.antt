@@ -4,7 +4,7 @@ use Rattle.std.specs.Str.{bytes_eq}
 use Rattle.std.proofs.Common.{arith, true≢false}
 use Rattle.mbe_tt.specs.Trees.Leaf.{literal, punct, ident}
 use Rattle.mbe_tt.specs.Trees.Tree.{FlatToken, token, opening, closing}
-use Rattle.mbe_tt.specs.Fragments.Grammar.{Grammar, IsLawful}
+use Rattle.mbe_tt.specs.Grammars.Grammar.{Grammar, IsLawful}
 use Rattle.mbe_tt.specs.declared.grammar.Front.{Front}
 
 abbrev pub one_token : Front
@@ -24,7 +24,11 @@ word_front (closing d ∷ more) = no_fragment
 
 -- the same at each entry point; the one keyword is `let`
 abbrev pub words : Grammar
-words = record { parse = λ entry tokens. word_front tokens; is_keyword = λ text. bytes_eq text (codes "let") }
+words = record {
+  parse = λ entry tokens. word_front tokens;
+  is_keyword = λ text. bytes_eq text
+      (codes "let");
+}
 
 -- ---- it is lawful
 

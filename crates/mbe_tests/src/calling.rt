@@ -1,17 +1,18 @@
-// The examples of docs/CALLING.md, word for word, and tests that run them; users of the binding log, who see its contracts alone.
+// The examples of docs/CALLING.md, word for word, with tests that run them. `logs` has users of the
+// binding log, who see its contracts alone.
 mod bindings;
 mod definitions;
 mod expansions;
-mod explaining;
 mod grammars;
+mod group_views;
 mod logs;
 mod memory;
 mod results;
 mod rows;
-mod small;
-mod tables;
-mod texts;
+mod rule_table;
+mod rule_verdicts;
+mod small_values;
+mod text_trees;
 mod theorem;
-mod viewing;
+mod tree_builder;
 mod walks;
-mod writing;

@@ -5,8 +5,9 @@ use mbe::DeclarativeMacro;
 use std::alloc::{AllocError, Global};
 use test_rows::{nth, rows};
 
-// Definitions, of which the first thirteen have macros that differ from one another, and from those of the further ones. All but two of the
-// thirteen are at the same places. Then pairs that are equal: their separators are at different places.
+// Definitions. The macros of the first thirteen differ from each other and from all later ones; all
+// but two of the thirteen are at the same places. Then come pairs that are equal, whose separators
+// are at different places.
 pub const ROWS: &str = rows![
     ("($($x:ident),*) => {}"),
     ("($($x:ident);*) => {}"),
@@ -21,8 +22,8 @@ pub const ROWS: &str = rows![
     (""),
     ("attr() ($($x:ident),*) => {}"),
     ("( $($x:ident),*) => {}"),
-    // With a fault, with a refusal, and with rules alone; and with groups or repetitions in one another as deep as may be, which
-    // docs/DECISIONS.md gives.
+    // A macro with a fault, one that is refused, and ones with rules alone; and groups or
+    // repetitions nested as deep as docs/DECISIONS.md allows.
     ("unsafe attr(x) ($a:ident $b:literal [c] 1 + $($d:expr),* $($e:ty)'f + $($g:tt)1? $(h)=>* \
     $(i)* $(k)and* $crate) => {$a $j [c] 1 + $($d $e);* $($g)? ${ignore($a)} ${index()} ${len(1)} ${count($d)} ${count($e, 1)} \
     ${concat(a, $a, 1)} $$ $crate $}; () => {}; x"),
@@ -37,7 +38,7 @@ pub const ROWS: &str = rows![
     ("($($x:ident)'a*) => {}", "($($x:ident) 'a*) => {}"),
 ];
 
-// Whether the macro of a text equals a copy of it, and of the thirteen only its own.
+// Whether the macro of a text equals a copy of itself, and among the thirteen only its own.
 fn is_different(alloc: Global, rules: &DeclarativeMacro, text: &str) -> Result<bool, AllocError> {
     for number in 0..13u64 {
         let other = nth(ROWS, number);
@@ -48,8 +49,9 @@ fn is_different(alloc: Global, rules: &DeclarativeMacro, text: &str) -> Result<b
     Ok(rules.try_clone(alloc)? == *rules)
 }
 
-/// Whether the macro of a text is so, or equals that of the other one.
-pub fn is_so(alloc: Global, one: &str, two: &str) -> Result<bool, AllocError> {
+/// Whether the macro of the first text passes `is_different`, or equals the macro of the second
+/// text if there is one.
+pub fn passes(alloc: Global, one: &str, two: &str) -> Result<bool, AllocError> {
     let rules = parsed(alloc, &read(alloc, 0, one)?)?;
     if two.is_empty() {
         is_different(alloc, &rules, one)

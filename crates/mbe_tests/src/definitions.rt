@@ -1,4 +1,5 @@
-// Which rules of a definition are kept, the styles of its rules, and its error; of definitions by `macro` too.
+// Reading definitions: which rules are kept, the styles of the rules, and the error. Definitions by
+// `macro` are among them.
 use crate::runs::parsed;
 use crate::trees::{lexed, read};
 use bitflags::Flags;
@@ -8,8 +9,8 @@ use mbe_tt::tt::TopSubtree;
 use std::alloc::{AllocError, Allocator, Global};
 use test_rows::{Fields, rows};
 
-/// The macro of trees by the sort of its definition: `rules` of a `macro_rules!`, the `body` of a `macro`, or what has arguments before
-/// its body.
+/// Reads the macro of trees by the kind of its definition: `rules` for a `macro_rules!`, `body` for
+/// a `macro`, else the arguments before its body.
 pub fn read_as<A: Allocator + Copy>(
     alloc: A,
     sort: &str,
@@ -23,7 +24,8 @@ pub fn read_as<A: Allocator + Copy>(
     DeclarativeMacro::parse_macro2(alloc, args, body, |_context| Edition::Edition2024)
 }
 
-/// The macro of a text, or of tokens. Where it has arguments, its sort is their text. Both are file 0.
+/// Reads the macro of a text, or of tokens. If it has arguments, `sort` is their text. Both are
+/// file 0.
 pub fn defined_as(
     alloc: Global,
     sort: &str,
@@ -34,7 +36,8 @@ pub fn defined_as(
     read_as(alloc, sort, &args, &body)
 }
 
-/// Whether that is read: the number of rules that are kept, the bits of their styles, and the error, if there is one.
+/// Whether the definition is read as the row says: the number of rules that are kept, the bits of
+/// their styles, and the error, if there is one.
 pub fn is_read(alloc: Global, [sort, definition, want, ..]: Fields) -> Result<bool, AllocError> {
     let rules = defined_as(alloc, sort, definition)?;
     let count = rules.num_rules();
@@ -43,7 +46,7 @@ pub fn is_read(alloc: Global, [sort, definition, want, ..]: Fields) -> Result<bo
     Ok(found.as_str() == want)
 }
 
-// The sort of a definition, the definition, and what is read of it.
+// Each row: the kind of definition, the definition, and what is read of it.
 pub const ROWS: &str = rows![
     // Rules before a fault are kept. Definitions without rules before a fault are in tests/mbex.
     ("rules", "() => {} x", "1 1 Some(Expected(\"expected `;`\"))"),
@@ -60,7 +63,7 @@ pub const ROWS: &str = rows![
     ("rules", "() => {}; ($()*) => {}; () => {}", "3 1 Some(RepetitionEmptyTokenTree)"),
     ("rules", "($()*) => {}; ($x) => {}", "1 1 Some(RepetitionEmptyTokenTree)"),
     ("rules", "($()*) => {} () => {}", "1 1 Some(RepetitionEmptyTokenTree)"),
-    // the rule that is refused isn't kept
+    // The rule that is refused isn't kept.
     ("rules", "() => {}; ($()* $x) => {}", "1 1 Some(UnexpectedToken(\"missing fragment specifier\"))"),
     ("rules", "() => {${len()}}; () => {${len(x)}}; () => {}", "1 1 Some(UnexpectedToken(\"invalid metavariable expression\"))"),
     ("rules", "() => {}; attr => {}", "1 1 Some(Expected(\"expected `()`\"))"),
@@ -84,8 +87,8 @@ pub const ROWS: &str = rows![
     ("rules", "($x:foo) => {}; ($($t:tt)*) =", "1 1 Some(Expected(\"expected `>`\"))"),
     ("rules", "($x:foo) => {}; ($($t:tt)*) => ", "1 1 Some(Expected(\"expected subtree\"))"),
     ("rules", "(a) => {A}; ($x) => {}", "1 1 Some(UnexpectedToken(\"missing fragment specifier\"))"),
-    // Definitions that no text gives.
-    // A quote that no name follows separates rounds, as in `($(a)' *) => {$(a)' *}`.
+    // Definitions that no text gives. A quote without a name after it separates rounds, as in
+    // `($(a)' *) => {$(a)' *}`.
     ("rules", "tokens 22
 open ( 0 0 1
 alone $ 0 1 2
@@ -126,7 +129,7 @@ joint ' 0 19 20
 word b 0 21 22
 alone ? 0 22 23
 close } 0 23 24", "1 1 None"),
-    // Or it is invalid: `b'*`, `''b*` and `'1*`.
+    // Such a quote may also be invalid: `b'*`, `''b*` and `'1*`.
     ("rules", "tokens 15
 open ( 0 0 1
 alone $ 0 1 2
@@ -213,7 +216,8 @@ joint ' 0 11 12
 number 1 0 12 13
 alone * 0 13 14
 close } 0 14 15", "0 1 Some(InvalidRepeat)"),
-    // `() => {${len(u8)}}` where the `u8` is a number of a suffix alone, and `() => {${len 1}}` with an invisible group around the `1`.
+    // `() => {${len(u8)}}` where the `u8` is a number of a suffix alone, and `() => {${len 1}}`
+    // with an invisible group around the `1`.
     ("rules", "tokens 23
 open ( 0 0 1
 close ) 0 1 2
@@ -262,10 +266,10 @@ close ) 0 22 23", "0 1 Some(UnexpectedToken(\"invalid metavariable expression\")
     ("$x", "$[a]", "0 1 Some(UnexpectedToken(\"missing fragment specifier\"))"),
     ("$[a]", "$1", "0 1 Some(Expected(\"expected `$()` repetition or `${}` expression\"))"),
     ("", "() => {} x", "1 1 None"),
-    // What is refused has its styles.
+    // A definition that is refused has its styles.
     ("$()*", "", "1 1 Some(RepetitionEmptyTokenTree)"),
     ("body", "derive() ($()*) => {}, x", "1 4 Some(RepetitionEmptyTokenTree)"),
-    // Arguments and a body are one rule, which no attribute calls.
+    // Arguments and a body are one rule, which no attribute call uses.
     ("attr $x:ident", "[$x] => {}", "1 1 None"),
     // The bits of the styles.
     ("rules", "attr() () => {A}; () => {B}", "2 3 None"),

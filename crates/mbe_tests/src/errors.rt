@@ -1,11 +1,12 @@
-// Errors with their places, and texts that no program shows. Those of other errors are in tests/mbex.
+// Errors with their spans, and messages that no program shows. The other errors are tested in
+// tests/mbex.
 use crate::tokens::at;
 use mbe::{CountError, ExpandError, ExpandErrorKind, ParseError};
 use mbe_tt::span::Span;
 use std::alloc::{AllocError, Global};
 use std::error::Error;
 
-/// Whether the error is that text, with its file and its bytes. There is none where nothing is wanted.
+/// Whether the error has that text, file and bytes. An empty `want` means no error.
 pub fn is_error(
     alloc: Global,
     error: Option<&ExpandError>,
@@ -24,19 +25,19 @@ pub fn is_error(
     Ok(shown.as_str() == want && error.inner.0 == at(file, start, end))
 }
 
-// Whether that is shown of an error of the standard library's kind.
+// Whether an error of the standard library's kind has that text.
 fn is_shown<E: Error>(alloc: Global, error: &E, want: &str) -> Result<bool, AllocError> {
     let text = format!(in alloc; "{error}")?;
     Ok(text.as_str() == want)
 }
 
-// Whether an error of an expansion and its clone are shown so.
+// Whether an expansion's error and its clone have these texts.
 fn is_cloned(alloc: Global) -> Result<bool, AllocError> {
     let error: ExpandError = ExpandError::new(alloc, at(1, 1, 9), ExpandErrorKind::LimitExceeded)?;
     Ok(is_shown(alloc, &error.clone()?, "Expand exceed limit")? && error.clone()? == error)
 }
 
-/// Whether each error is one of the standard library, with its text.
+/// Whether each error is one of the standard library's kind, with its text.
 pub fn are_errors(alloc: Global) -> Result<bool, AllocError> {
     let parse: ParseError = ParseError::InvalidRepeat;
     let kind: ExpandErrorKind = ExpandErrorKind::LeftoverTokens;

@@ -5,7 +5,7 @@ use anyhow::bail;
 use mbe::{DeclarativeMacro, MacroCallStyle};
 use mbe_grammar::SampleGrammar;
 use mbe_text::lexer::lex;
-use mbe_text::printing::print_tree;
+use mbe_text::tree_dump::print_tree;
 use mbe_tt::span::Edition;
 use std::alloc::{AllocError, Global};
 use std::io::Write;
@@ -37,7 +37,8 @@ pub fn print_expanded<W: Write>(
     Ok(())
 }
 
-// Rules, an argument, and what is printed; nothing where the definition or the call has an error.
+// Each row: rules, an argument, and what is printed. Nothing is printed if the definition or the
+// call has an error.
 pub const PRINTED: &str = rows![
     (
         "($x:ident = $t:tt;) => { pair ($t) $x }",
@@ -54,7 +55,7 @@ pub const PRINTED: &str = rows![
     ("($x:ident) => {$x} x", "a", ""),
 ];
 
-/// Whether that is printed.
+/// Whether the row's text is printed.
 pub fn is_printed(alloc: Global, [rules, argument, want, ..]: Fields) -> Result<bool, AllocError> {
     if rules.len() > u32::MAX as usize || argument.len() > u32::MAX as usize {
         return Err(AllocError);

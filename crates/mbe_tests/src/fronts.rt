@@ -1,4 +1,4 @@
-// What `expect_fragment` takes from the front of an iterator, and what it reports.
+// Fragments at the front of an iterator: what `expect_fragment` consumes, and what it reports.
 use crate::errors::is_error;
 use crate::grammar::grammar_of;
 use crate::tokens::{at, byte};
@@ -26,13 +26,13 @@ fn entry_of(name: &str) -> PrefixEntryPoint {
     }
 }
 
-// The bytes of a row, if there are some.
+// Returns the span of the bytes in a row, if there are any.
 fn span_of(bytes: &str) -> Option<Span> {
     let (start, end) = bytes.split_once(' ')?;
     Some(at(1, byte(start), byte(end)))
 }
 
-// Whether a front has so many trees and flat tokens, and that error.
+// Whether a fragment has that many trees and flat tokens, and that error.
 fn is_front(
     alloc: Global,
     front: &ExpandResult<TokenTreesView<'_>>,
@@ -43,8 +43,8 @@ fn is_front(
     Ok(found.as_str() == size && is_error(alloc, front.err.as_ref(), error)?)
 }
 
-/// Whether a row is so.
-pub fn is_so(
+/// Whether a row passes.
+pub fn passes(
     alloc: Global,
     [grammar, entry, text, size, next, error]: Fields,
 ) -> Result<bool, AllocError> {
@@ -61,8 +61,9 @@ pub fn is_so(
     }
 }
 
-// How many flat tokens the grammar takes, and its end, an entry point and a text, the numbers of trees and of flat tokens of its front, where
-// the next tree is, and the error with its file and its bytes.
+// Each row: how many flat tokens the grammar counts, and how it ends; an entry point and a text;
+// the numbers of trees and of flat tokens of the fragment; where the next tree is; and the error
+// with its file and its bytes.
 pub const ROWS: &str = rows![
     // Whole trees.
     ("0", "Vis", "", "0 0", "", ""),
@@ -72,7 +73,7 @@ pub const ROWS: &str = rows![
     ("4", "Expr", "(a b) c", "1 4", "6 7", ""),
     ("9", "Expr", "(a b) c", "2 5", "", ""),
     ("2", "Expr", "(a b) c", "1 4", "6 7", "expected Expr 1 0 1"),
-    // A front that ends in a group takes all of it.
+    // A fragment that ends inside a group is extended to all of the group.
     ("2", "Ty", "x[a{b}()] z", "2 9", "10 11", "expected Ty 1 0 1"),
     ("3", "Ty", "x[a{b}()] z", "2 9", "10 11", "expected Ty 1 0 1"),
     ("4", "Ty", "x[a{b}()] z", "2 9", "10 11", "expected Ty 1 0 1"),
@@ -81,7 +82,8 @@ pub const ROWS: &str = rows![
     ("7", "Ty", "x[a{b}()] z", "2 9", "10 11", "expected Ty 1 0 1"),
     ("8", "Ty", "x[a{b}()] z", "2 9", "10 11", "expected Ty 1 0 1"),
     ("9", "Ty", "x[a{b}()] z", "2 9", "10 11", ""),
-    // A fault is reported by the name of its entry point; those of the others are in tests/mbex.
+    // A fault is reported by the name of its entry point. The other entry points are tested in
+    // tests/mbex.
     ("0 fault", "Expr", "", "0 0", "", "expected Expr 1 98 99"),
     ("1 fault", "Expr", "a b", "1 1", "2 3", "expected Expr 1 0 1"),
     ("0 fault", "Ty", "", "0 0", "", "expected Ty 1 98 99"),

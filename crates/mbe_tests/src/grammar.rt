@@ -1,4 +1,4 @@
-// The grammars that the tests hand in.
+// The grammars that the tests supply.
 ghost use Rattle.std.specs.Prelude.{◌≡◌};
 ghost use borrow.Author.Rules.{rules};
 ghost use Rattle.mbe_tests.specs.Counting.{may_be_empty};
@@ -8,8 +8,8 @@ use mbe_tt::tt::TokenTreesView;
 use std::alloc::{AllocError, Allocator};
 use test_rows::number;
 
-/// A grammar that takes so many flat tokens of everything, or all where there are fewer. It faults where it takes none, but
-/// for `Vis`, and everywhere if it is made so; or it is out of memory.
+/// A grammar that counts a fixed number of flat tokens, or all if there are fewer. It faults if it
+/// counts none, except at `Vis`. It may also be made to fault everywhere, or to run out of memory.
 #[derive(Clone, Copy)]
 pub struct Counting {
     count: usize,
@@ -17,7 +17,8 @@ pub struct Counting {
     is_out: bool,
 }
 
-/// The grammar of a row: how many flat tokens it takes, and after a space `fault` if it faults, or `out` if it is out of memory.
+/// Parses the grammar of a row: how many flat tokens it counts, then `fault` if it faults, or `out`
+/// if it runs out of memory.
 pub fn grammar_of(row: &str) -> Counting {
     let (count, end) = row.split_once(' ').unwrap_or((row, ""));
     Counting {
@@ -34,7 +35,7 @@ pub const NOTHING: Counting = Counting {
     is_out: false,
 };
 
-#[tactic(auto, using(mbe_tt::proofs::Places::CutLemmas::flat_length))]
+#[tactic(auto, using(mbe_tt::proofs::Offsets::CutLemmas::flat_length))]
 impl FragmentGrammar for Counting {
     ghost use Rattle.mbe_tests.specs.Counting.{counting, counting_lawful};
 

@@ -1,36 +1,41 @@
-// Tests of the calls of `mbe`, `mbe_tt` and the program's `run` that a built program can't show, and no contract says in as many words:
-// trees that no text gives, grammars and markers that are handed in, rules that are kept beside a fault, equality of macros, derived texts,
-// memory that runs out at any request, and writers that fail at any call; and the examples of docs/CALLING.md (`calling`). What the
-// program prints is tested by tests/mbex. The layers of texts and of what is around an expansion have their tests in `text`.
+// Tests of what a built program can't show and no contract says: trees that no text gives, grammars
+// and markers that a caller supplies, rules that are kept beside a fault, equality of macros,
+// `Debug` texts, allocation failures at any request, and writers that fail at any call.
+//
+// The tests call `mbe`, `mbe_tt` and `run` of `mbe_program`. `calling` has the examples of
+// docs/CALLING.md. `text` tests the crates of texts and of Rust files. What the program prints is
+// tested by tests/mbex.
 #![tactic(auto)]
 
 #[cfg(test)]
-mod calling;
+mod alloc_failures;
 #[cfg(test)]
-mod calls;
+mod call_rows;
+#[cfg(test)]
+mod calling;
 #[cfg(test)]
 mod copies;
 #[cfg(test)]
+mod debug_texts;
+#[cfg(test)]
 mod definitions;
+#[cfg(test)]
+mod error_spans;
 #[cfg(test)]
 mod errors;
 #[cfg(test)]
 mod example;
 #[cfg(test)]
-mod expanding;
-#[cfg(test)]
 mod fronts;
 #[cfg(test)]
 mod grammar;
 #[cfg(test)]
-mod marking;
+mod marker_calls;
 pub mod one_token;
 #[cfg(test)]
-mod places;
+mod program_rows;
 #[cfg(test)]
 mod runs;
-#[cfg(test)]
-mod shown;
 #[cfg(test)]
 mod styles;
 #[cfg(test)]
@@ -43,7 +48,5 @@ mod tokens;
 mod trees;
 #[cfg(test)]
 mod verdicts;
-#[cfg(test)]
-mod worked;
 #[cfg(test)]
 mod writers;

@@ -1,14 +1,15 @@
-// A grammar as small as the laws of grammars allow. Edits of it show that the laws refuse what isn't lawful.
+// A grammar as small as the laws of grammars allow. Mutants of it show that the laws refuse an
+// unlawful grammar.
 ghost use borrow.Author.Rules.{rules};
 
 use mbe_tt::grammar::{FragmentGrammar, Front, PrefixEntryPoint};
 use mbe_tt::tt::TokenTreesView;
 use std::alloc::{AllocError, Allocator};
 
-/// A grammar that takes one flat token of everything, and faults where there is none.
+/// A grammar that counts one flat token of everything, and faults where there is none.
 pub struct OneToken;
 
-#[tactic(auto, using(mbe_tt::proofs::Places::CutLemmas::flat_length))]
+#[tactic(auto, using(mbe_tt::proofs::Offsets::CutLemmas::flat_length))]
 impl FragmentGrammar for OneToken {
     ghost use Rattle.std.specs.Prelude.{false, ◌==◌, min, length};
 

@@ -4,7 +4,7 @@ ghost use Rattle.mbe.specs.MacroViews.{macro_of};
 
 use crate::errors::is_error;
 use crate::grammar::{NOTHING, grammar_of};
-use crate::trees::{built_of, lexed, read};
+use crate::trees::{build_trees, lexed, read};
 use mbe::{DeclarativeMacro, ExpandResult, MacroCallStyle, MatchedArmIndex};
 use mbe_tt::grammar::FragmentGrammar;
 use mbe_tt::span::{Edition, Span};
@@ -14,7 +14,7 @@ use test_rows::Fields;
 
 pub type Expansion<A> = ExpandResult<(TopSubtree<A>, MatchedArmIndex), A>;
 
-/// The macro of a definition that is read in edition 2024.
+/// Reads the macro of a definition, in edition 2024.
 pub fn parsed<A: Allocator + Copy>(
     alloc: A,
     definition: &TopSubtree<A>,
@@ -22,7 +22,7 @@ pub fn parsed<A: Allocator + Copy>(
     DeclarativeMacro::parse_macro_rules(alloc, definition, |_context| Edition::Edition2024)
 }
 
-/// The same of a text, which is file 0.
+/// Reads the macro of a text, which is file 0.
 pub fn defined<A: Allocator + Copy>(
     alloc: A,
     definition: &str,
@@ -30,12 +30,12 @@ pub fn defined<A: Allocator + Copy>(
     parsed(alloc, &lexed(alloc, 0, definition)?)
 }
 
-/// The span of the whole argument, which is the call site of each expansion here.
+/// Returns the span of the whole argument, which is the call site of each expansion here.
 pub fn whole<A: Allocator>(argument: &TopSubtree<A>) -> Span {
     argument.top_subtree().delimiter.opening
 }
 
-/// The expansion of a call in a style by a grammar, with all spans as they are.
+/// Expands a call in a style by a grammar. All spans are unchanged.
 pub fn expanded<A: Allocator + Copy, G: FragmentGrammar>(
     alloc: A,
     grammar: &G,
@@ -49,7 +49,7 @@ pub fn expanded<A: Allocator + Copy, G: FragmentGrammar>(
     rules.expand(alloc, grammar, argument, |span| span, style, call_site)
 }
 
-/// The expansion of a call like a function by a macro that was read without a fault.
+/// Expands a call in the style of a function, by a macro that was read without a fault.
 pub fn made<A: Allocator + Copy, G: FragmentGrammar>(
     alloc: A,
     grammar: &G,
@@ -63,7 +63,8 @@ pub fn made<A: Allocator + Copy, G: FragmentGrammar>(
     expanded(alloc, grammar, rules, argument, style)
 }
 
-/// Whether that is the expansion of a call from there: the index of a rule, or none, the tokens that are written, and the error.
+/// Whether the expansion of a call at that span is so: the index of a rule, or none, the tokens
+/// that are written, and the error.
 pub fn is_made(
     alloc: Global,
     expansion: &Expansion<Global>,
@@ -71,13 +72,13 @@ pub fn is_made(
     [arm, tokens, error]: [&str; 3],
 ) -> Result<bool, AllocError> {
     let (tree, index) = &expansion.value;
-    let want = built_of(alloc, call_site, tokens)?;
-    let is_so = *index == arm.parse::<u32>().ok() && *tree == want;
-    Ok(is_so && is_error(alloc, expansion.err.as_ref(), error)?)
+    let want = build_trees(alloc, call_site, tokens)?;
+    let passes = *index == arm.parse::<u32>().ok() && *tree == want;
+    Ok(passes && is_error(alloc, expansion.err.as_ref(), error)?)
 }
 
-/// Whether a row of `calls` is so.
-pub fn is_so(
+/// Whether a row of `call_rows` passes.
+pub fn passes(
     alloc: Global,
     [grammar, definition, argument, arm, tokens, error]: Fields,
 ) -> Result<bool, AllocError> {
@@ -86,7 +87,7 @@ pub fn is_so(
     is_called(alloc, grammar, (&rules, &argument), [arm, tokens, error])
 }
 
-// Whether that comes of a call by the grammar of a row.
+// Whether a call by the grammar of a row expands so.
 fn is_called(
     alloc: Global,
     grammar: &str,
@@ -102,7 +103,7 @@ fn is_called(
     is_made(alloc, &expansion, whole(argument), [arm, tokens, error])
 }
 
-/// Whether a call with an argument, in a style, makes that. The grammar faults on everything.
+/// Whether a call with an argument, in a style, expands so. The grammar faults on everything.
 pub fn answers(
     alloc: Global,
     rules: &DeclarativeMacro,

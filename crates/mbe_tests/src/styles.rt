@@ -1,12 +1,12 @@
-// Calls of other styles than a function's.
+// Calls in the styles of attributes and derives.
 use crate::definitions::defined_as;
 use crate::runs::answers;
 use mbe::{DeclarativeMacro, MacroCallStyle, ParseError};
 use std::alloc::{AllocError, Global};
 use test_rows::{Fields, rows};
 
-// The sort of a definition, the definition, the argument of a call and its style, the index of a rule and what is written; or, where no
-// rule is of the style, the error.
+// Each row: the kind of definition, the definition, the argument of a call and its style, the index
+// of a rule and the expansion; or the error, if no rule has the style.
 pub const ROWS: &str = rows![
     ("rules", "attr() () => {A}; () => {B}", "", "attribute", 0, "word A 0 14 15"),
     ("rules", "() => {A}; unsafe derive[x] () => {B}; derive() () => {C}", "", "derive", 1, "word B 0 35 36"),
@@ -36,8 +36,8 @@ fn style(name: &str) -> MacroCallStyle {
     }
 }
 
-/// Whether a row is so.
-pub fn is_so(
+/// Whether a row passes.
+pub fn passes(
     alloc: Global,
     [sort, definition, argument, name, arm, end]: Fields,
 ) -> Result<bool, AllocError> {
@@ -53,7 +53,8 @@ pub fn is_so(
     answers(alloc, &rules, argument, style(name), want)
 }
 
-/// Whether a call of the macro of a refusal has no rule: it has none, so that it can be called.
+/// Whether a call of a refused macro reports that no rule matches. The macro has no rule, so it can
+/// be called.
 pub fn has_no_rule(alloc: Global) -> Result<bool, AllocError> {
     let rules = DeclarativeMacro::from_err(alloc, ParseError::RepetitionEmptyTokenTree);
     let want = ["", "", "no rule matches input tokens 1 0 1"];

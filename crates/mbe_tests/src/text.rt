@@ -1,22 +1,26 @@
-// Tests of `mbe_text` and of the grammars of `mbe_grammar`, by hand and as tables, all through their public calls, where no program shows
-// it; of deep trees; and of what is around an expansion: calls and definitions at the front of trees, texts with parts replaced, what is left out by a `cfg`, the files of modules, new names for locals, and messages on parts of files.
-mod around;
+// Tests of the crates of texts and of Rust files, through their public functions, where no program
+// shows the result.
+//
+// They cover `mbe_text`, the grammars of `mbe_grammar`, and deep trees. They also cover what is
+// around an expansion: calls and definitions at the front of trees, splicing, code that `cfg`
+// disables, the files of modules, new names for locals, and carets.
+mod call_fronts;
 mod carets;
-mod deep;
-mod following;
-mod fronts;
+mod conversions;
+mod crate_trees;
+mod deep_trees;
+mod disabled_code;
+mod file_tables;
 mod glue;
-mod including;
+mod grammar_texts;
+mod hygiene_rows;
+mod includes;
 mod literals;
 mod modules;
-mod printing;
-mod reading;
-mod renaming;
-mod rules;
-mod sample;
-mod splicing;
-mod stripping;
+mod prefixes;
+mod sample_keywords;
+mod small_table;
+mod splices;
 mod symbols;
 mod tables;
-mod taking;
-mod texts;
+mod tree_lines;

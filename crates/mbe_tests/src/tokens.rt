@@ -1,10 +1,10 @@
-// The tokens that the trees of the tests are made of, as tables hold them.
+// Tokens as the rows of tables write them.
 use mbe_tt::span::{Span, SyntaxContext};
 use mbe_tt::symbol::Symbol;
 use mbe_tt::tt::{DelimiterKind, Ident, IdentIsRaw, Leaf, LitKind, Literal, Punct, Spacing};
 use std::alloc::{AllocError, Global};
 
-/// The kind of a group by its opening; a group without one is invisible.
+/// Returns the kind of a group by its opening. A group without one is invisible.
 pub fn kind(opening: &str) -> DelimiterKind {
     match opening.chars().next() {
         Some('(') => DelimiterKind::Parenthesis,
@@ -14,18 +14,18 @@ pub fn kind(opening: &str) -> DelimiterKind {
     }
 }
 
-// How many bytes of an integer are its suffix.
+// Returns how many bytes of an integer are its suffix.
 fn suffix_len(sort: &str) -> u8 {
     let len = sort.strip_prefix("suffixed").unwrap_or("");
     len.parse::<u8>().unwrap_or(0)
 }
 
-/// A number of a row.
+/// Returns a number of a row.
 pub fn byte(field: &str) -> u32 {
     field.parse::<u32>().unwrap_or(u32::MAX)
 }
 
-/// The span of these bytes of a file.
+/// Returns the span of these bytes of a file.
 pub fn at(file: u32, start: u32, end: u32) -> Span {
     Span {
         file,
@@ -36,7 +36,8 @@ pub fn at(file: u32, start: u32, end: u32) -> Span {
     }
 }
 
-/// A token of a row: its sort and its text, its file, after a `:` the number of its context, its start and its end.
+/// Parses a token of a row: its sort and its text, its file, after a `:` the number of its context,
+/// its start and its end.
 pub fn token(row: &str) -> Option<(&str, &str, Span)> {
     let (row, end) = row.rsplit_once(' ')?;
     let (row, start) = row.rsplit_once(' ')?;
@@ -58,7 +59,8 @@ fn punct(text: &str, spacing: Spacing, span: Span) -> Leaf {
     })
 }
 
-/// The leaf of a token by the first letter of its sort: `word`, `raw`, `alone`, `joint`, `number`, or `suffixed2` with a suffix of two bytes.
+/// Returns the leaf of a token by the first letter of its sort: `word`, `raw`, `alone`, `joint`,
+/// `number`, or `suffixed2` with a suffix of two bytes.
 pub fn leaf(alloc: Global, sort: &str, text: &str, span: Span) -> Result<Leaf, AllocError> {
     let sym = Symbol::intern(alloc, text)?;
     Ok(match sort.chars().next() {

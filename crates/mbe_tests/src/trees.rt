@@ -1,12 +1,12 @@
-// Builds the trees of the tests, of tokens or of a text.
+// Builds the trees of the tests, from tokens or from a text.
 use crate::tokens::{at, byte, kind, leaf, token};
 use mbe_text::lexer::{LexError, lex};
 use mbe_tt::span::Span;
 use mbe_tt::tt::{Delimiter, TopSubtree, TopSubtreeBuilder};
 use std::alloc::{AllocError, Allocator, Global};
-use test_rows::spelled;
+use test_rows::expand_repeats;
 
-// Adds the token at the end of the innermost open group. A closing without an opening is left out.
+// Adds the token at the end of the innermost open group. A closing without an opening is skipped.
 fn add(
     builder: &mut TopSubtreeBuilder,
     alloc: Global,
@@ -24,7 +24,7 @@ fn add(
     }
 }
 
-// The trees, with each open group closed with this span.
+// Returns the trees, with each open group closed at this span.
 #[tactic(auto, using(mbe_tt::proofs::Buffers::OpenGroups::closed_length))]
 fn finish<A: Allocator>(mut builder: TopSubtreeBuilder<A>, end: Span) -> TopSubtree<A> {
     'groups: while builder.open_kind().is_some() {
@@ -33,8 +33,9 @@ fn finish<A: Allocator>(mut builder: TopSubtreeBuilder<A>, end: Span) -> TopSubt
     builder.build()
 }
 
-/// The tokens of a row, each a line, in an invisible group with that span. Groups that are open at the end are closed with it.
-pub fn built_of(alloc: Global, whole: Span, tokens: &str) -> Result<TopSubtree, AllocError> {
+/// Builds the tokens of a row, one a line, in an invisible group with that span. Groups that are
+/// open at the end are closed with it.
+pub fn build_trees(alloc: Global, whole: Span, tokens: &str) -> Result<TopSubtree, AllocError> {
     let mut builder = TopSubtreeBuilder::new(alloc, Delimiter::invisible_spanned(whole))?;
     for row in tokens.lines() {
         add(&mut builder, alloc, token(row).ok_or(AllocError)?)?;
@@ -42,7 +43,7 @@ pub fn built_of(alloc: Global, whole: Span, tokens: &str) -> Result<TopSubtree, 
     Ok(finish(builder, whole))
 }
 
-/// The token trees of a text without fault.
+/// Lexes a text that has no fault.
 pub fn lexed<A: Allocator + Copy>(
     alloc: A,
     file: u32,
@@ -57,13 +58,14 @@ pub fn lexed<A: Allocator + Copy>(
     }
 }
 
-/// The trees of a row: those of a text, or, after `tokens` and the byte up to which they are, the tokens where no text gives them.
+/// Returns the trees of a row. A row is a text; or it is `tokens`, the byte at which they end, and
+/// the tokens, if no text gives them.
 pub fn read(alloc: Global, file: u32, trees: &str) -> Result<TopSubtree, AllocError> {
     match trees.strip_prefix("tokens ") {
-        None => lexed(alloc, file, spelled(alloc, trees)?.as_str()),
+        None => lexed(alloc, file, expand_repeats(alloc, trees)?.as_str()),
         Some(rest) => {
             let (end, tokens) = rest.split_once('\n').unwrap_or((rest, ""));
-            built_of(alloc, at(file, 0, byte(end)), tokens)
+            build_trees(alloc, at(file, 0, byte(end)), tokens)
         }
     }
 }

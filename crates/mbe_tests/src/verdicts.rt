@@ -1,4 +1,4 @@
-// How each rule of a definition reads an argument.
+// Verdicts: how each rule of a definition reads an argument.
 use crate::grammar::{Counting, grammar_of};
 use crate::runs::parsed;
 use crate::trees::read;
@@ -7,7 +7,7 @@ use mbe_tt::tt::TopSubtree;
 use std::alloc::{AllocError, Global};
 use test_rows::{Fields, rows};
 
-// The verdict of each rule on the argument, in order.
+// Returns the verdict of each rule on the argument, in order.
 fn explained(
     alloc: Global,
     grammar: &Counting,
@@ -24,9 +24,11 @@ fn explained(
     Ok(verdicts)
 }
 
-// How many flat tokens the grammar takes, and its end, a definition, an argument, and the verdict of each rule.
+// Each row: how many flat tokens the grammar counts, and how it ends, a definition, an argument,
+// and the verdict of each rule.
 pub const ROWS: &str = rows![
-    // Over the quote, or over the whole separator, of `($(b $(')?)'a*) => {}`.
+    // In `($(b $(')?)'a*) => {}` one thread goes on over the quote, another over the whole
+    // separator.
     ("0 fault", "tokens 21
 open ( 0 0 1
 alone $ 0 1 2
@@ -61,8 +63,8 @@ fn are_shown(alloc: Global, verdicts: &[Verdict], want: &str) -> Result<bool, Al
     Ok(format!(in alloc; "{verdicts:?}")?.as_str() == want)
 }
 
-/// Whether a row is so.
-pub fn is_so(
+/// Whether a row passes.
+pub fn passes(
     alloc: Global,
     [grammar, definition, argument, want, ..]: Fields,
 ) -> Result<bool, AllocError> {

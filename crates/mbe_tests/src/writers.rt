@@ -1,24 +1,24 @@
-// Runs in which a request for memory is refused, or a call of the writer fails, each in turn.
+// Runs in which each request for memory, or each call of the writer, fails in turn.
 use mbe_program::program::run;
 use mbe_tt::span::Edition;
 use std::alloc::Global;
 use std::io;
 use std::io::Write;
-use test_rows::refusing::Refusing;
+use test_rows::failing_allocator::FailingAllocator;
 use test_rows::{Fields, number};
 
-/// A writer that fails at one of its calls, counted from 1, or from one of its writes on takes nothing. Each write takes three bytes at
-/// most.
+/// A writer that writes at most three bytes at once. One of its calls fails, counted from 1; or
+/// from one of its writes on it writes nothing.
 #[derive(Drop)]
-struct Slow {
+struct SlowWriter {
     written: Vec<u8>,
     is_flushed: bool,
     left: u64,
     is_full: bool,
 }
 
-impl Slow {
-    // Whether it fails at this call.
+impl SlowWriter {
+    // Whether the writer fails at this call.
     fn fails(&mut self) -> bool {
         self.left = self.left.saturating_sub(1);
         self.left == 0
@@ -29,7 +29,7 @@ fn broken() -> io::Error {
     io::Error::from(io::ErrorKind::BrokenPipe)
 }
 
-impl Write for Slow {
+impl Write for SlowWriter {
     fn write(&mut self, buf: &[u8]) -> io::Result<usize> {
         self.is_flushed = false;
         if self.fails() {
@@ -49,29 +49,35 @@ impl Write for Slow {
     }
 }
 
-/// What fails of a run, in turn.
+/// What fails in a run, in turn.
 #[derive(Clone, Copy)]
-enum Failing {
+enum FailureCause {
     Requests,
     Calls,
     Writes,
 }
 
-// The status of a run, which lints or expands; 6 for texts that are too long.
-fn status(alloc: &Refusing<Global>, [def, arg, ..]: Fields, lint: bool, out: &mut Slow) -> u8 {
+// Returns the status of a run, which lints or expands; 6 if a text is too long.
+fn status(
+    alloc: &FailingAllocator<Global>,
+    [def, arg, ..]: Fields,
+    lint: bool,
+    out: &mut SlowWriter,
+) -> u8 {
     if def.len() > u32::MAX as usize || arg.len() > u32::MAX as usize {
         return 6;
     }
     run(alloc, def, arg, Edition::Edition2024, lint, out).status()
 }
 
-// Whether a status, what was written, and whether all was flushed, are those of a run in which a request for memory was refused, or a call of
-// the writer failed: out of memory, with nothing written; or it can't write, and what was written is a prefix of the row. Else they are the row's.
-fn is_so(
+// Whether a run ended as it must. After an allocation failure the status is out of memory, and
+// nothing is written. After a failure of the writer the status is that it can't write, and a prefix
+// of the row is written. Else all is as the row says.
+fn passes(
     [_def, _arg, status, want, ..]: Fields,
     (is_refused, is_broken): (bool, bool),
     found: u8,
-    out: &Slow,
+    out: &SlowWriter,
 ) -> bool {
     let written = out.written.as_slice();
     if is_refused {
@@ -83,39 +89,39 @@ fn is_so(
     }
 }
 
-// Whether the request or the call of this number failed. Nothing where the run isn't as it is stated then.
+// Whether the request or the call of this number failed. `None` if the run didn't end as it must.
 fn has_failed(
     alloc: Global,
     fields: Fields,
-    (lint, failing): (bool, Failing),
+    (lint, match_error): (bool, FailureCause),
     number: u64,
 ) -> Option<bool> {
-    let (request, call) = match failing {
-        Failing::Requests => (number, u64::MAX),
-        Failing::Calls | Failing::Writes => (u64::MAX, number),
+    let (request, call) = match match_error {
+        FailureCause::Requests => (number, u64::MAX),
+        FailureCause::Calls | FailureCause::Writes => (u64::MAX, number),
     };
-    let refusing = Refusing::new(alloc, request);
-    let mut out = Slow {
+    let refusing = FailingAllocator::new(alloc, request);
+    let mut out = SlowWriter {
         written: Vec::new(alloc),
         is_flushed: true,
         left: call,
-        is_full: matches!(failing, Failing::Writes),
+        is_full: matches!(match_error, FailureCause::Writes),
     };
     let found = status(&refusing, fields, lint, &mut out);
-    let is_refused = refusing.has_refused();
+    let is_refused = refusing.has_failed_once();
     let is_broken = out.left == 0;
-    is_so(fields, (is_refused, is_broken), found, &out).then_some(is_refused || is_broken)
+    passes(fields, (is_refused, is_broken), found, &out).then_some(is_refused || is_broken)
 }
 
-// Whether each of them that fails is reported, and so many at least do.
+// Whether each failure is reported, and at least so many happen.
 fn are_reported(
     alloc: Global,
     fields: Fields,
-    (lint, failing): (bool, Failing),
+    (lint, match_error): (bool, FailureCause),
     least: u64,
 ) -> bool {
     for number in 1..100_000u64 {
-        match has_failed(alloc, fields, (lint, failing), number) {
+        match has_failed(alloc, fields, (lint, match_error), number) {
             Some(true) => {}
             Some(false) => return number > least,
             None => return false,
@@ -124,16 +130,17 @@ fn are_reported(
     false
 }
 
-/// Whether each request and each call that fails is reported: there is at least one write for every three bytes, and after it a flush.
-pub fn is_failing(alloc: Global, fields: Fields, lint: bool) -> bool {
+/// Whether each request and each call that fails is reported. There is at least one write for every
+/// three bytes, and a flush after it.
+pub fn fails_at_each_call(alloc: Global, fields: Fields, lint: bool) -> bool {
     let writes = (fields[3].len() / 3) as u64;
     let requests = if lint { 1 } else { 10 };
-    are_reported(alloc, fields, (lint, Failing::Requests), requests)
+    are_reported(alloc, fields, (lint, FailureCause::Requests), requests)
         && are_reported(
             alloc,
             fields,
-            (lint, Failing::Calls),
+            (lint, FailureCause::Calls),
             writes.saturating_add(1),
         )
-        && are_reported(alloc, fields, (lint, Failing::Writes), writes)
+        && are_reported(alloc, fields, (lint, FailureCause::Writes), writes)
 }

@@ -1,13 +1,15 @@
 -- How blanks and comments are passed, one after another.
-use Rattle.std.proofs.Common.{◌≡◌, ℕ, zero, suc, ◌+◌, ◌-◌, ◌<◌, ◌≤◌, ◌==◌, ◌&&◌, Bool, true, false, List, [], ◌∷◌, length, drop, codes, Option, Some, None, Ok, Err, refl, sym, ap, ◌∙◌, arith, length-drop, add-one, if◌then◌else◌}
-use Rattle.mbe_text.specs.declared.characters.Class.{Class}
-use Rattle.mbe_text.specs.declared.characters.Class.TheVariants.{InLine}
+use Rattle.std.proofs.Common.{◌≡◌, ℕ, zero, suc, ◌+◌, ◌-◌, ◌<◌, ◌≤◌, ◌==◌, ◌&&◌, Bool, true, false, List, [], ◌∷◌}
+use Rattle.std.proofs.Common.{length, drop, codes, Option, Some, None, Ok, Err, refl, sym, ap, ◌∙◌, arith, length-drop}
+use Rattle.std.proofs.Common.{add-one, if◌then◌else◌}
+use Rattle.mbe_text.specs.declared.characters.CharClass.{CharClass}
+use Rattle.mbe_text.specs.declared.characters.CharClass.TheVariants.{NotLineFeed}
 use Rattle.mbe_text.specs.declared.dialect.Dialect.{Dialect}
-use Rattle.mbe_text.specs.declared.wrong.Wrong.TheVariants as wrong
+use Rattle.mbe_text.specs.declared.fault_kind.LexFaultKind.TheVariants as fault_kind
 use Rattle.mbe_text.specs.Characters.{has, begins_with, past, slash}
-use Rattle.mbe_text.specs.Blanks.{blank, past_comments}
-use Rattle.mbe_text.specs.Faults.{fault_at}
-use Rattle.mbe_text.specs.Trivia.{is_doc, past_blanks}
+use Rattle.mbe_text.specs.Whitespace.{whitespace_class, past_comments}
+use Rattle.mbe_text.specs.LexFaults.{fault_at}
+use Rattle.mbe_text.specs.Trivia.{is_doc, past_trivia}
 
 -- ---- block comments
 
@@ -53,19 +55,19 @@ comment_goes_on (suc n) c cs (d ∷ ds) h e o b =
 pub record Passes (dialect : Dialect) (total : ℕ) (from cs : List ℕ) : Type 0 where
   pub n : ℕ
   pub fits : length cs ≤ n
-  pub same : past_blanks dialect total (length from) from ≡ past_blanks dialect total n cs
+  pub same : past_trivia dialect total (length from) from ≡ past_trivia dialect total n cs
 
 -- with one to count down for what is left, unless nothing is
 pub record Counts (dialect : Dialect) (total : ℕ) (from cs : List ℕ) : Type 0 where
   pub n : ℕ
   pub fits : length cs ≤ suc n
-  pub same : past_blanks dialect total (length from) from ≡ past_blanks dialect total (suc n) cs
+  pub same : past_trivia dialect total (length from) from ≡ past_trivia dialect total (suc n) cs
 
 pub same_both_ways : {A : Type 0} (b : Bool) (x : A) → (if b then x else x) ≡ x
 same_both_ways true x = refl
 same_both_ways false x = refl
 
-pub blanks_end : (dialect : Dialect) (total n : ℕ) → past_blanks dialect total n [] ≡ Ok []
+pub blanks_end : (dialect : Dialect) (total n : ℕ) → past_trivia dialect total n [] ≡ Ok []
 blanks_end dialect total zero = refl
 blanks_end dialect total (suc n) = same_both_ways (is_doc dialect []) (Ok [])
 
@@ -84,10 +86,10 @@ counts dialect total from (c ∷ cs) p =
       n = p.n - 1;
       fits = let f = p.fits in omega (arith, f);
       same = p.same
-          ∙ ap (λ (k : ℕ). past_blanks dialect total k (c ∷ cs)) e;
+          ∙ ap (λ (k : ℕ). past_trivia dialect total k (c ∷ cs)) e;
     }
 
-pub past_shorter : (k : Class) (cs : List ℕ) → length (past k cs) ≤ length cs
+pub past_shorter : (k : CharClass) (cs : List ℕ) → length (past k cs) ≤ length cs
 past_shorter k [] = omega arith
 past_shorter k (c ∷ cs) = elim (has k c) as (λ b. length (if b then past k cs else c ∷ cs) ≤ length (c ∷ cs)) [
   | true ↦ omega (arith, past_shorter k cs)
@@ -112,10 +114,11 @@ comments_shorter (suc depth) (c ∷ (d ∷ cs)) rest e =
     (λ h. omega (arith, comments_shorter (suc depth) (d ∷ cs) rest h)) e
 
 -- what a call says of a scanner's dialect, which is still that of the text
-pub blank_there : (dialect dialect' : Dialect) (c : ℕ) (r v : Bool) → dialect' ≡ dialect → r ≡ has (blank dialect') c
+pub blank_there : (dialect dialect' : Dialect) (c : ℕ) (r v : Bool) → dialect' ≡ dialect → r
+    ≡ has (whitespace_class dialect') c
     → r ≡ v
-    → has (blank dialect) c ≡ v
-blank_there dialect dialect' c r v d e is = ap (λ (k : Dialect). has (blank k) c) (sym d) ∙ (sym e ∙ is)
+    → has (whitespace_class dialect) c ≡ v
+blank_there dialect dialect' c r v d e is = ap (λ (k : Dialect). has (whitespace_class k) c) (sym d) ∙ (sym e ∙ is)
 
 pub doc_there : (dialect dialect' : Dialect) (cs : List ℕ) (r v : Bool) → dialect' ≡ dialect → r ≡ is_doc dialect' cs
     → r ≡ v
@@ -124,14 +127,14 @@ doc_there dialect dialect' cs r v d e is = ap (λ (k : Dialect). is_doc k cs) (s
 
 -- nothing is left
 pub passes_end : (dialect : Dialect) (total : ℕ) (from cs : List ℕ) → Passes dialect total from cs → cs ≡ []
-    → past_blanks dialect total (length from) from ≡ Ok cs
+    → past_trivia dialect total (length from) from ≡ Ok cs
 passes_end dialect total from cs p e =
-    p.same ∙ ap (past_blanks dialect total p.n) e ∙ blanks_end dialect total p.n ∙ ap Ok (sym e)
+    p.same ∙ ap (past_trivia dialect total p.n) e ∙ blanks_end dialect total p.n ∙ ap Ok (sym e)
 
 module _ (dialect : Dialect) (total : ℕ) (from cs mid : List ℕ) (c : ℕ) (p : Passes dialect total from cs)
     (e : cs ≡ c ∷ mid) where
-  first : (n : ℕ) → past_blanks dialect total n cs ≡ past_blanks dialect total n (c ∷ mid)
-  first n = ap (past_blanks dialect total n) e
+  first : (n : ℕ) → past_trivia dialect total n cs ≡ past_trivia dialect total n (c ∷ mid)
+  first n = ap (past_trivia dialect total n) e
 
   shorter : length cs ≡ suc (length mid)
   shorter = ap (λ (l : List ℕ). length l) e
@@ -139,7 +142,7 @@ module _ (dialect : Dialect) (total : ℕ) (from cs mid : List ℕ) (c : ℕ) (p
   doc : (v : Bool) → is_doc dialect cs ≡ v → is_doc dialect (c ∷ mid) ≡ v
   doc v d = ap (is_doc dialect) (sym e) ∙ d
 
-  pub passes_blank : has (blank dialect) c ≡ true → Passes dialect total from mid
+  pub passes_blank : has (whitespace_class dialect) c ≡ true → Passes dialect total from mid
   passes_blank b =
       let q = counts dialect total from cs p in
       record {
@@ -148,33 +151,42 @@ module _ (dialect : Dialect) (total : ℕ) (from cs mid : List ℕ) (c : ℕ) (p
         same = q.same ∙ (first (suc q.n) ∙ rw b refl);
       }
 
-  pub passes_other : has (blank dialect) c ≡ false → (c == slash) ≡ false
-      → past_blanks dialect total (length from) from ≡ Ok cs
+  pub passes_other : has (whitespace_class dialect) c ≡ false → (c == slash) ≡ false
+      → past_trivia dialect total (length from) from ≡ Ok cs
   passes_other b s =
       let q = counts dialect total from cs p in
       q.same ∙ (first (suc q.n) ∙ (rw (b, s) (same_both_ways (is_doc dialect (c ∷ mid)) (Ok (c ∷ mid)))
       ∙ ap Ok (sym e)))
 
-  pub passes_doc : has (blank dialect) c ≡ false → is_doc dialect cs ≡ true
-      → past_blanks dialect total (length from) from ≡ Ok cs
+  pub passes_doc : has (whitespace_class dialect) c ≡ false → is_doc dialect cs ≡ true
+      → past_trivia dialect total (length from) from ≡ Ok cs
   passes_doc b d =
       let q = counts dialect total from cs p in
       q.same ∙ (first (suc q.n) ∙ (rw (b, doc true d) refl ∙ ap Ok (sym e)))
 
-  pub passes_line : (after : List ℕ) → has (blank dialect) c ≡ false → is_doc dialect cs ≡ false → (c == slash) ≡ true
+  pub passes_line : (after : List ℕ) → has (whitespace_class dialect) c ≡ false → is_doc dialect cs ≡ false
+      → (c == slash) ≡ true
       → begins_with (codes "/") mid ≡ true
-      → after ≡ past InLine (drop 2 cs) → Passes dialect total from after
+      → after ≡ past NotLineFeed (drop 2 cs) → Passes dialect total from after
   passes_line after b d s l h =
       let q = counts dialect total from cs p in
-      let a : after ≡ past InLine (drop 1 mid) = h ∙ ap (λ (l : List ℕ). past InLine (drop 2 l)) e in
+      let a : after ≡ past NotLineFeed (drop 1 mid) = h ∙ ap (λ (l : List ℕ). past NotLineFeed (drop 2 l)) e in
       record {
         n = q.n;
-        fits = let f = q.fits in omega
-            (arith, f, shorter, ap (λ (l : List ℕ). length l) a, past_shorter InLine (drop 1 mid), length-drop 1 mid);
+        fits = let f = q.fits in omega (
+          arith,
+          f,
+          shorter,
+          ap (λ (l : List ℕ). length l) a,
+          past_shorter NotLineFeed (drop 1 mid),
+          length-drop 1
+              mid,
+        );
         same = q.same ∙ (first (suc q.n) ∙ rw (b, doc false d, s, l, a) refl);
       }
 
-  pub passes_block : (after : List ℕ) → has (blank dialect) c ≡ false → is_doc dialect cs ≡ false → (c == slash) ≡ true
+  pub passes_block : (after : List ℕ) → has (whitespace_class dialect) c ≡ false → is_doc dialect cs ≡ false
+      → (c == slash) ≡ true
       → begins_with (codes "/") mid ≡ false
       → begins_with (codes "*") mid ≡ true → past_comments 1 (drop 2 cs) ≡ Some after → Passes dialect total from after
   passes_block after b d s l k h =
@@ -186,19 +198,19 @@ module _ (dialect : Dialect) (total : ℕ) (from cs mid : List ℕ) (c : ℕ) (p
         same = q.same ∙ (first (suc q.n) ∙ rw (b, doc false d, s, l, k, a) refl);
       }
 
-  pub passes_last : has (blank dialect) c ≡ false → is_doc dialect cs ≡ false → (c == slash) ≡ true
+  pub passes_last : has (whitespace_class dialect) c ≡ false → is_doc dialect cs ≡ false → (c == slash) ≡ true
       → begins_with (codes "/") mid ≡ false
-      → begins_with (codes "*") mid ≡ false → past_blanks dialect total (length from) from ≡ Ok cs
+      → begins_with (codes "*") mid ≡ false → past_trivia dialect total (length from) from ≡ Ok cs
   passes_last b d s l k =
       let q = counts dialect total from cs p in
       q.same ∙ (first (suc q.n) ∙ (rw (b, doc false d, s, l, k) refl ∙ ap Ok (sym e)))
 
-  pub passes_fault : has (blank dialect) c ≡ false → is_doc dialect cs ≡ false → (c == slash) ≡ true
+  pub passes_fault : has (whitespace_class dialect) c ≡ false → is_doc dialect cs ≡ false → (c == slash) ≡ true
       → begins_with (codes "/") mid ≡ false
       → begins_with (codes "*") mid ≡ true → past_comments 1 (drop 2 cs) ≡ None
-      → past_blanks dialect total (length from) from ≡ Err (fault_at wrong.OpenComment total cs)
+      → past_trivia dialect total (length from) from ≡ Err (fault_at fault_kind.UnterminatedComment total cs)
   passes_fault b d s l k h =
       let q = counts dialect total from cs p in
       let a : past_comments 1 (drop 1 mid) ≡ None = ap (λ (l : List ℕ). past_comments 1 (drop 2 l)) (sym e) ∙ h in
       q.same ∙ (first (suc q.n) ∙ (rw (b, doc false d, s, l, k, a) refl
-      ∙ ap (λ (l : List ℕ). Err (fault_at wrong.OpenComment total l)) (sym e)))
+      ∙ ap (λ (l : List ℕ). Err (fault_at fault_kind.UnterminatedComment total l)) (sym e)))

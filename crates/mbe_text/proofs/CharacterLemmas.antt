@@ -1,7 +1,12 @@
 -- What is left of a text, in characters and in bytes.
-use Rattle.std.proofs.Common.{◌≡◌, ℕ, ◌<◌, ◌≤◌, ◌-◌, Bool, true, false, List, [], ◌∷◌, ◌++◌, length, take, drop, refl, sym, ap, ◌∙◌, arith, subst, MatchBool, MatchOption, Option, Some, None, IfSome, Bor, chars, encode_utf8_all, IsUtf8, IsAscii, IsTrue, encode_utf8, length-append, get_or, suc, zero}
+use Rattle.std.proofs.Common.{◌≡◌, ℕ, ◌<◌, ◌≤◌, ◌-◌, Bool, true, false, List, [], ◌∷◌, ◌++◌, length, take, drop, refl}
+use Rattle.std.proofs.Common.{sym, ap, ◌∙◌, arith, subst, MatchBool, MatchOption, Option, Some, None, IfSome, Bor}
+use Rattle.std.proofs.Common.{chars, encode_utf8_all, IsUtf8, IsAscii, IsTrue, encode_utf8, length-append, get_or, suc}
+use Rattle.std.proofs.Common.{zero}
 use Rattle.std.specs.Str.Pattern.{HasPrefixMatch, FindsTextPrefix, StripsPrefix}
-use Rattle.std.proofs.lemmas.Str.{chars-nil, encode_ascii, chars_past_char, IsUtf8-drop, IsCharBoundary-before_ascii, IsCharBoundary-after_ascii, chars-append, encodes-chars, encodes-append, length-encode, len_utf8_bounds, chars-IsAscii, IsUtf8-take, IsCharBoundary-from_drop}
+use Rattle.std.proofs.lemmas.Str.{chars-nil, encode_ascii, chars_past_char, IsUtf8-drop, IsCharBoundary-before_ascii}
+use Rattle.std.proofs.lemmas.Str.{IsCharBoundary-after_ascii, chars-append, encodes-chars, encodes-append}
+use Rattle.std.proofs.lemmas.Str.{length-encode, len_utf8_bounds, chars-IsAscii, IsUtf8-take, IsCharBoundary-from_drop}
 use Rattle.std.proofs.lemmas.Bool.{false≢true}
 use Rattle.std.proofs.lemmas.Bool.Decides.{nat_tests}
 use Rattle.std.proofs.Math.Seq.{take-append_seam, drop-append_seam}
@@ -10,10 +15,10 @@ use Rattle.std.specs.Char.{is_ascii_alphabetic, is_ascii_alphanumeric, char_set_
 use Rattle.std.proofs.lemmas.List.{at_drop_all, at_drop_more, take-append-drop}
 use Rattle.unicode_ident.specs.Ident.{is_xid_start, is_xid_continue}
 use Rattle.unicode_ident.proofs.IdentLemmas.{is_xid_start-ascii, is_xid_continue-ascii}
-use Rattle.mbe_text.specs.declared.characters.Class.{Class}
-use Rattle.mbe_text.specs.declared.characters.Class.TheVariants.{IdentStart, Decimal, Punct}
+use Rattle.mbe_text.specs.declared.characters.CharClass.{CharClass}
+use Rattle.mbe_text.specs.declared.characters.CharClass.TheVariants.{IdentStart, Decimal, Punct}
 use Rattle.mbe_text.specs.Characters.{begins, begins_with, has, past, are_ascii, bytes_before}
-use Rattle.mbe_text.specs.Ends.{IsEnd, IsRest}
+use Rattle.mbe_text.specs.Rests.{IsEnd, IsRest}
 use Rattle.mbe_text.proofs.Reading.{rest_after}
 
 -- ---- one character more
@@ -39,7 +44,7 @@ is_rest text after c e =
     let same : IsRest text text = ap (λ (n : ℕ). drop n text) none in
     rest_after text text (encode_utf8 c) after same e
 
-pub past_such : (k : Class) (c : ℕ) (cs all : List ℕ) → has k c ≡ true → all ≡ c ∷ cs → past k cs ≡ past k all
+pub past_such : (k : CharClass) (c : ℕ) (cs all : List ℕ) → has k c ≡ true → all ≡ c ∷ cs → past k cs ≡ past k all
 past_such k c cs all h e = rw (e, h) refl
 
 -- ---- a front of more characters
@@ -196,7 +201,7 @@ both_true true b h = (refl, h)
 both_true false b h = cc
 
 -- one such byte more
-pub counts_more : (k : Class) (text : List ℕ) (n b : ℕ) (r : Bool) → IsUtf8 text → n < length text
+pub counts_more : (k : CharClass) (text : List ℕ) (n b : ℕ) (r : Bool) → IsUtf8 text → n < length text
     → b ≡ get_or text n 0 → r ≡ (nat_lt b 128 && has k b) → r ≡ true
     → past k (chars (drop n text)) ≡ past k (chars text)
     → IsUtf8 (drop (n + 1) text) × (past k (chars (drop (n + 1) text)) ≡ past k (chars text))
@@ -211,7 +216,7 @@ counts_more k text n b r u l e i t p =
     )
 
 -- a byte of ASCII that isn't such a character
-pub stops_there : (k : Class) (text : List ℕ) (n b : ℕ) (r : Bool) → IsUtf8 text → n < length text
+pub stops_there : (k : CharClass) (text : List ℕ) (n b : ℕ) (r : Bool) → IsUtf8 text → n < length text
     → b ≡ get_or text n 0 → r ≡ (nat_lt b 128 && has k b) → r ≡ false → get_or text n 0 < 128
     → begins k (chars (drop n text)) ≡ false
 stops_there k text n b r u l e i t s =
@@ -221,15 +226,15 @@ stops_there k text n b r u l e i t s =
     ∙ (ap (has k) (sym e) ∙ (sym (ap (λ (x : Bool). x && has k b) low) ∙ (sym i ∙ t)))
 
 -- no byte is left
-pub stops_at_end : (k : Class) (text : List ℕ) (n : ℕ) → length text ≤ n → begins k (chars (drop n text)) ≡ false
+pub stops_at_end : (k : CharClass) (text : List ℕ) (n : ℕ) → length text ≤ n → begins k (chars (drop n text)) ≡ false
 stops_at_end k text n h = at_drop_all (λ (l : List ℕ). begins k (chars l)) text n h ∙ ap (begins k) chars-nil
 
 -- nothing is passed
-past_none : (k : Class) (cs : List ℕ) → begins k cs ≡ false → past k cs ≡ cs
+past_none : (k : CharClass) (cs : List ℕ) → begins k cs ≡ false → past k cs ≡ cs
 past_none k [] h = refl
 past_none k (c ∷ cs) h = rw h refl
 
-pub past_near : (k : Class) (text rest : List ℕ) (n : ℕ) (r : Bool) → rest ≡ drop n text
+pub past_near : (k : CharClass) (text rest : List ℕ) (n : ℕ) (r : Bool) → rest ≡ drop n text
     → r ≡ nat_le 128 (get_or text n 0) → r ≡ false → past k (chars (drop n text)) ≡ past k (chars text)
     → (get_or text n 0 < 128 → begins k (chars (drop n text)) ≡ false) → chars rest ≡ past k (chars text)
 past_near k text rest n r e i t p s =
@@ -237,7 +242,7 @@ past_near k text rest n r e i t p s =
     let near : get_or text n 0 < 128 = grind (arith, nat_tests) in
     ap chars e ∙ (sym (past_none k (chars (drop n text)) (s near)) ∙ p)
 
-pub past_far : (k : Class) (text rest got : List ℕ) (n : ℕ) → rest ≡ drop n text
+pub past_far : (k : CharClass) (text rest got : List ℕ) (n : ℕ) → rest ≡ drop n text
     → past k (chars (drop n text)) ≡ past k (chars text) → chars got ≡ past k (chars rest)
     → chars got ≡ past k (chars text)
 past_far k text rest got n e p g = g ∙ (ap (λ (l : List ℕ). past k (chars l)) e ∙ p)

@@ -1,9 +1,10 @@
 -- One character more of a block comment's text.
-use Rattle.std.proofs.Common.{◌≡◌, ℕ, suc, ◌==◌, ◌+◌, ◌-◌, ◌<◌, ◌≤◌, not, ◌&&◌, Bool, true, false, List, [], ◌∷◌, ◌++◌, length, drop, get_or, refl, sym, ap, ◌∙◌, arith, chars, IsUtf8}
+use Rattle.std.proofs.Common.{◌≡◌, ℕ, suc, ◌==◌, ◌+◌, ◌-◌, ◌<◌, ◌≤◌, not, ◌&&◌, Bool, true, false, List, [], ◌∷◌, ◌++◌}
+use Rattle.std.proofs.Common.{length, drop, get_or, refl, sym, ap, ◌∙◌, arith, chars, IsUtf8}
 use Rattle.std.proofs.lemmas.Bool.Decides.{nat_tests}
 use Rattle.std.proofs.lemmas.List.{at_drop_more, at_drop_all, length_push}
 use Rattle.std.proofs.lemmas.Str.{encodes-chars, length-le-encodes}
-use Rattle.mbe_text.specs.RustText.Comments.{is_closed, opens_comment, closes_comment}
+use Rattle.mbe_text.specs.RustText.DocComments.{is_closed, opens_comment, closes_comment}
 
 -- the next character, and what is after it
 pub step : (last depth n c : ℕ) (cs : List ℕ) → (n < length cs) × (c ≡ get_or cs n c)

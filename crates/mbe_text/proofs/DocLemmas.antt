@@ -1,12 +1,14 @@
 -- The texts of doc comments that have no `"`, and no carriage return.
-use Rattle.std.proofs.Common.{◌≡◌, ℕ, ◌+◌, ◌==◌, ◌&&◌, ◌||◌, nat_lt, max, min, Bool, true, false, if◌then◌else◌, List, [], ◌∷◌, None, refl, sym, ap, ◌∙◌, arith, chars, lit<, encode_utf8, encode_utf8_all, IsUtf8}
+use Rattle.std.proofs.Common.{◌≡◌, ℕ, ◌+◌, ◌==◌, ◌&&◌, ◌||◌, nat_lt, max, min, Bool, true, false, if◌then◌else◌, List}
+use Rattle.std.proofs.Common.{[], ◌∷◌, None, refl, sym, ap, ◌∙◌, arith, chars, lit<, encode_utf8, encode_utf8_all}
+use Rattle.std.proofs.Common.{IsUtf8}
 use Rattle.std.proofs.lemmas.Str.{encode_ascii, encodes-chars}
 use Rattle.std.proofs.lemmas.Bool.{false≢true}
 use Rattle.std.proofs.lemmas.Bool.Decides.{nat_tests}
 use Rattle.std.proofs.lemmas.List.Folds.{list_any-append}
 use Rattle.std.specs.List.{list_any}
 use Rattle.mbe_text.specs.Tokens.{guards_after, most_guards}
-use Rattle.mbe_text.specs.Rust.{from_return}
+use Rattle.mbe_text.specs.RustTokens.{from_carriage_return}
 
 neither : (x y : Bool) → (x || y) ≡ false → (x ≡ false) × (y ≡ false)
 neither true y h = absurd (cc)
@@ -37,7 +39,8 @@ no_return_first c h = not_true (13 == c) (λ e.
     ap (λ (n : ℕ). list_any (λ (y : ℕ). y == 13) (encode_utf8 n)) (sym s) ∙ h in
     false≢true (sym k ∙ ap (list_any (λ (y : ℕ). y == 13)) (encode_ascii 13 (lit< tt))))
 
-no_return_in : (cs : List ℕ) → list_any (λ (y : ℕ). y == 13) (encode_utf8_all cs) ≡ false → from_return cs ≡ None
+no_return_in : (cs : List ℕ) → list_any (λ (y : ℕ). y == 13) (encode_utf8_all cs) ≡ false → from_carriage_return cs
+    ≡ None
 no_return_in [] h = refl
 no_return_in (c ∷ cs) h =
     let w : (list_any (λ (y : ℕ). y == 13) (encode_utf8 c) ≡ false)
@@ -48,6 +51,6 @@ no_return_in (c ∷ cs) h =
     rw other (no_return_in cs w.1)
 
 pub no_return : (text : List ℕ) → IsUtf8 text → list_any (λ (y : ℕ). y == 13) text ≡ false
-    → None ≡ from_return (chars text)
+    → None ≡ from_carriage_return (chars text)
 no_return text u h =
     sym (no_return_in (chars text) (ap (list_any (λ (y : ℕ). y == 13)) (encodes-chars text u) ∙ h))

@@ -1,8 +1,8 @@
 -- What doesn't begin with a character.
 use Rattle.std.proofs.Common.{◌≡◌, ℕ, ◌==◌, false, List, [], ◌∷◌, refl}
 use Rattle.mbe_text.specs.Characters.{begins_with, slash}
-use Rattle.mbe_text.specs.Rust.{begins_doc}
-use Rattle.mbe_text.specs.Words.{begins_raw}
+use Rattle.mbe_text.specs.RustTokens.{begins_doc}
+use Rattle.mbe_text.specs.Identifiers.{begins_raw}
 use Rattle.mbe_text.proofs.CharacterLemmas.{not_first}
 
 pub no_doc : (cs : List ℕ) → begins_with (slash ∷ []) cs ≡ false → false ≡ begins_doc cs

@@ -13,7 +13,7 @@ pub mod Made
 pub mod Printed
 pub mod Reading
 pub mod TailLemmas
-pub mod Taken
+pub mod WriterLemmas
 pub mod ClosedLemmas
 pub mod IndentLemmas
 pub mod WalkLemmas

@@ -1,13 +1,14 @@
 -- A doc comment of one line, before the line feed that ends it.
-use Rattle.std.proofs.Common.{◌≡◌, ℕ, ◌==◌, ◌-◌, ◌||◌, Bool, true, false, List, [], ◌∷◌, ◌++◌, length, take, refl, ap, ◌∙◌, arith, codes, None, Ok, length-append, encode_utf8_all}
+use Rattle.std.proofs.Common.{◌≡◌, ℕ, ◌==◌, ◌-◌, ◌||◌, Bool, true, false, List, [], ◌∷◌, ◌++◌, length, take, refl, ap}
+use Rattle.std.proofs.Common.{◌∙◌, arith, codes, None, Ok, length-append, encode_utf8_all}
 use Rattle.std.proofs.lemmas.Bool.Decides.{nat_tests}
 use Rattle.std.proofs.Math.Seq.{take-append_seam}
 use Rattle.std.specs.Char.{char_set_contains}
 use Rattle.std.specs.List.{list_any}
-use Rattle.mbe_text.specs.declared.characters.Class.TheVariants.{InLine}
+use Rattle.mbe_text.specs.declared.characters.CharClass.TheVariants.{NotLineFeed}
 use Rattle.mbe_text.specs.Characters.{has, past, bytes_before}
-use Rattle.mbe_text.specs.Extents.{front}
-use Rattle.mbe_text.specs.Rust.{doc, doc_until, from_return}
+use Rattle.mbe_text.specs.QuoteEnds.{front}
+use Rattle.mbe_text.specs.RustTokens.{doc, doc_until, from_carriage_return}
 use Rattle.mbe_text.specs.Shapes.{doc_of}
 
 -- a line feed or a carriage return is in it
@@ -18,10 +19,10 @@ neither : (x y : Bool) → (x || y) ≡ false → (x ≡ false) × (y ≡ false)
 neither true y h = absurd (cc)
 neither false y h = (refl, h)
 
-in_line : (c : ℕ) → (c == 10) ≡ false → has InLine c ≡ true
+in_line : (c : ℕ) → (c == 10) ≡ false → has NotLineFeed c ≡ true
 in_line c h = grind (arith, nat_tests, h)
 
-past_line : (cs tail : List ℕ) → has_line_end cs ≡ false → past InLine (cs ++ (10 ∷ tail)) ≡ 10 ∷ tail
+past_line : (cs tail : List ℕ) → has_line_end cs ≡ false → past NotLineFeed (cs ++ (10 ∷ tail)) ≡ 10 ∷ tail
 past_line [] tail h = refl
 past_line (c ∷ cs) tail h =
     let t = neither (c == 10 || c == 13) (has_line_end cs) h in
@@ -30,7 +31,7 @@ past_line (c ∷ cs) tail h =
 no_carriage : (c : ℕ) → (c == 13) ≡ false → char_set_contains (codes "\r") c ≡ false
 no_carriage c h = grind (arith, nat_tests, h)
 
-no_return : (cs : List ℕ) → has_line_end cs ≡ false → from_return cs ≡ None
+no_return : (cs : List ℕ) → has_line_end cs ≡ false → from_carriage_return cs ≡ None
 no_return [] h = refl
 no_return (c ∷ cs) h =
     let t = neither (c == 10 || c == 13) (has_line_end cs) h in

@@ -1,12 +1,13 @@
 -- The lines of a forest, one flat token after another.
-use Rattle.std.proofs.Common.{◌≡◌, ℕ, zero, suc, ◌+◌, ◌-◌, ◌<◌, ◌≤◌, List, [], ◌∷◌, ◌++◌, length, drop, refl, sym, ap, ◌∙◌, arith, append_assoc}
+use Rattle.std.proofs.Common.{◌≡◌, ℕ, zero, suc, ◌+◌, ◌-◌, ◌<◌, ◌≤◌, List, [], ◌∷◌, ◌++◌, length, drop, refl, sym, ap}
+use Rattle.std.proofs.Common.{◌∙◌, arith, append_assoc}
 use Rattle.std.specs.Prelude.{codes}
 use Rattle.mbe_tt.specs.Trees.Tree.{Forest, none, leaf, group, first, flat_len, rest_at}
-use Rattle.mbe_tt.specs.Buffers.Place.{Rests, step, rests, spell_rests}
-use Rattle.mbe_tt.specs.Views.Entries.{spell}
-use Rattle.mbe_tt.proofs.Places.Placed.{walk-step, left_is, rest_at-rests, depth_le}
+use Rattle.mbe_tt.specs.Buffers.Offsets.{Rests, step, rests, spell_rests}
+use Rattle.mbe_tt.specs.Views.BufferEntries.{spell}
+use Rattle.mbe_tt.proofs.Offsets.CursorLemmas.{walk-step, left_is, rest_at-rests, depth_le}
 use Rattle.mbe_tt.proofs.Buffers.Spelled.{length-spell}
-use Rattle.mbe_text.specs.Printing.{indentation, lines, line, leaf_line, group_line, first_line, depth_after}
+use Rattle.mbe_text.specs.TreeDump.{indentation, lines, line, leaf_line, group_line, first_line, depth_after}
 
 -- the lines of the groups around, from the end of the innermost one
 abbrev pub lines_around : List Forest → List ℕ

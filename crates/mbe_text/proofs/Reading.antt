@@ -1,17 +1,20 @@
 -- What a scanner reads, one piece after another.
-use Rattle.std.proofs.Common.{◌≡◌, ℕ, ◌+◌, ◌-◌, ◌<◌, ◌≤◌, true, false, List, ◌∷◌, ◌++◌, length, take, drop, Option, Some, None, IsSome, IfSome, Result, Ok, Err, refl, sym, ap, ◌∙◌, arith, subst, append_assoc, take-append-drop, length-append, length-drop, drop-drop, Bor, nat_lt}
+use Rattle.std.proofs.Common.{◌≡◌, ℕ, ◌+◌, ◌-◌, ◌<◌, ◌≤◌, true, false, List, ◌∷◌, ◌++◌, length, take, drop, Option}
+use Rattle.std.proofs.Common.{Some, None, IsSome, IfSome, Result, Ok, Err, refl, sym, ap, ◌∙◌, arith, subst}
+use Rattle.std.proofs.Common.{append_assoc, take-append-drop, length-append, length-drop, drop-drop, Bor, nat_lt}
 use Rattle.std.specs.Prelude.{◌↔◌, MatchOption, unwrap_or, IfOk, encode_utf8, slice_range}
 use Rattle.std.specs.Str.{IsUtf8, IsCharBoundary}
 use Rattle.std.specs.Str.Pattern.{GetsRange}
 use Rattle.std.proofs.lemmas.Bool.{false≢true}
 use Rattle.std.proofs.lemmas.Bool.Decides.{nat_tests}
-use Rattle.std.proofs.lemmas.Str.{encode_same, encode_ascii, IsCharBoundary-start, IsCharBoundary-at_seam, IsCharBoundary-from_drop, length-encode, len_utf8_bounds}
+use Rattle.std.proofs.lemmas.Str.{encode_same, encode_ascii, IsCharBoundary-start, IsCharBoundary-at_seam}
+use Rattle.std.proofs.lemmas.Str.{IsCharBoundary-from_drop, length-encode, len_utf8_bounds}
 use Rattle.std.proofs.Math.Seq.{take-append_seam, drop-append_seam}
-use Rattle.mbe_tt.specs.Trees.Literals.{is_cut, text_len, literal_output, opening, closing}
+use Rattle.mbe_tt.specs.Trees.Literals.{is_char_boundary, text_len, literal_output, opening, closing}
 use Rattle.mbe_tt.specs.declared.span.Span.{Span}
 use Rattle.mbe_tt.specs.declared.tt.LitKind.{LitKind}
 use Rattle.mbe_text.specs.declared.scanner.Lexeme.{Lexeme}
-use Rattle.mbe_text.specs.Ends.{IsRest}
+use Rattle.mbe_text.specs.Rests.{IsRest}
 use Rattle.mbe_text.specs.declared.scanner.Lexeme.TheVariants.{Ident, Literal, Punct, Open, Close, Lifetime, Doc}
 use Rattle.mbe_text.specs.Tokens.{lexeme_item, item_text, lexeme_text}
 
@@ -76,7 +79,7 @@ bumped_ascii o text rest c after h some small e =
 
 -- ---- literals
 
-boundary_is_cut : (text : List ℕ) (n : ℕ) → IsCharBoundary text n → is_cut text n ≡ true
+boundary_is_cut : (text : List ℕ) (n : ℕ) → IsCharBoundary text n → is_char_boundary text n ≡ true
 boundary_is_cut text n h = let f = h.1 in grind (arith, nat_tests)
 
 text_len-append : (text suffix : List ℕ) → IsUtf8 suffix → text_len (text ++ suffix) (length suffix) ≡ length text

@@ -1,22 +1,27 @@
 -- What the readers leave is what is left of the text after some characters.
-use Rattle.std.proofs.Common.{◌≡◌, ℕ, zero, suc, ◌==◌, ◌+◌, ◌-◌, ◌<◌, ◌≤◌, not, ◌&&◌, ◌||◌, nat_lt, Bool, true, false, List, [], ◌∷◌, ◌++◌, length, take, drop, refl, sym, ap, ◌∙◌, arith, subst, if◌then◌else◌, Ok, Err, chars, encode_utf8_all, IsUtf8, Bor, IfOk, codes}
+use Rattle.std.proofs.Common.{◌≡◌, ℕ, zero, suc, ◌==◌, ◌+◌, ◌-◌, ◌<◌, ◌≤◌, not, ◌&&◌, ◌||◌, nat_lt, Bool, true, false}
+use Rattle.std.proofs.Common.{List, [], ◌∷◌, ◌++◌, length, take, drop, refl, sym, ap, ◌∙◌, arith, subst, if◌then◌else◌}
+use Rattle.std.proofs.Common.{Ok, Err, chars, encode_utf8_all, IsUtf8, Bor, IfOk, codes}
 use Rattle.std.proofs.Common.{length-append, append_assoc, drop-drop, length-drop, Option, Some, None, IfSome}
 use Rattle.std.specs.Prelude.{unwrap_or}
 use Rattle.std.specs.Str.{IsCharBoundary}
 use Rattle.std.specs.Str.Pattern.{GetsRange}
 use Rattle.mbe_text.proofs.Reading.{before_rest}
-use Rattle.std.proofs.lemmas.Str.{chars-append, encode_ascii, IsUtf8-append, IsCharBoundary-from_drop, IsCharBoundary-end}
+use Rattle.std.proofs.lemmas.Str.{chars-append, encode_ascii, IsUtf8-append, IsCharBoundary-from_drop}
+use Rattle.std.proofs.lemmas.Str.{IsCharBoundary-end}
 use Rattle.std.proofs.lemmas.Bool.Decides.{nat_tests}
 use Rattle.std.proofs.Math.Seq.{take-append_seam, drop-append_seam, take-length}
-use Rattle.mbe_text.specs.Ends.{IsEnd, IsRest}
-use Rattle.mbe_text.specs.Extents.{front}
+use Rattle.mbe_text.specs.Rests.{IsEnd, IsRest}
+use Rattle.mbe_text.specs.QuoteEnds.{front}
 use Rattle.std.specs.Char.{digit_value, char_set_contains}
-use Rattle.mbe_text.specs.declared.characters.Class.{Class}
-use Rattle.mbe_text.specs.declared.characters.Class.TheVariants.{Blank, Hash}
-use Rattle.mbe_text.specs.declared.escapes.Quoted.{Quoted}
-use Rattle.mbe_text.specs.declared.wrong.Wrong.{Wrong}
+use Rattle.mbe_text.specs.declared.characters.CharClass.{CharClass}
+use Rattle.mbe_text.specs.declared.characters.CharClass.TheVariants.{Blank, Hash}
+use Rattle.mbe_text.specs.declared.escapes.EscapeMode.{EscapeMode}
+use Rattle.mbe_text.specs.declared.fault_kind.LexFaultKind.{LexFaultKind}
 use Rattle.mbe_text.specs.Characters.{has, past, are_ascii, bytes_before, low_line, backslash}
-use Rattle.mbe_text.specs.Escapes.{Left, is_hex, is_c, is_bytes, is_single, is_scalar, past_second, past_hex, past_value, past_digits, past_braces, past_unicode, past_escape, past_plain, past_unit, check_string}
+use Rattle.mbe_text.specs.Escapes.{RestResult, is_hex, is_c, is_bytes, is_single, is_scalar, past_second_digit}
+use Rattle.mbe_text.specs.Escapes.{past_hex, past_value, past_digits, past_braces, past_unicode, past_escape}
+use Rattle.mbe_text.specs.Escapes.{past_plain_char, past_char_or_escape, check_string}
 
 -- what is left of a text after some characters
 pub record Tail (cs rest : List ℕ) : Type 0 where
@@ -42,7 +47,7 @@ tail_is cs rest t =
     omega (arith, ap (λ (l : List ℕ). length l) t.is, length-append t.own rest) in
     ap (λ (k : ℕ). drop k cs) n ∙ (ap (λ (l : List ℕ). drop (length t.own) l) t.is ∙ drop-append_seam t.own rest)
 
-pub past_tail : (k : Class) (cs : List ℕ) → Tail cs (past k cs)
+pub past_tail : (k : CharClass) (cs : List ℕ) → Tail cs (past k cs)
 past_tail k [] = here []
 past_tail k (c ∷ cs) = elim (has k c) as (λ b. Tail (c ∷ cs) (if b then past k cs else c ∷ cs)) [
   | true ↦ one c cs (past k cs) (past_tail k cs)
@@ -83,39 +88,39 @@ end_or text None other got h e g = subst (λ (b : Bor (List ℕ)). IsEnd text b.
 -- ---- escapes
 
 -- what is left is of the second text, and a fault's place of the first
-pub data LeftEnds (from cs : List ℕ) : Left → Type 0 where
+pub data LeftEnds (from cs : List ℕ) : RestResult → Type 0 where
   left : {rest : List ℕ} → Tail cs rest → LeftEnds from cs (Ok rest)
-  place : {w : Wrong} {at : List ℕ} → Tail from at → LeftEnds from cs (Err (w, at))
+  place : {w : LexFaultKind} {at : List ℕ} → Tail from at → LeftEnds from cs (Err (w, at))
 
-left_if : {from cs : List ℕ} {x y : Left} (b : Bool) → LeftEnds from cs x → LeftEnds from cs y
+left_if : {from cs : List ℕ} {x y : RestResult} (b : Bool) → LeftEnds from cs x → LeftEnds from cs y
     → LeftEnds from cs (if b then x else y)
 left_if true p q = p
 left_if false p q = q
 
-more : {from cs : List ℕ} {x : Left} (c : ℕ) → LeftEnds from cs x → LeftEnds from (c ∷ cs) x
+more : {from cs : List ℕ} {x : RestResult} (c : ℕ) → LeftEnds from cs x → LeftEnds from (c ∷ cs) x
 more c (left t) = left (one c _ _ t)
 more c (place t) = place t
 
-second_ends : (q : Quoted) (from : List ℕ) (high : ℕ) (cs : List ℕ) → Tail from cs
-    → LeftEnds from cs (past_second q from high cs)
+second_ends : (q : EscapeMode) (from : List ℕ) (high : ℕ) (cs : List ℕ) → Tail from cs
+    → LeftEnds from cs (past_second_digit q from high cs)
 second_ends q from high [] t = place (here from)
 second_ends q from high (c ∷ cs) t =
     left_if (not (is_hex c)) (place t) (left_if (nat_lt 7 high && not (is_bytes q || is_c q)) (place (here from))
     (left_if (is_c q && (high == 0 && digit_value c == 0)) (place (here from)) (left (one c cs cs (here cs)))))
 
-hex_ends : (q : Quoted) (from cs : List ℕ) → Tail from cs → LeftEnds from cs (past_hex q from cs)
+hex_ends : (q : EscapeMode) (from cs : List ℕ) → Tail from cs → LeftEnds from cs (past_hex q from cs)
 hex_ends q from [] t = place (here from)
 hex_ends q from (c ∷ cs) t =
     left_if (is_hex c) (more c (second_ends q from (digit_value c) cs (on _ _ _ t (one c cs cs (here cs))))) (place t)
 
-value_ends : (q : Quoted) (from : List ℕ) (value count : ℕ) (cs : List ℕ)
+value_ends : (q : EscapeMode) (from : List ℕ) (value count : ℕ) (cs : List ℕ)
     → LeftEnds from cs (past_value q from value count cs)
 value_ends q from value count cs =
     left_if (nat_lt 6 count) (place (here from)) (left_if (is_bytes q) (place (here from))
     (left_if (not (is_scalar value)) (place (here from))
     (left_if (is_c q && value == 0) (place (here from)) (left (here cs)))))
 
-digits_ends : (q : Quoted) (from cs : List ℕ) (value count : ℕ) → Tail from cs
+digits_ends : (q : EscapeMode) (from cs : List ℕ) (value count : ℕ) → Tail from cs
     → LeftEnds from cs (past_digits q from value count cs)
 digits_ends q from [] value count t = place (here from)
 digits_ends q from (c ∷ cs) value count t =
@@ -124,19 +129,19 @@ digits_ends q from (c ∷ cs) value count t =
     (left_if (c == low_line) (more c (digits_ends q from cs value count s))
     (left_if (is_hex c) (more c (digits_ends q from cs _ _ s)) (place t)))
 
-braces_ends : (q : Quoted) (from cs : List ℕ) → Tail from cs → LeftEnds from cs (past_braces q from cs)
+braces_ends : (q : EscapeMode) (from cs : List ℕ) → Tail from cs → LeftEnds from cs (past_braces q from cs)
 braces_ends q from [] t = place (here from)
 braces_ends q from (c ∷ cs) t =
     left_if (c == low_line) (place t) (left_if (char_set_contains (codes "}") c) (place (here from))
     (left_if (is_hex c) (more c (digits_ends q from cs _ _ (on _ _ _ t (one c cs cs (here cs))))) (place t)))
 
-unicode_ends : (q : Quoted) (from cs : List ℕ) → Tail from cs → LeftEnds from cs (past_unicode q from cs)
+unicode_ends : (q : EscapeMode) (from cs : List ℕ) → Tail from cs → LeftEnds from cs (past_unicode q from cs)
 unicode_ends q from [] t = place (here from)
 unicode_ends q from (c ∷ cs) t =
     left_if (char_set_contains (codes "{") c) (more c (braces_ends q from cs (on _ _ _ t (one c cs cs (here cs)))))
     (place (here from))
 
-escape_ends : (q : Quoted) (from cs : List ℕ) → Tail from cs → LeftEnds from cs (past_escape q from cs)
+escape_ends : (q : EscapeMode) (from cs : List ℕ) → Tail from cs → LeftEnds from cs (past_escape q from cs)
 escape_ends q from [] t = place (here from)
 escape_ends q from (c ∷ cs) t =
     let s : Tail from cs = on _ _ _ t (one c cs cs (here cs)) in
@@ -148,35 +153,35 @@ escape_ends q from (c ∷ cs) t =
     (left_if (char_set_contains (codes "\n") c && not (is_single q)) (left (one c cs _ (past_tail Blank cs)))
     (place t)))))
 
-pub plain_ends : (q : Quoted) (c : ℕ) (cs : List ℕ) → LeftEnds (c ∷ cs) cs (past_plain q c cs)
+pub plain_ends : (q : EscapeMode) (c : ℕ) (cs : List ℕ) → LeftEnds (c ∷ cs) cs (past_plain_char q c cs)
 plain_ends q c cs =
     let at = here (c ∷ cs) in
     left_if (is_single q && char_set_contains (codes "\n\r\t'") c) (place at)
     (left_if (char_set_contains (codes "\r") c) (place at) (left_if (is_c q && c == 0) (place at)
     (left_if (is_bytes q && not (nat_lt c 128)) (place at) (left (here cs)))))
 
-pub unit_ends : (q : Quoted) (c : ℕ) (cs : List ℕ) → LeftEnds (c ∷ cs) cs (past_unit q c cs)
+pub unit_ends : (q : EscapeMode) (c : ℕ) (cs : List ℕ) → LeftEnds (c ∷ cs) cs (past_char_or_escape q c cs)
 unit_ends q c cs = left_if (c == backslash) (escape_ends q (c ∷ cs) cs (one c cs cs (here cs))) (plain_ends q c cs)
 
 -- ---- what calls returned
 
-ok_tail : (from cs : List ℕ) (l : Left) → LeftEnds from cs l → IfOk l (λ rest. Tail cs rest)
+ok_tail : (from cs : List ℕ) (l : RestResult) → LeftEnds from cs l → IfOk l (λ rest. Tail cs rest)
 ok_tail from cs l (left t) = t
 ok_tail from cs l (place t) = tt
 
 -- ---- a string's text
 
-skipped : (q : Quoted) (n : ℕ) (cs : List ℕ) → check_string q n cs ≡ check_string q 0 (drop n cs)
+skipped : (q : EscapeMode) (n : ℕ) (cs : List ℕ) → check_string q n cs ≡ check_string q 0 (drop n cs)
 skipped q zero cs = refl
 skipped q (suc n) [] = refl
 skipped q (suc n) (c ∷ cs) = skipped q n cs
 
-pub string_on : (q : Quoted) (c : ℕ) (text cs rest : List ℕ) → text ≡ c ∷ cs → Ok rest ≡ past_unit q c cs
+pub string_on : (q : EscapeMode) (c : ℕ) (text cs rest : List ℕ) → text ≡ c ∷ cs → Ok rest ≡ past_char_or_escape q c cs
     → check_string q 0 rest ≡ check_string q 0 text
 string_on q c text cs rest e f =
     let t : Tail cs rest =
-    subst (λ (l : Left). IfOk l (λ (r : List ℕ). Tail cs r)) (sym f)
-    (ok_tail (c ∷ cs) cs (past_unit q c cs) (unit_ends q c cs)) in
+    subst (λ (l : RestResult). IfOk l (λ (r : List ℕ). Tail cs r)) (sym f)
+    (ok_tail (c ∷ cs) cs (past_char_or_escape q c cs) (unit_ends q c cs)) in
     let skip = skipped q (length cs - length rest) cs in
     sym (ap (check_string q 0) e ∙ (rw (← f, check_string) (skip ∙ ap (check_string q 0) (tail_is cs rest t))))
 

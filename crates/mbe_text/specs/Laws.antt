@@ -1,5 +1,5 @@
--- What the laws of Rust text speak of: trees that a text of it comes back with.
-pub mod Back
+-- The statements of the laws of Rust text: the written text of trees is read as these trees.
+pub mod RoundTrip
 pub mod Gaps
 pub mod Lexed
-pub mod Rust
+pub mod RustTrees

@@ -1,5 +1,5 @@
--- Trees as Rust text: what is between two tokens, comments, and the text of it all.
-pub mod Comments
+-- Trees as Rust text: the gaps between tokens, doc comments, and the whole text.
+pub mod DocComments
 pub mod Gaps
-pub mod Shown
-pub mod Writing
+pub mod PrinterViews
+pub mod Printer

@@ -1,4 +1,4 @@
--- What a token is, wherever it is.
+-- What a token is, whatever its span.
 use Rattle.std.specs.Prelude.{◌≡◌, ℕ, Bool, List, ◌++◌, Result, Ok, Err}
 use Rattle.mbe_tt.specs.declared.span.Span.{Span}
 use Rattle.mbe_tt.specs.Trees.Leaf.{literal, punct, ident}
@@ -8,10 +8,12 @@ use Rattle.mbe_tt.specs.declared.tt.LitKind.{LitKind}
 use Rattle.mbe_tt.specs.declared.tt.Spacing.{Spacing}
 use Rattle.mbe_text.specs.declared.scanner.LexFault.{LexFault}
 use Rattle.mbe_text.specs.declared.scanner.Lexeme.{Lexeme}
-use Rattle.mbe_text.specs.declared.scanner.Lexeme.TheVariants.{Ident, Literal, Punct, Open, Close, Lifetime, Doc}
-use Rattle.mbe_text.specs.Tokens.{Item, leaf_item, open_item, close_item, trees_item, lifetime_trees, doc_trees}
+use Rattle.mbe_text.specs.declared.scanner.Lexeme.TheVariants.{Ident, Literal, Punct, Open, Close}
+use Rattle.mbe_text.specs.declared.scanner.Lexeme.TheVariants.{Lifetime, Doc}
+use Rattle.mbe_text.specs.Tokens.{TokenItem, leaf_item, open_item, close_item, trees_item}
+use Rattle.mbe_text.specs.Tokens.{lifetime_trees, doc_trees}
 
--- texts are bytes
+-- a token without its span; texts are bytes
 pub data Shape : Type 0 where
   identifier : (name : List ℕ) → IdentIsRaw → Shape
   literal_of : (text suffix : List ℕ) (suffix_len : ℕ) → LitKind → Shape
@@ -21,20 +23,28 @@ pub data Shape : Type 0 where
   opening : DelimiterKind → Shape
   closing : DelimiterKind → Shape
 
--- a token of that shape at that span
-abbrev pub item_of : Span → Shape → Item
-item_of span (identifier name is_raw) = leaf_item (ident (record { sym = name; is_raw = is_raw; span = span }))
+-- the item of a token of that shape at that span
+abbrev pub item_of : Span → Shape → TokenItem
+item_of span (identifier name is_raw) =
+    leaf_item (ident (record { sym = name; is_raw = is_raw; span = span }))
 item_of span (literal_of text suffix suffix_len kind) =
-    leaf_item (literal (record { text_and_suffix = text ++ suffix; suffix_len = suffix_len; kind = kind; span = span }))
-item_of span (punct_of char spacing) = leaf_item (punct (record { char = char; spacing = spacing; span = span }))
+    leaf_item (literal (record {
+      text_and_suffix = text
+          ++ suffix;
+      suffix_len = suffix_len;
+      kind = kind;
+      span = span;
+    }))
+item_of span (punct_of char spacing) =
+    leaf_item (punct (record { char = char; spacing = spacing; span = span }))
 item_of span (lifetime_of name is_raw) = trees_item span (lifetime_trees span name is_raw)
 item_of span (doc_of text is_inner) = trees_item span (doc_trees span text is_inner)
 item_of span (opening kind) = open_item kind span
 item_of span (closing kind) = close_item kind span
 
 -- What is read from the front of a text: a token and what is left after it, or the fault.
-abbrev pub Read : Type 0
-Read = Result (Shape × List ℕ) LexFault
+abbrev pub ReadResult : Type 0
+ReadResult = Result (Shape × List ℕ) LexFault
 
 -- the shape of a lexeme
 abbrev pub shape_of : Lexeme → Shape
@@ -46,7 +56,7 @@ shape_of (Close kind) = closing kind
 shape_of (Lifetime name is_raw) = lifetime_of name.now is_raw
 shape_of (Doc text is_inner) = doc_of text.now is_inner
 
--- that is what a call read, and what it left
-abbrev pub Gives : Read → Result Lexeme LexFault → List ℕ → Type 0
-Gives read (Ok l) rest = read ≡ Ok (shape_of l, rest)
-Gives read (Err fault) rest = read ≡ Err fault
+-- a call read that token and left that rest
+abbrev pub ReadsAs : ReadResult → Result Lexeme LexFault → List ℕ → Type 0
+ReadsAs read (Ok l) rest = read ≡ Ok (shape_of l, rest)
+ReadsAs read (Err fault) rest = read ≡ Err fault

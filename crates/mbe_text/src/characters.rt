@@ -1,57 +1,64 @@
-// The characters of a text: kinds of them, and what is left of a text after some.
-ghost use Rattle.std.specs.Prelude.{◌≡◌, ◌++◌, [], ◌∷◌, ◌+◌, ◌<◌, ◌≤◌, length, chars, encode_utf8, MatchOption, IfSome, IsTrue, true, false, drop, Some, None, nat_le, nat_lt, ◌&&◌, slice_index};
+// Classes of characters, and the rest of a text after some characters.
+//
+// The functions take a text and return what is left of it. ASCII has fast paths.
+ghost use Rattle.std.specs.Prelude.{◌≡◌, ◌++◌, [], ◌∷◌, ◌+◌, ◌<◌, ◌≤◌, length, chars, encode_utf8};
+ghost use Rattle.std.specs.Prelude.{MatchOption, IfSome, IsTrue, true, false, drop, Some, None};
+ghost use Rattle.std.specs.Prelude.{nat_le, nat_lt, ◌&&◌, slice_index};
 ghost use Rattle.std.specs.Str.{IsUtf8};
 ghost use Rattle.mbe_text.specs.Characters as spec;
-ghost use Rattle.mbe_text.specs.declared.characters.Class.TheVariants.{IdentContinue, IdentStart, Punct, Space};
-ghost use Rattle.mbe_text.specs.Ends.{IsEnd, IsRest};
+ghost use Rattle.mbe_text.specs.declared.characters.CharClass.TheVariants.{IdentContinue};
+ghost use Rattle.mbe_text.specs.declared.characters.CharClass.TheVariants.{IdentStart, Punct};
+ghost use Rattle.mbe_text.specs.declared.characters.CharClass.TheVariants.{Space};
+ghost use Rattle.mbe_text.specs.Rests.{IsEnd, IsRest};
 
 use unicode_ident::{is_xid_continue, is_xid_start};
 
-// A kind of characters.
+// A class of characters.
 #[derive(Clone, Copy)]
-pub(crate) enum Class {
+pub(crate) enum CharClass {
     Blank,
     // White space of Rust: Unicode's `Pattern_White_Space`.
     Space,
-    // Any but a line feed.
-    InLine,
+    // Any character other than a line feed.
+    NotLineFeed,
     IdentStart,
     IdentContinue,
     Decimal,
-    // Of a number, where `_` is one too.
+    // A digit of a number. `_` is one too.
     Digit,
     HexDigit,
-    // What begins an exponent.
+    // The letter that begins an exponent.
     Exponent,
     Sign,
     Punct,
     Hash,
 }
 
-impl Class {
-    // Whether the character is of this kind.
+impl CharClass {
+    // Returns whether the character is of this class.
     #[inline(always)]
     pub(crate) fn has(self, char: char) -> bool
         ensures { result ≡ spec.has self char }
     {
         match self {
-            Class::Blank => matches!(char, ' ' | '\t' | '\r' | '\n'),
-            Class::Space => is_space(char),
-            Class::InLine => char != '\n',
-            Class::IdentStart => is_start(char),
-            Class::IdentContinue => is_continue(char),
-            Class::Decimal => char.is_ascii_digit(),
-            Class::Digit => char.is_ascii_digit() || char == '_',
-            Class::HexDigit => char.is_ascii_hexdigit() || char == '_',
-            Class::Exponent => matches!(char, 'e' | 'E'),
-            Class::Sign => matches!(char, '+' | '-'),
-            Class::Punct => is_punct(char),
-            Class::Hash => char == '#',
+            CharClass::Blank => matches!(char, ' ' | '\t' | '\r' | '\n'),
+            CharClass::Space => is_space(char),
+            CharClass::NotLineFeed => char != '\n',
+            CharClass::IdentStart => is_start(char),
+            CharClass::IdentContinue => is_continue(char),
+            CharClass::Decimal => char.is_ascii_digit(),
+            CharClass::Digit => char.is_ascii_digit() || char == '_',
+            CharClass::HexDigit => char.is_ascii_hexdigit() || char == '_',
+            CharClass::Exponent => matches!(char, 'e' | 'E'),
+            CharClass::Sign => matches!(char, '+' | '-'),
+            CharClass::Punct => is_punct(char),
+            CharClass::Hash => char == '#',
         }
     }
 }
 
-// Whether an identifier may begin with the character. ASCII, which nearly all of them are, needs no table.
+// Returns whether an identifier may begin with the character. ASCII, which nearly all characters
+// are, needs no table.
 #[inline(always)]
 fn is_start(char: char) -> bool
     ensures { result ≡ spec.has IdentStart char }
@@ -63,7 +70,7 @@ fn is_start(char: char) -> bool
     }
 }
 
-// Whether an identifier may go on with it.
+// Returns whether an identifier may continue with the character.
 #[inline(always)]
 fn is_continue(char: char) -> bool
     ensures { result ≡ spec.has IdentContinue char }
@@ -123,7 +130,7 @@ fn is_punct(char: char) -> bool
     )
 }
 
-// The first character, and what is left after it.
+// Returns the first character and what is left after it.
 #[inline(always)]
 pub(crate) fn split_first(text: &str) -> Option<(char, &str)>
     ensures chars { MatchOption result (chars text.now ≡ [])
@@ -138,9 +145,9 @@ pub(crate) fn split_first(text: &str) -> Option<(char, &str)>
     Some((char, chars.as_str()))
 }
 
-// Whether the first character is of this kind.
+// Returns whether the first character is of this class.
 #[inline(always)]
-pub(crate) fn begins(text: &str, class: Class) -> bool
+pub(crate) fn begins(text: &str, class: CharClass) -> bool
     ensures exact { result ≡ spec.begins class (chars text.now) }
     ensures some { IsTrue result → 0 < length text.now }
 {
@@ -150,9 +157,9 @@ pub(crate) fn begins(text: &str, class: Class) -> bool
     }
 }
 
-// What is left after one character of this kind, where it comes first.
+// Returns what is left after the first character, if it is of this class.
 #[inline(always)]
-pub(crate) fn past_one(text: &str, class: Class) -> Option<&str>
+pub(crate) fn past_one(text: &str, class: CharClass) -> Option<&str>
     ensures exact { MatchOption result (spec.past_one class (chars text.now) ≡ None)
         (λ rest. spec.past_one class (chars text.now) ≡ Some (chars rest.now)) }
     ensures end { IfSome result (λ rest. IsEnd text.now rest.now) }
@@ -163,17 +170,17 @@ pub(crate) fn past_one(text: &str, class: Class) -> Option<&str>
     }
 }
 
-// Whether the byte is an ASCII character of this kind.
+// Returns whether the byte is an ASCII character of this class.
 #[inline(always)]
-fn is_ascii_of(byte: u8, class: Class) -> bool
+fn is_ascii_in(byte: u8, class: CharClass) -> bool
     ensures { result ≡ (nat_lt byte 128 && spec.has class byte) }
 {
     byte.is_ascii() && class.has(byte as char)
 }
 
-// How many of the first bytes are ASCII characters of this kind.
+// Returns how many bytes at the front are ASCII characters of this class.
 #[inline(always)]
-fn ascii_count(text: &str, class: Class) -> usize
+fn ascii_count(text: &str, class: CharClass) -> usize
     ensures within { result ≤ length text.now }
     ensures utf8 { IsUtf8 (drop result text.now) }
     ensures exact { spec.past class (chars (drop result text.now))
@@ -183,7 +190,7 @@ fn ascii_count(text: &str, class: Class) -> usize
 {
     let mut count = 0;
     'bytes: for byte in text.as_bytes() {
-        if !is_ascii_of(*byte, class) {
+        if !is_ascii_in(*byte, class) {
             return count;
         }
         count += 1;
@@ -191,24 +198,25 @@ fn ascii_count(text: &str, class: Class) -> usize
     count
 }
 
-// What is left after all characters of this kind that come first. Those of ASCII are passed byte by byte.
+// Returns what is left after the characters of this class at the front. It skips ASCII byte by
+// byte.
 #[inline(always)]
-pub(crate) fn past(text: &str, class: Class) -> &str
+pub(crate) fn past(text: &str, class: CharClass) -> &str
     ensures exact { chars result.now ≡ spec.past class (chars text.now) }
     ensures end { IsEnd text.now result.now }
 {
     let count = ascii_count(text, class);
     let rest = &text[count..];
-    if is_far(text, count) {
-        past_each(rest, class)
+    if is_non_ascii_at(text, count) {
+        past_by_char(rest, class)
     } else {
         rest
     }
 }
 
-// Whether a byte that isn't of ASCII is there.
+// Returns whether the byte at that index isn't ASCII.
 #[inline(always)]
-fn is_far(text: &str, at: usize) -> bool
+fn is_non_ascii_at(text: &str, at: usize) -> bool
     ensures { result ≡ nat_le 128 (slice_index text.now at) }
 {
     match text.as_bytes().get(at) {
@@ -217,9 +225,9 @@ fn is_far(text: &str, at: usize) -> bool
     }
 }
 
-// The same, where the first of them isn't of ASCII.
+// Does the same character by character, for a text that doesn't begin with ASCII.
 #[inline(never)]
-fn past_each(text: &str, class: Class) -> &str
+fn past_by_char(text: &str, class: CharClass) -> &str
     ensures exact { chars result.now ≡ spec.past class (chars text.now) }
     ensures end { IsEnd text.now result.now }
 {
@@ -232,7 +240,7 @@ fn past_each(text: &str, class: Class) -> &str
     }
 }
 
-// Whether this character comes first.
+// Returns whether the text begins with this character.
 #[inline(always)]
 pub(crate) fn is_at(text: &str, char: char) -> bool
     ensures exact { result ≡ spec.begins_with (char ∷ []) (chars text.now) }
@@ -244,7 +252,7 @@ pub(crate) fn is_at(text: &str, char: char) -> bool
     }
 }
 
-// Whether the first characters are those of this front.
+// Returns whether the text begins with `front`, which is ASCII.
 #[inline(always)]
 pub(crate) fn begins_with(text: &str, front: &str) -> bool
     requires { IsTrue (spec.are_ascii front.now) }
@@ -254,7 +262,7 @@ pub(crate) fn begins_with(text: &str, front: &str) -> bool
     text.starts_with(front)
 }
 
-// What is left after this front, where it comes first.
+// Returns what is left after `front`, if the text begins with it.
 pub(crate) fn past_front<'t>(text: &'t str, front: &str) -> Option<&'t str>
     requires { IsTrue (spec.are_ascii front.now) }
     ensures exact { MatchOption result (spec.begins_with front.now (chars text.now) ≡ false)
@@ -266,7 +274,7 @@ pub(crate) fn past_front<'t>(text: &'t str, front: &str) -> Option<&'t str>
     text.strip_prefix(front)
 }
 
-// What a text has before this rest of it.
+// Returns the part of the text before this rest of it.
 #[inline(always)]
 pub(crate) fn before<'t>(text: &'t str, rest: &str) -> &'t str
     requires { length rest.now ≤ length text.now }
@@ -277,7 +285,7 @@ pub(crate) fn before<'t>(text: &'t str, rest: &str) -> &'t str
     text.get(..text.len() - rest.len()).unwrap_or("")
 }
 
-// The byte at which this rest of a text begins, where the text has so many.
+// Returns the byte offset at which this rest begins, in a text of `total` bytes.
 #[inline(always)]
 pub(crate) fn offset(total: u32, rest: &str) -> u32
     requires { length rest.now ≤ total }

@@ -1,20 +1,26 @@
-// What is between the quotes of Rust's literals: where it ends, and whether its characters and escapes are right.
-ghost use Rattle.std.specs.Prelude.{◌≡◌, ◌∷◌, ◌++◌, ◌+◌, ◌<◌, ◌≤◌, List, ℕ, length, drop, chars, true, false, None, Some, MatchOption, IfSome, IfOk, IfErr, IsTrue};
+// The text between the quotes of Rust's literals.
+//
+// The module finds the end of a literal, and then checks the characters and escapes before that
+// end. The `past_` functions return what is left of a text after a part of it, or the fault in
+// that part.
+ghost use Rattle.std.specs.Prelude.{◌≡◌, ◌∷◌, ◌++◌, ◌+◌, ◌<◌, ◌≤◌, List, ℕ, length, drop, chars};
+ghost use Rattle.std.specs.Prelude.{true, false, None, Some, MatchOption, IfSome, IfOk, IfErr};
+ghost use Rattle.std.specs.Prelude.{IsTrue};
 ghost use Rattle.std.specs.Char.{digit_value};
 ghost use Rattle.std.specs.Str.{IsUtf8};
 ghost use Rattle.mbe_text.specs.Characters.{bytes_before, are_ascii};
-ghost use Rattle.mbe_text.specs.Words as words;
-ghost use Rattle.mbe_text.specs.Ends.{IsEnd};
+ghost use Rattle.mbe_text.specs.Identifiers as words;
+ghost use Rattle.mbe_text.specs.Rests.{IsEnd};
 ghost use Rattle.mbe_text.specs.Escapes as spec;
 ghost use Rattle.mbe_text.specs.Escapes.{left_seen, checked_seen, stop, left};
-ghost use Rattle.mbe_text.specs.Extents as extents;
+ghost use Rattle.mbe_text.specs.QuoteEnds as extents;
 
-use crate::characters::{Class, before, begins_with, past, past_front, split_first};
-use crate::wrong::{Fault, Wrong, fault};
+use crate::characters::{CharClass, before, begins_with, past, past_front, split_first};
+use crate::fault_kind::{LexFaultKind, TextFault, fault};
 
-// The literals that have escapes.
+// The kinds of literals that have escapes.
 #[derive(Clone, Copy)]
-pub(crate) enum Quoted {
+pub(crate) enum EscapeMode {
     Char,
     Byte,
     Str,
@@ -22,30 +28,31 @@ pub(crate) enum Quoted {
     CStr,
 }
 
-impl Quoted {
-    // Whether it is of one character.
+impl EscapeMode {
+    // Returns whether the literal has exactly one character.
     pub(crate) fn is_single(self) -> bool
         ensures { result ≡ spec.is_single self }
     {
-        matches!(self, Quoted::Char | Quoted::Byte)
+        matches!(self, EscapeMode::Char | EscapeMode::Byte)
     }
 
-    // Whether it is of bytes, and so has ASCII characters and no `\u`.
+    // Returns whether the literal is a byte or a byte string. Its characters are ASCII, and it has
+    // no `\u`.
     pub(crate) fn is_bytes(self) -> bool
         ensures { result ≡ spec.is_bytes self }
     {
-        matches!(self, Quoted::Byte | Quoted::ByteStr)
+        matches!(self, EscapeMode::Byte | EscapeMode::ByteStr)
     }
 
-    // Whether it is a C string, which has no null character.
+    // Returns whether the literal is a C string, which has no null character.
     fn is_c(self) -> bool
         ensures { result ≡ spec.is_c self }
     {
-        matches!(self, Quoted::CStr)
+        matches!(self, EscapeMode::CStr)
     }
 }
 
-// What is left after the first character, if there is one.
+// Returns what is left after the first character, or the empty text if there is none.
 pub(crate) fn tail(text: &str) -> &str
     ensures exact { chars result.now ≡ drop 1 (chars text.now) }
     ensures end { IsEnd text.now result.now }
@@ -57,18 +64,18 @@ pub(crate) fn tail(text: &str) -> &str
     }
 }
 
-// What is left after an identifier, whose first character isn't looked at.
-pub(crate) fn past_word(text: &str) -> &str
-    ensures exact { chars result.now ≡ words.past_word (chars text.now) }
+// Returns what is left after an identifier. The first character isn't checked.
+pub(crate) fn past_identifier(text: &str) -> &str
+    ensures exact { chars result.now ≡ words.past_identifier (chars text.now) }
     ensures end { IsEnd text.now result.now }
     ensures past { 0 < length text.now → length result.now < length text.now }
 {
-    past(tail(text), Class::IdentContinue)
+    past(tail(text), CharClass::IdentContinue)
 }
 
 // ---- escapes
 
-// A digit in base sixteen.
+// Returns the value of a digit in base sixteen.
 fn hex_value(char: char) -> Option<u32>
     ensures { MatchOption result (spec.is_hex char ≡ false)
         (λ n. (spec.is_hex char ≡ true) × (n ≡ digit_value char)) }
@@ -76,14 +83,16 @@ fn hex_value(char: char) -> Option<u32>
     char.to_digit(16)
 }
 
-// What is after the second digit of a `\x` that begins at `from`, after one of that value.
-fn past_second<'t>(
+// Returns what is left after the second digit of a `\x` that begins at `from`. `high` is the value
+// of the first digit.
+fn past_second_digit<'t>(
     from: &'t str,
     text: &'t str,
     high: u32,
-    quoted: Quoted,
-) -> Result<&'t str, Fault<'t>>
-    ensures exact { left_seen result ≡ spec.past_second quoted (chars from.now) high (chars text.now) }
+    mode: EscapeMode,
+) -> Result<&'t str, TextFault<'t>>
+    ensures exact { left_seen result
+        ≡ spec.past_second_digit mode (chars from.now) high (chars text.now) }
     ensures end { IsEnd from.now text.now → IsEnd from.now (stop result) }
     ensures rest { length (left result) ≤ length text.now }
     ensures text { IsUtf8 (left result) }
@@ -94,18 +103,18 @@ fn past_second<'t>(
     let Some(low) = hex_value(char) else {
         return fault!(HexEscapeDigit, text);
     };
-    if high > 7 && !(quoted.is_bytes() || quoted.is_c()) {
-        fault!(LargeHexEscape, from)
-    } else if quoted.is_c() && high == 0 && low == 0 {
+    if high > 7 && !(mode.is_bytes() || mode.is_c()) {
+        fault!(OutOfRangeHexEscape, from)
+    } else if mode.is_c() && high == 0 && low == 0 {
         fault!(Nul, from)
     } else {
         Ok(rest)
     }
 }
 
-// What is after the two digits of a `\x` that begins at `from`.
-fn past_hex<'t>(from: &'t str, text: &'t str, quoted: Quoted) -> Result<&'t str, Fault<'t>>
-    ensures exact { left_seen result ≡ spec.past_hex quoted (chars from.now) (chars text.now) }
+// Returns what is left after the two digits of a `\x` that begins at `from`.
+fn past_hex<'t>(from: &'t str, text: &'t str, mode: EscapeMode) -> Result<&'t str, TextFault<'t>>
+    ensures exact { left_seen result ≡ spec.past_hex mode (chars from.now) (chars text.now) }
     ensures end { IsEnd from.now text.now → IsEnd from.now (stop result) }
     ensures rest { length (left result) ≤ length text.now }
     ensures text { IsUtf8 (left result) }
@@ -114,47 +123,50 @@ fn past_hex<'t>(from: &'t str, text: &'t str, quoted: Quoted) -> Result<&'t str,
         return fault!(ShortHexEscape, from);
     };
     match hex_value(char) {
-        Some(high) => past_second(from, rest, high, quoted),
+        Some(high) => past_second_digit(from, rest, high, mode),
         None => fault!(HexEscapeDigit, text),
     }
 }
 
-// What is after the `}` of a `\u{` that begins at `from`, with that value and so many digits.
+// Returns the text after the `}` of a `\u{` that begins at `from`, or the fault of its value.
+// `count` is the number of its digits.
 fn past_value<'t>(
     from: &'t str,
     text: &'t str,
     value: u32,
     count: u32,
-    quoted: Quoted,
-) -> Result<&'t str, Fault<'t>>
+    mode: EscapeMode,
+) -> Result<&'t str, TextFault<'t>>
     ensures exact { left_seen result
-        ≡ spec.past_value quoted (chars from.now) value count (chars text.now) }
+        ≡ spec.past_value mode (chars from.now) value count (chars text.now) }
     ensures end { IsEnd from.now text.now → IsEnd from.now (stop result) }
     ensures rest { length (left result) ≤ length text.now }
     ensures text { IsUtf8 (left result) }
 {
     if count > 6 {
-        fault!(LongUnicodeEscape, from)
-    } else if quoted.is_bytes() {
+        fault!(OverlongUnicodeEscape, from)
+    } else if mode.is_bytes() {
         fault!(UnicodeEscapeInBytes, from)
     } else if char::from_u32(value).is_none() {
         fault!(UnicodeEscapeValue, from)
-    } else if quoted.is_c() && value == 0 {
+    } else if mode.is_c() && value == 0 {
         fault!(Nul, from)
     } else {
         Ok(text)
     }
 }
 
-// What is after the digits and the `}` of a `\u{` that begins at `from`, after its first digit, which has that value.
+// Returns what is left after the digits and the `}` of a `\u{` that begins at `from`. `first` is
+// the value of the first digit, which is already consumed.
 fn past_digits<'t>(
     from: &'t str,
     text: &'t str,
     first: u32,
-    quoted: Quoted,
-) -> Result<&'t str, Fault<'t>>
+    mode: EscapeMode,
+) -> Result<&'t str, TextFault<'t>>
     requires { first ≤ 15 }
-    ensures exact { left_seen result ≡ spec.past_digits quoted (chars from.now) first 1 (chars text.now) }
+    ensures exact { left_seen result
+        ≡ spec.past_digits mode (chars from.now) first 1 (chars text.now) }
     ensures end { IsEnd from.now text.now → IsEnd from.now (stop result) }
     ensures rest { length (left result) ≤ length text.now }
     ensures text { IsUtf8 (left result) }
@@ -164,10 +176,10 @@ fn past_digits<'t>(
     let mut rest = text;
     'digits: loop {
         let Some((char, after)) = split_first(rest) else {
-            return fault!(OpenUnicodeEscape, from);
+            return fault!(UnterminatedUnicodeEscape, from);
         };
         if char == '}' {
-            return past_value(from, after, value, count, quoted);
+            return past_value(from, after, value, count, mode);
         }
         if char != '_' {
             let Some(digit) = hex_value(char) else {
@@ -180,15 +192,15 @@ fn past_digits<'t>(
     }
 }
 
-// What is after a `\u{` that begins at `from`.
-fn past_braces<'t>(from: &'t str, text: &'t str, quoted: Quoted) -> Result<&'t str, Fault<'t>>
-    ensures exact { left_seen result ≡ spec.past_braces quoted (chars from.now) (chars text.now) }
+// Returns what is left after a `\u{..}` that begins at `from`. `text` is what follows the `{`.
+fn past_braces<'t>(from: &'t str, text: &'t str, mode: EscapeMode) -> Result<&'t str, TextFault<'t>>
+    ensures exact { left_seen result ≡ spec.past_braces mode (chars from.now) (chars text.now) }
     ensures end { IsEnd from.now text.now → IsEnd from.now (stop result) }
     ensures rest { length (left result) ≤ length text.now }
     ensures text { IsUtf8 (left result) }
 {
     let Some((char, rest)) = split_first(text) else {
-        return fault!(OpenUnicodeEscape, from);
+        return fault!(UnterminatedUnicodeEscape, from);
     };
     if char == '_' {
         return fault!(UnicodeEscapeStart, text);
@@ -197,27 +209,31 @@ fn past_braces<'t>(from: &'t str, text: &'t str, quoted: Quoted) -> Result<&'t s
         return fault!(EmptyUnicodeEscape, from);
     }
     match hex_value(char) {
-        Some(first) => past_digits(from, rest, first, quoted),
+        Some(first) => past_digits(from, rest, first, mode),
         None => fault!(UnicodeEscapeDigit, text),
     }
 }
 
-// What is after a `\u` that begins at `from`.
-fn past_unicode<'t>(from: &'t str, text: &'t str, quoted: Quoted) -> Result<&'t str, Fault<'t>>
-    ensures exact { left_seen result ≡ spec.past_unicode quoted (chars from.now) (chars text.now) }
+// Returns what is left after a `\u` escape that begins at `from`.
+fn past_unicode<'t>(
+    from: &'t str,
+    text: &'t str,
+    mode: EscapeMode,
+) -> Result<&'t str, TextFault<'t>>
+    ensures exact { left_seen result ≡ spec.past_unicode mode (chars from.now) (chars text.now) }
     ensures end { IsEnd from.now text.now → IsEnd from.now (stop result) }
     ensures rest { length (left result) ≤ length text.now }
     ensures text { IsUtf8 (left result) }
 {
     match split_first(text) {
-        Some(('{', rest)) => past_braces(from, rest, quoted),
+        Some(('{', rest)) => past_braces(from, rest, mode),
         _ => fault!(UnicodeEscapeBrace, from),
     }
 }
 
-// What is after the escape that begins at `from`, after its `\`.
-fn past_escape<'t>(from: &'t str, text: &'t str, quoted: Quoted) -> Result<&'t str, Fault<'t>>
-    ensures exact { left_seen result ≡ spec.past_escape quoted (chars from.now) (chars text.now) }
+// Returns what is left after the escape that begins at `from`. `text` is what follows its `\`.
+fn past_escape<'t>(from: &'t str, text: &'t str, mode: EscapeMode) -> Result<&'t str, TextFault<'t>>
+    ensures exact { left_seen result ≡ spec.past_escape mode (chars from.now) (chars text.now) }
     ensures end { IsEnd from.now text.now → IsEnd from.now (stop result) }
     ensures rest { length (left result) ≤ length text.now }
     ensures text { IsUtf8 (left result) }
@@ -227,95 +243,96 @@ fn past_escape<'t>(from: &'t str, text: &'t str, quoted: Quoted) -> Result<&'t s
     };
     match char {
         'n' | 'r' | 't' | '\\' | '\'' | '"' => Ok(rest),
-        '0' if quoted.is_c() => fault!(Nul, from),
+        '0' if mode.is_c() => fault!(Nul, from),
         '0' => Ok(rest),
-        'x' => past_hex(from, rest, quoted),
-        'u' => past_unicode(from, rest, quoted),
-        '\n' if !quoted.is_single() => Ok(past(rest, Class::Blank)),
+        'x' => past_hex(from, rest, mode),
+        'u' => past_unicode(from, rest, mode),
+        '\n' if !mode.is_single() => Ok(past(rest, CharClass::Blank)),
         _ => fault!(Escape, text),
     }
 }
 
 // ---- characters
 
-// What is after this character, which is no escape and is here.
-fn past_plain<'t>(
+// Returns what is left after `char`, which is at the front of the text and isn't an escape.
+fn past_plain_char<'t>(
     text: &'t str,
     char: char,
     after: &'t str,
-    quoted: Quoted,
-) -> Result<&'t str, Fault<'t>>
+    mode: EscapeMode,
+) -> Result<&'t str, TextFault<'t>>
     requires { chars text.now ≡ char ∷ chars after.now }
-    ensures exact { left_seen result ≡ spec.past_plain quoted char (chars after.now) }
+    ensures exact { left_seen result ≡ spec.past_plain_char mode char (chars after.now) }
     ensures end { IsEnd text.now after.now → IsEnd text.now (stop result) }
     ensures rest { length (left result) ≤ length after.now }
     ensures text { IsUtf8 (left result) }
 {
-    if quoted.is_single() && matches!(char, '\n' | '\r' | '\t' | '\'') {
-        fault!(CharToEscape, text)
+    if mode.is_single() && matches!(char, '\n' | '\r' | '\t' | '\'') {
+        fault!(UnescapedChar, text)
     } else if char == '\r' {
-        fault!(BareReturn, text)
-    } else if quoted.is_c() && char == '\0' {
+        fault!(BareCarriageReturn, text)
+    } else if mode.is_c() && char == '\0' {
         fault!(Nul, text)
-    } else if quoted.is_bytes() && !char.is_ascii() {
+    } else if mode.is_bytes() && !char.is_ascii() {
         fault!(NonAscii, text)
     } else {
         Ok(after)
     }
 }
 
-// What is after the escape that is here, or this character.
-fn past_unit<'t>(
+// Returns what is left after `char`, which is at the front of the text, or after the escape that
+// it begins.
+fn past_char_or_escape<'t>(
     text: &'t str,
     char: char,
     after: &'t str,
-    quoted: Quoted,
-) -> Result<&'t str, Fault<'t>>
+    mode: EscapeMode,
+) -> Result<&'t str, TextFault<'t>>
     requires { chars text.now ≡ char ∷ chars after.now }
-    ensures exact { left_seen result ≡ spec.past_unit quoted char (chars after.now) }
+    ensures exact { left_seen result ≡ spec.past_char_or_escape mode char (chars after.now) }
     ensures end { IsEnd text.now after.now → IsEnd text.now (stop result) }
     ensures rest { length (left result) ≤ length after.now }
     ensures text { IsUtf8 (left result) }
 {
     if char == '\\' {
-        past_escape(text, after, quoted)
+        past_escape(text, after, mode)
     } else {
-        past_plain(text, char, after, quoted)
+        past_plain_char(text, char, after, mode)
     }
 }
 
-// Whether a string may have this text between its quotes.
-pub(crate) fn check_string(text: &str, quoted: Quoted) -> Result<(), Fault<'_>>
-    ensures exact { checked_seen result ≡ spec.check_string quoted 0 (chars text.now) }
+// Checks that a string may have this text between its quotes.
+pub(crate) fn check_string(text: &str, mode: EscapeMode) -> Result<(), TextFault<'_>>
+    ensures exact { checked_seen result ≡ spec.check_string mode 0 (chars text.now) }
     ensures place { IfErr result (λ fault. IsEnd text.now fault.at.now) }
 {
     let mut rest = text;
     'parts: while let Some((char, after)) = split_first(rest) {
-        rest = past_unit(rest, char, after, quoted)?;
+        rest = past_char_or_escape(rest, char, after, mode)?;
     }
     Ok(())
 }
 
-// What is left in the text of a char or a byte after its first character or escape.
-pub(crate) fn check_char(text: &str, quoted: Quoted) -> Result<&str, Fault<'_>>
-    ensures exact { left_seen result ≡ spec.check_char quoted (chars text.now) }
+// Returns what is left of the text of a char or a byte after its first character or escape.
+pub(crate) fn check_char(text: &str, mode: EscapeMode) -> Result<&str, TextFault<'_>>
+    ensures exact { left_seen result ≡ spec.check_char mode (chars text.now) }
     ensures end { IsEnd text.now (stop result) }
 {
     match split_first(text) {
-        Some((char, after)) => past_unit(text, char, after, quoted),
+        Some((char, after)) => past_char_or_escape(text, char, after, mode),
         None => fault!(EmptyChar, text),
     }
 }
 
-// Whether a raw string may have this text between its quotes.
-pub(crate) fn check_raw(text: &str, quoted: Quoted) -> Result<(), Fault<'_>>
-    ensures exact { checked_seen result ≡ spec.check_raw quoted (chars text.now) }
+// Checks that a raw string may have this text between its quotes.
+pub(crate) fn check_raw(text: &str, mode: EscapeMode) -> Result<(), TextFault<'_>>
+    ensures exact { checked_seen result ≡ spec.check_raw mode (chars text.now) }
     ensures place { IfErr result (λ fault. IsEnd text.now fault.at.now) }
 {
     let mut rest = text;
     'chars: while let Some((char, after)) = split_first(rest) {
         if char != '\\' {
-            past_plain(rest, char, after, quoted)?;
+            past_plain_char(rest, char, after, mode)?;
         }
         rest = after;
     }
@@ -324,7 +341,7 @@ pub(crate) fn check_raw(text: &str, quoted: Quoted) -> Result<(), Fault<'_>>
 
 // ---- ends
 
-// What a text has before this end of it.
+// Returns the part of the text before this end of it.
 pub(crate) fn front<'t>(text: &'t str, end: &str) -> &'t str
     requires { IsEnd text.now end.now }
     ensures bytes { result.now ≡ bytes_before (chars text.now) (chars end.now) }
@@ -334,8 +351,9 @@ pub(crate) fn front<'t>(text: &'t str, end: &str) -> &'t str
     before(text, end)
 }
 
-// From the quote that ends a char or a byte of more or less than one character on.
-fn later_quote(text: &str) -> Option<&str>
+// Returns the text from the closing quote of a char or a byte on, for one that has more or less
+// than one character. Gives up at a `/`, and at a line feed that no `'` follows.
+fn find_later_quote(text: &str) -> Option<&str>
     ensures exact { MatchOption result (extents.from_later_quote false (chars text.now) ≡ None)
         (λ end. extents.from_later_quote false (chars text.now) ≡ Some (chars end.now)) }
     ensures end { IfSome result (λ end. IsEnd text.now end.now) }
@@ -353,7 +371,8 @@ fn later_quote(text: &str) -> Option<&str>
     }
 }
 
-// From the quote that ends a char or a byte on, after its first quote.
+// Returns the text from the closing quote of a char or a byte on. `text` is what follows the
+// opening quote.
 pub(crate) fn char_end(text: &str) -> Option<&str>
     ensures exact { MatchOption result (extents.from_char_end (chars text.now) ≡ None)
         (λ end. extents.from_char_end (chars text.now) ≡ Some (chars end.now)) }
@@ -361,11 +380,12 @@ pub(crate) fn char_end(text: &str) -> Option<&str>
 {
     match split_first(text) {
         Some((char, after)) if char != '\\' && begins_with(after, "'") => Some(after),
-        _ => later_quote(text),
+        _ => find_later_quote(text),
     }
 }
 
-// From the quote that ends a string on, after its first quote.
+// Returns the text from the closing quote of a string on. `text` is what follows the opening
+// quote.
 pub(crate) fn string_end(text: &str) -> Option<&str>
     ensures exact { MatchOption result (extents.from_string_end false (chars text.now) ≡ None)
         (λ end. extents.from_string_end false (chars text.now) ≡ Some (chars end.now)) }
@@ -382,7 +402,8 @@ pub(crate) fn string_end(text: &str) -> Option<&str>
     }
 }
 
-// From the quote that ends a raw string on, after its first quote, which these `#` precede; and what is after them again.
+// Returns the text from the closing quote of a raw string on, and the text after that quote and
+// its `#`s. `text` is what follows the opening quote, and `hashes` are the `#`s before that.
 pub(crate) fn raw_end<'t>(text: &'t str, hashes: &str) -> Option<(&'t str, &'t str)>
     requires { IsTrue (are_ascii hashes.now) }
     ensures exact { MatchOption result (extents.from_raw_end hashes.now (chars text.now) ≡ None)

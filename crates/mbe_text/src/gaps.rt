@@ -1,4 +1,7 @@
-// What is between a token and what was written before it.
+// The gap between a token and what was written before it: nothing, a space, or a new line.
+//
+// `LastToken` records what was written last. Its methods say which tokens may follow it without a
+// space, and `gap_between` chooses the gap.
 ghost use Rattle.std.specs.Prelude.{◌≡◌};
 ghost use Rattle.std.specs.List.{list_any};
 ghost use Rattle.std.specs.Str.{bytes_eq};
@@ -9,13 +12,13 @@ use mbe_tt::tt::Spacing;
 
 // What was written last.
 #[derive(Clone, Copy, Drop)]
-pub(crate) enum Last {
-    // Nothing, or a line that a comment ended.
+pub(crate) enum LastToken {
+    // Nothing, or a doc comment, which ends its line.
     Start,
     Word,
     Keyword,
     Literal,
-    // A punct that is joint to what is after it in its text.
+    // A punct that is joint to what follows it in its source text.
     Joint(char),
     Alone(char),
     // The second `:` of a `::`.
@@ -27,7 +30,7 @@ pub(crate) enum Last {
     Semicolon,
 }
 
-// What is before a token.
+// The gap before a token.
 #[derive(Drop)]
 pub(crate) enum Gap {
     Nothing,
@@ -42,35 +45,35 @@ const KEYWORDS: &[&str] = &[
     "struct", "trait", "type", "unsafe", "use", "where", "while", "yield",
 ];
 
-fn are_beside(last: Span, next: Span) -> bool
-    ensures { result ≡ spec.are_beside last next }
+fn are_adjacent(last: Span, next: Span) -> bool
+    ensures { result ≡ spec.are_adjacent last next }
 {
     last.file == next.file && last.end == next.start && last.start < last.end
 }
 
-// Whether a token is beside what was written last.
-pub(crate) fn is_beside(last: Option<Span>, next: Span) -> bool
-    ensures { result ≡ spec.is_beside last next }
+// Returns whether a token is right after the last written one in the same file.
+pub(crate) fn is_adjacent(last: Option<Span>, next: Span) -> bool
+    ensures { result ≡ spec.is_adjacent last next }
 {
     match last {
-        Some(last) => are_beside(last, next),
+        Some(last) => are_adjacent(last, next),
         None => false,
     }
 }
 
-// Whether a token is side by side with the one after it.
-pub(crate) fn is_before(place: Span, next: Option<Span>) -> bool
-    ensures { result ≡ spec.is_before place next }
+// Returns whether a token is right before the next one in the same file.
+pub(crate) fn is_adjacent_to_next(token_span: Span, next: Option<Span>) -> bool
+    ensures { result ≡ spec.is_adjacent_to_next token_span next }
 {
     match next {
-        Some(next) => are_beside(place, next),
+        Some(next) => are_adjacent(token_span, next),
         None => false,
     }
 }
 
-// Whether a token has the place of what was written last.
-pub(crate) fn is_same_place(last: Option<Span>, next: Span) -> bool
-    ensures { result ≡ spec.is_same_place last next }
+// Returns whether a token has the same span as the last written one.
+pub(crate) fn has_same_span(last: Option<Span>, next: Span) -> bool
+    ensures { result ≡ spec.has_same_span last next }
 {
     match last {
         Some(last) => {
@@ -84,62 +87,65 @@ pub(crate) fn is_same_place(last: Option<Span>, next: Span) -> bool
     }
 }
 
-// A line begins where it has to; else a space keeps tokens apart, unless they stand beside each other.
-pub(crate) fn between(begins_line: bool, is_apart: bool, is_beside: bool) -> Gap
-    ensures { result ≡ spec.gap begins_line is_apart is_beside }
+// Chooses a gap: a new line if one must begin, else a space if the tokens must be kept apart and
+// aren't adjacent in one file, else nothing.
+pub(crate) fn gap_between(begins_line: bool, is_apart: bool, is_adjacent: bool) -> Gap
+    ensures { result ≡ spec.gap begins_line is_apart is_adjacent }
 {
     if begins_line {
         Gap::Line
-    } else if is_apart && !is_beside {
+    } else if is_apart && !is_adjacent {
         Gap::Space
     } else {
         Gap::Nothing
     }
 }
 
-// What a word is to the token after it.
-pub(crate) fn last_word(text: &str) -> Last
+// Returns what to record as written last after a word.
+pub(crate) fn last_word(text: &str) -> LastToken
     ensures { result ≡ spec.last_word text.now }
 {
-    if is_text_of(text, KEYWORDS) {
-        Last::Keyword
+    if is_any_of(text, KEYWORDS) {
+        LastToken::Keyword
     } else {
-        Last::Word
+        LastToken::Word
     }
 }
 
-fn is_text_of(text: &str, texts: &[&str]) -> bool
+fn is_any_of(text: &str, texts: &[&str]) -> bool
     ensures { result ≡ list_any (λ t. bytes_eq text.now t.now) texts.now }
 {
     texts.iter().any(|t| text == *t)
 }
 
-// Whether a word goes on with what a `}` ends.
-pub(crate) fn goes_on(text: &str) -> bool
-    ensures { result ≡ spec.goes_on text.now }
+// Returns whether a word continues what a `}` closes.
+pub(crate) fn continues_block(text: &str) -> bool
+    ensures { result ≡ spec.continues_block text.now }
 {
     text == "else" || text == "as"
 }
 
-// What a punct is to the token after it.
-pub(crate) fn last_punct(spacing: Spacing, char: char, after_colon: bool) -> Last
+// Returns what to record as written last after a punct. `after_colon` says whether a `:` that is
+// joint to the punct is before it.
+pub(crate) fn last_punct(spacing: Spacing, char: char, after_colon: bool) -> LastToken
     ensures { result ≡ spec.last_punct spacing char after_colon }
 {
     match spacing {
-        Spacing::Joint => Last::Joint(char),
-        Spacing::Alone if char == ';' => Last::Semicolon,
-        Spacing::Alone if char == ':' && after_colon => Last::Colons,
-        Spacing::Alone => Last::Alone(char),
+        Spacing::Joint => LastToken::Joint(char),
+        Spacing::Alone if char == ';' => LastToken::Semicolon,
+        Spacing::Alone if char == ':' && after_colon => LastToken::Colons,
+        Spacing::Alone => LastToken::Alone(char),
     }
 }
 
-// Puncts that belong to what is written right after them in a template, as in `&$x` or `Vec<$t>`.
+// Returns whether a punct belongs to what a template has right after it, as in `&$x` or `Vec<$t>`.
 fn is_prefix(char: char) -> bool
     ensures { result ≡ spec.is_prefix char }
 {
     matches!(char, '&' | '*' | '-' | '!' | ':' | '<')
 }
 
+// Returns whether a punct with this spacing is joint.
 pub(crate) fn is_joint(spacing: Spacing) -> bool
     ensures { result ≡ spec.is_joint spacing }
 {
@@ -149,127 +155,141 @@ pub(crate) fn is_joint(spacing: Spacing) -> bool
     }
 }
 
-impl Last {
-    // Whether a line ends there. After a `}` that depends on what follows.
+impl LastToken {
+    // Returns whether a line ends here. After a `}` that depends on what follows.
     pub(crate) fn ends_line(self, ends_brace: bool) -> bool
         ensures { result ≡ spec.ends_line self ends_brace }
     {
         match self {
-            Last::OpenBrace | Last::Semicolon => true,
-            Last::CloseBrace => ends_brace,
+            LastToken::OpenBrace | LastToken::Semicolon => true,
+            LastToken::CloseBrace => ends_brace,
             _ => false,
         }
     }
 
-    // A word or a literal goes on with a word, whatever was between them in a file.
-    pub(crate) fn joins_word(self) -> bool
-        ensures { result ≡ spec.joins_word self }
+    // Returns whether a word right here would merge with the last token. It would with a word and
+    // with a literal.
+    pub(crate) fn merges_with_word(self) -> bool
+        ensures { result ≡ spec.merges_with_word self }
     {
-        matches!(self, Last::Word | Last::Keyword | Last::Literal)
+        matches!(
+            self,
+            LastToken::Word | LastToken::Keyword | LastToken::Literal
+        )
     }
 
-    // They go on with a literal too, and a `#` right before a string guards it.
-    pub(crate) fn joins_literal(self) -> bool
-        ensures { result ≡ spec.joins_literal self }
+    // Returns whether a literal right here would merge with the last token. It would with a word
+    // and with a literal. A `#` right before a string would guard it.
+    pub(crate) fn merges_with_literal(self) -> bool
+        ensures { result ≡ spec.merges_with_literal self }
     {
         match self {
-            Last::Word | Last::Keyword | Last::Literal => true,
-            Last::Alone(c) | Last::Joint(c) => c == '#',
+            LastToken::Word | LastToken::Keyword | LastToken::Literal => true,
+            LastToken::Alone(c) | LastToken::Joint(c) => c == '#',
             _ => false,
         }
     }
 
-    pub(crate) fn is_word_apart(self) -> bool
-        ensures { result ≡ spec.is_word_apart self }
+    // Returns whether a word is kept apart from the last token.
+    pub(crate) fn separates_word(self) -> bool
+        ensures { result ≡ spec.separates_word self }
     {
         match self {
-            Last::Start | Last::Open | Last::Colons => false,
-            Last::Alone(c) => !matches!(c, '.' | '#' | '$' | '\''),
-            Last::Joint(c) => !matches!(c, '.' | '#' | '$' | '\'') && !is_prefix(c),
+            LastToken::Start | LastToken::Open | LastToken::Colons => false,
+            LastToken::Alone(c) => !matches!(c, '.' | '#' | '$' | '\''),
+            LastToken::Joint(c) => !matches!(c, '.' | '#' | '$' | '\'') && !is_prefix(c),
             _ => true,
         }
     }
 
-    pub(crate) fn is_literal_apart(self) -> bool
-        ensures { result ≡ spec.is_literal_apart self }
+    // Returns whether a literal is kept apart from the last token.
+    pub(crate) fn separates_literal(self) -> bool
+        ensures { result ≡ spec.separates_literal self }
     {
         match self {
-            Last::Start | Last::Open => false,
-            Last::Alone(c) => c != '.',
-            Last::Joint(c) => c != '.' && !is_prefix(c),
+            LastToken::Start | LastToken::Open => false,
+            LastToken::Alone(c) => c != '.',
+            LastToken::Joint(c) => c != '.' && !is_prefix(c),
             _ => true,
         }
     }
 
-    // A separator is joint to what the definition has after it, which isn't what is written after
-    // it. Two puncts of one place were made together, as the `::` of a path. A text that begins with
-    // a joint `#` could be read as one with a shebang.
-    pub(crate) fn is_punct_apart(self, one_place: bool, char: char, spacing: Spacing) -> bool
-        ensures { result ≡ spec.is_punct_apart self one_place char spacing }
+    // Returns whether a punct is kept apart from the last token. A separator is joint to what the
+    // definition has after it, which isn't what is written after it. Two puncts with one span were
+    // made together, as the `::` of a path. A text that begins with a joint `#` could be read as a
+    // shebang.
+    pub(crate) fn separates_punct(self, same_span: bool, char: char, spacing: Spacing) -> bool
+        ensures { result ≡ spec.separates_punct self same_span char spacing }
     {
         match self {
-            Last::Start => is_joint(spacing) && char == '#',
-            Last::Open => false,
-            Last::Joint(_) => !one_place,
-            Last::Word => !matches!(char, ',' | ';' | '?' | '.' | ':' | '!'),
-            Last::Close | Last::CloseBrace => !matches!(char, ',' | ';' | '?' | '.'),
-            Last::Literal => !matches!(char, ',' | ';' | '?'),
+            LastToken::Start => is_joint(spacing) && char == '#',
+            LastToken::Open => false,
+            LastToken::Joint(_) => !same_span,
+            LastToken::Word => !matches!(char, ',' | ';' | '?' | '.' | ':' | '!'),
+            LastToken::Close | LastToken::CloseBrace => !matches!(char, ',' | ';' | '?' | '.'),
+            LastToken::Literal => !matches!(char, ',' | ';' | '?'),
             _ => true,
         }
     }
 
-    // Whether a punct stays with what it is beside. A word would be a prefix of a `#` or a `'`.
-    // A `.` stays with a number only where the token after it does too: `1.` alone is another
-    // number. A punct that is alone is joint to no other, but a `'` begins a lifetime.
-    pub(crate) fn stays_with(self, char: char, beside_next: bool) -> bool
-        ensures { result ≡ spec.stays_with self char beside_next }
+    // Returns whether a punct may stay next to the token that it is adjacent to in a file.
+    //
+    // - After a word, a `#` or a `'` may not: the word would be a prefix.
+    // - After a literal, a `.` may only if the token after it is adjacent too: `1.` alone is
+    //   another number.
+    // - After a punct that is alone, only a `'` may, since it begins a lifetime.
+    pub(crate) fn may_touch_punct(self, char: char, beside_next: bool) -> bool
+        ensures { result ≡ spec.may_touch_punct self char beside_next }
     {
         match self {
-            Last::Word | Last::Keyword => !matches!(char, '#' | '\''),
-            Last::Literal => beside_next || char != '.',
-            Last::Alone(_) | Last::Colons | Last::Semicolon => char == '\'',
+            LastToken::Word | LastToken::Keyword => !matches!(char, '#' | '\''),
+            LastToken::Literal => beside_next || char != '.',
+            LastToken::Alone(_) | LastToken::Colons | LastToken::Semicolon => char == '\'',
             _ => true,
         }
     }
 
-    // Whether a `:` after it makes a `::`.
+    // Returns whether a `:` here makes a `::`.
     pub(crate) fn is_colon(self) -> bool
         ensures { result ≡ spec.is_colon self }
     {
         match self {
-            Last::Joint(c) => c == ':',
+            LastToken::Joint(c) => c == ':',
             _ => false,
         }
     }
 
-    pub(crate) fn is_opening_apart(self, is_brace: bool) -> bool
-        ensures { result ≡ spec.is_opening_apart self is_brace }
+    // Returns whether an opening is kept apart from the last token.
+    pub(crate) fn separates_opening(self, is_brace: bool) -> bool
+        ensures { result ≡ spec.separates_opening self is_brace }
     {
         match self {
-            Last::Start | Last::Open | Last::Joint(_) | Last::OpenBrace => false,
-            Last::Word | Last::Close => is_brace,
-            Last::Alone(c) => is_brace || !matches!(c, '!' | '#' | '.'),
+            LastToken::Start | LastToken::Open | LastToken::Joint(_) | LastToken::OpenBrace =>
+                false,
+            LastToken::Word | LastToken::Close => is_brace,
+            LastToken::Alone(c) => is_brace || !matches!(c, '!' | '#' | '.'),
             _ => true,
         }
     }
 
+    // Returns whether the last token is a `{`.
     pub(crate) fn is_open_brace(self) -> bool
         ensures { result ≡ spec.is_open_brace self }
     {
-        matches!(self, Last::OpenBrace)
+        matches!(self, LastToken::OpenBrace)
     }
 
-    // Whether a line begins there.
+    // Returns whether a line begins here.
     pub(crate) fn is_line_start(self) -> bool
         ensures { result ≡ spec.is_line_start self }
     {
-        matches!(self, Last::Start)
+        matches!(self, LastToken::Start)
     }
 
-    // Whether a comment may be next: before one a joint punct would be alone.
+    // Returns whether a doc comment may be next. A joint punct before one would become alone.
     pub(crate) fn may_precede_comment(self) -> bool
         ensures { result ≡ spec.may_precede_comment self }
     {
-        !matches!(self, Last::Joint(_))
+        !matches!(self, LastToken::Joint(_))
     }
 }

@@ -1,72 +1,78 @@
-// Laws of the text that a `Writer` writes, as `lex_as` reads it. They run nothing.
-ghost use Rattle.mbe_text.specs.Laws.Gaps.{GapsAreBlank, GapsAreInBytes, GapsPartPuncts, PunctsJoin};
-ghost use Rattle.mbe_text.specs.Laws.Back.{
+// Laws of the text that a `Writer` writes and `lex_as` reads.
+//
+// The main law is `trees_round_trip`: trees of Rust are the trees of their written text, without
+// spans. Each function states a law as its contract. The functions run nothing.
+ghost use Rattle.mbe_text.specs.Laws.Gaps.{GapsAreBlank, GapsAreInBytes, GapsSeparatePuncts};
+ghost use Rattle.mbe_text.specs.Laws.Gaps.{PunctsJoin};
+ghost use Rattle.mbe_text.specs.Laws.RoundTrip.{
   CharsAreRead,
   NumbersAreRead,
   RawStringsAreRead,
   StringsAreRead,
-  TreesComeBack,
+  TreesRoundTrip,
 };
-ghost use Rattle.mbe_text.specs.Laws.Lexed.{LexedAreRust, TextComesBack};
+ghost use Rattle.mbe_text.specs.Laws.Lexed.{LexedAreRust, TextRoundTrips};
 
-/// What a writer puts between two tokens is no part of a token, and hides none: the next token of
-/// a text with a gap before it is the next token of that text.
+/// A gap, which the printer puts between two tokens, is part of no token and hides none. The next
+/// token of a text with a gap before it is the next token of that text.
 pub fn gaps_are_blank()
     ensures { GapsAreBlank }
 {}
 
-/// As bytes, a gap before a text is the gap's characters and then those of the text.
+/// The characters of a gap followed by a text are the gap's bytes, followed by the characters of
+/// the text.
 pub fn gaps_are_in_bytes()
     ensures { GapsAreInBytes }
 {}
 
-/// A punct that a space or a new line follows is alone, whatever the gap precedes.
-pub fn gaps_part_puncts()
-    ensures { GapsPartPuncts }
+/// A punct is alone if a space or a new line follows it, whatever comes after that gap.
+pub fn gaps_separate_puncts()
+    ensures { GapsSeparatePuncts }
 {}
 
-/// A punct that another one follows with no gap is joint, unless that one begins a comment.
+/// A punct is joint if another one follows it without a gap, unless that one begins a comment.
 pub fn puncts_join()
     ensures { PunctsJoin }
 {}
 
-/// What is written for trees of Rust is read as these trees, without spans: by the definition of
-/// what `lex_as` returns, in each edition, and whatever the indentation. Which trees are Rust's is
-/// `IsRust`.
-pub fn trees_come_back()
-    ensures { TreesComeBack }
+/// The text that is written for trees of Rust is read as these trees, without spans. The law holds
+/// for the definition of what `lex_as` returns, in each edition, and for any indentation. `IsRust`
+/// defines which trees are Rust's.
+pub fn trees_round_trip()
+    ensures { TreesRoundTrip }
 {}
 
-/// A string, byte string or C string that is read whole by itself is read whole before whatever
-/// can't go on with its suffix, a `.` among it: so it is a literal of `IsRust`.
+/// A string, byte string or C string that is read whole by itself is also read whole before any
+/// text that doesn't continue its suffix, such as a `.`. So it is a literal of `IsRust`.
 pub fn strings_are_read()
     ensures { StringsAreRead }
 {}
 
-/// The same of a raw string, raw byte string or raw C string.
+/// The same holds for a raw string, raw byte string or raw C string.
 pub fn raw_strings_are_read()
     ensures { RawStringsAreRead }
 {}
 
-/// The same of a char or a byte.
+/// The same holds for a char or a byte.
 pub fn chars_are_read()
     ensures { CharsAreRead }
 {}
 
-/// A number that is read whole by itself is read whole before whatever can't go on with it: so it
-/// is a literal of `IsRust`. The `.` of a field or of a range may follow it, unless it ends with a
-/// `.` itself; any `.` may, where it has a fraction, an exponent or a suffix too.
+/// A number that is read whole by itself is also read whole before any text that doesn't continue
+/// it. So it is a literal of `IsRust`. The `.` of a field or of a range may follow it, unless it
+/// ends with a `.` itself. Any `.` may follow it if it has a fraction, an exponent or a suffix
+/// too.
 pub fn numbers_are_read()
     ensures { NumbersAreRead }
 {}
 
-/// The trees that the lexer makes of a text are Rust's, by `IsRust`, in each edition.
+/// The trees that the lexer makes of a text are trees of Rust, by `IsRust`, in each edition.
 pub fn lexed_are_rust()
     ensures { LexedAreRust }
 {}
 
-/// What is written for the trees of a text is read as these trees, without spans, in each edition
-/// and whatever the indentation.
-pub fn text_comes_back()
-    ensures { TextComesBack }
+/// The text that is written for the trees of a text is read as these trees, without spans, in each
+/// edition and for any indentation.
+pub fn text_round_trips()
+    ensures { TextRoundTrips }
 {}

@@ -1,19 +1,24 @@
-// The token trees of a text.
+// The lexer: it makes token trees of a text.
+//
+// The loop in `lex_dialect_with_table` takes token after token from a `Scanner` and adds each to a
+// `TopSubtreeBuilder`. An opening opens a group there, and a closing closes the innermost one.
 ghost use Rattle.std.specs.Prelude.{◌≡◌, ◌<◌, ◌+◌, ◌^◌, ◌++◌, length, IfOk, IfErr, OnOk};
 ghost use Rattle.mbe_text.specs.declared.dialect.Dialect.TheVariants.{Sample};
-ghost use Rattle.mbe_text.specs.Scanning.{FaultsWithin};
-ghost use Rattle.mbe_text.specs.Division.{Lexes, trees_of};
-ghost use Rattle.mbe_text.specs.Division as division;
-ghost use Rattle.mbe_text.specs.Tokens.{Adds, IsAstray, FaultsAt, IsMade, ended, token_item, close_item};
-ghost use Rattle.mbe_text.specs.Tokens.{closing_fault, doc_group, doc_marks, doc_trees, lifetime_trees, most_guards, punct_leaf};
+ghost use Rattle.mbe_text.specs.ScannerSteps.{FaultsWithin};
+ghost use Rattle.mbe_text.specs.LexedTrees.{Lexes, lexed_trees};
+ghost use Rattle.mbe_text.specs.LexedTrees as division;
+ghost use Rattle.mbe_text.specs.Tokens.{Adds, IsMismatched, FaultsAt, IsLexed, ended, token_item};
+ghost use Rattle.mbe_text.specs.Tokens.{close_item};
+ghost use Rattle.mbe_text.specs.Tokens.{closing_fault, doc_group, doc_marks, doc_trees};
+ghost use Rattle.mbe_text.specs.Tokens.{lifetime_trees, most_guards, punct_leaf};
 ghost use Rattle.mbe_text.specs.Tokens as spec;
-ghost use Rattle.mbe_tt.specs.Buffers.Building.{put};
-ghost use Rattle.mbe_tt.specs.Views.Shown.{leaf_of};
+ghost use Rattle.mbe_tt.specs.Buffers.GroupStack.{put};
+ghost use Rattle.mbe_tt.specs.Views.LeafViews.{leaf_of};
 
 use crate::dialect::Dialect;
-use crate::scanner::{LexFault, Lexeme, Scanner, Token, file_span};
-use crate::symbols::SymbolTable;
-use crate::wrong::Wrong;
+use crate::fault_kind::LexFaultKind;
+use crate::scanner::{LexFault, Lexeme, Scanner, SourceToken, file_span};
+use crate::symbol_table::SymbolTable;
 use mbe_tt::span::Span;
 use mbe_tt::symbol::Symbol;
 use mbe_tt::tt::{
@@ -24,17 +29,18 @@ use std::alloc::{AllocError, AllocFailed, Allocator};
 use std::error::Error;
 use std::fmt;
 
-/// Why a text has no token trees.
+/// The error of a text that has no token trees.
 #[derive(Debug, Drop, PartialEq, Eq)]
 pub enum LexError {
-    /// At a byte the text is no token or is a closing without its opening; or, in the Rust dialect, a group is open at the end.
+    /// The text has a fault at some byte: what is there isn't a token, or it is a closing without
+    /// its opening. In the Rust dialect, a group that is open at the end is a fault too.
     Fault(LexFault),
     OutOfMemory,
 }
 
 impl fmt::Display for LexError {
     ghost use Rattle.std.specs.Prelude.{Some};
-    ghost use Rattle.mbe_text.specs.Printing.{lex_error_text};
+    ghost use Rattle.mbe_text.specs.TreeDump.{lex_error_text};
 
     ghost output = { λ e. Some (lex_error_text e) };
 
@@ -71,12 +77,13 @@ impl From<AllocError> for LexError {
     }
 }
 
-// Adds the token at the end of the innermost open group. A closing that doesn't fit that group is a fault.
+// Adds the token at the end of the innermost open group. A closing that doesn't match that group
+// is a fault.
 #[inline(always)]
 fn add<A: Allocator + Copy>(
     builder: &mut TopSubtreeBuilder<A>,
     table: &mut SymbolTable<A>,
-    token: Token<'_>,
+    token: SourceToken<'_>,
 ) -> Result<(), LexError>
     requires some_byte { token.span.start < token.span.end }
     requires some_group { 0 < length builder.old }
@@ -104,7 +111,7 @@ fn add<A: Allocator + Copy>(
             suffix_len,
             kind,
         } => {
-            let text_and_suffix = joined(table, text, suffix)?;
+            let text_and_suffix = concat_suffix(table, text, suffix)?;
             Ok(builder.push(Leaf::Literal(Literal {
                 text_and_suffix,
                 suffix_len,
@@ -115,11 +122,12 @@ fn add<A: Allocator + Copy>(
     }
 }
 
-// The same as a call: the loop has `add` itself for the commonest tokens, and this for the others.
-fn add_any<A: Allocator + Copy>(
+// Does the same as `add`, which is inlined. The loop has `add` for the most frequent tokens, and
+// calls this function for the others.
+fn add_out_of_line<A: Allocator + Copy>(
     builder: &mut TopSubtreeBuilder<A>,
     table: &mut SymbolTable<A>,
-    token: Token<'_>,
+    token: SourceToken<'_>,
 ) -> Result<(), LexError>
     requires some_byte { token.span.start < token.span.end }
     requires some_group { 0 < length builder.old }
@@ -161,8 +169,8 @@ fn add_lifetime<A: Allocator + Copy>(
     }))
 }
 
-// Adds a doc comment as the attribute `#[doc = r".."]`, or `#![doc = r".."]` where it is of what is around it, as rustc does. All of
-// its tokens have the comment's span.
+// Adds a doc comment as an attribute, as rustc does: `#[doc = r".."]`, or `#![doc = r".."]` for an
+// inner one. All of its tokens have the comment's span.
 fn add_doc<A: Allocator + Copy>(
     builder: &mut TopSubtreeBuilder<A>,
     table: &mut SymbolTable<A>,
@@ -177,7 +185,7 @@ fn add_doc<A: Allocator + Copy>(
     add_doc_group(builder, table, text, span)
 }
 
-// The `#`, or `#!`, of it.
+// Adds the `#` or `#!` of that attribute.
 fn add_doc_marks<A: Allocator>(
     builder: &mut TopSubtreeBuilder<A>,
     is_inner: bool,
@@ -192,7 +200,7 @@ fn add_doc_marks<A: Allocator>(
     builder.push(punct('!', Spacing::Alone, span))
 }
 
-// The `[doc = r".."]` of it.
+// Adds the `[doc = r".."]` of that attribute.
 fn add_doc_group<A: Allocator + Copy>(
     builder: &mut TopSubtreeBuilder<A>,
     table: &mut SymbolTable<A>,
@@ -214,7 +222,7 @@ fn add_doc_group<A: Allocator + Copy>(
     builder.push(Leaf::Literal(Literal {
         text_and_suffix,
         suffix_len: 0,
-        kind: LitKind::StrRaw(hashes_around(text)),
+        kind: LitKind::StrRaw(raw_hash_count(text)),
         span,
     }))?;
     builder.close(span);
@@ -231,9 +239,9 @@ fn punct<A: Allocator>(char: char, spacing: Spacing, span: Span) -> Leaf<A>
     })
 }
 
-/// How many `#` the raw string of a doc comment with this text has: one more than follow any `"` in it, and at most 255. None where it
-/// has no `"`.
-pub fn hashes_around(text: &str) -> u8
+/// Returns how many `#`s the raw string of a doc comment with this text has: one more than the
+/// longest run of `#`s after a `"` in the text, but at most 255. It is 0 if the text has no `"`.
+pub fn raw_hash_count(text: &str) -> u8
     ensures { result ≡ most_guards 0 text.now }
 {
     if !text.as_bytes().contains(&b'"') {
@@ -248,7 +256,8 @@ pub fn hashes_around(text: &str) -> u8
     most
 }
 
-// How many `"` and `#` stand in a row after one byte more, from a `"` on.
+// Returns the length of the run of a `"` and `#`s after it that ends with this byte, given the
+// length before it.
 fn guards_after(guards: u8, byte: u8) -> u8
     ensures { result ≡ spec.guards_after guards byte }
 {
@@ -259,7 +268,7 @@ fn guards_after(guards: u8, byte: u8) -> u8
     }
 }
 
-// Closes the innermost open group, if it is of that kind.
+// Closes the innermost open group if it is of that kind. Otherwise the closing is a fault.
 fn close<A: Allocator>(
     builder: &mut TopSubtreeBuilder<A>,
     kind: DelimiterKind,
@@ -267,7 +276,7 @@ fn close<A: Allocator>(
 ) -> Result<(), LexFault>
     ensures ok { OnOk result (Adds (close_item kind span) builder.old builder.new) }
     ensures err { IfErr result (λ fault. (fault ≡ closing_fault (close_item kind span))
-        × IsAstray (close_item kind span) builder.old) }
+        × IsMismatched (close_item kind span) builder.old) }
 {
     match builder.open_kind() {
         Some(open) if open == kind => {
@@ -276,19 +285,19 @@ fn close<A: Allocator>(
         }
         _ => Err(LexFault {
             offset: span.start,
-            wrong: Wrong::Closing,
+            fault_kind: LexFaultKind::Closing,
         }),
     }
 }
 
-// Whether a group is open that the dialect closes before the end.
+// Returns whether a group is open that the dialect requires to be closed.
 fn is_unclosed<A: Allocator>(dialect: Dialect, builder: &TopSubtreeBuilder<A>) -> bool
     ensures { result ≡ division.is_unclosed dialect builder.now }
 {
     dialect.closes_groups() && builder.open_kind().is_some()
 }
 
-// The trees, with each open group closed with this span.
+// Closes each open group with this span, and returns the trees.
 #[tactic(auto, using(mbe_tt::proofs::Buffers::OpenGroups::closed_length))]
 fn finish<A: Allocator>(mut builder: TopSubtreeBuilder<A>, end: Span) -> TopSubtree<A>
     ensures { result ≡ ended end builder }
@@ -299,8 +308,8 @@ fn finish<A: Allocator>(mut builder: TopSubtreeBuilder<A>, end: Span) -> TopSubt
     builder.build()
 }
 
-// The symbol of a literal: its text and then its suffix.
-fn joined<A: Allocator + Copy>(
+// Returns the symbol of a literal: its text and then its suffix.
+fn concat_suffix<A: Allocator + Copy>(
     table: &mut SymbolTable<A>,
     text: &str,
     suffix: &str,
@@ -315,65 +324,76 @@ fn joined<A: Allocator + Copy>(
     table.intern(whole.as_str())
 }
 
-/// The token trees of a file's text in the sample dialect, inside an invisible group whose both spans are the whole text. Spans
-/// count bytes, in 32 bits: the text is to be shorter than 2^32 bytes. Each closing closes a group of its own kind, and another is
-/// a fault, as is what isn't a token. Groups that are open at the end are closed there. What the tokens are is this project's choice
-/// (`Dialect::Sample`).
+/// Lexes a file's text in the sample dialect. Returns its token trees inside an invisible group,
+/// both of whose spans are the whole text.
+///
+/// - Spans count bytes in 32 bits, so the text must be shorter than 2^32 bytes.
+/// - A closing must match the innermost open group. Otherwise it is a fault.
+/// - Text that isn't a token is a fault.
+/// - Groups that are open at the end are closed there.
+///
+/// `Dialect::Sample` says what the tokens are; that is this project's choice.
 pub fn lex<A: Allocator + Copy>(alloc: A, text: &str, file: u32) -> Result<TopSubtree<A>, LexError>
     requires { length text.now < 2 ^ 32 }
-    ensures made { IfOk result (IsMade file text.now) }
+    ensures made { IfOk result (IsLexed file text.now) }
     ensures within { IfErr result (FaultsWithin (length text.now)) }
-    ensures exact { Lexes (trees_of Sample file text.now) result }
+    ensures exact { Lexes (lexed_trees Sample file text.now) result }
 {
-    lex_in(&mut SymbolTable::new(alloc), text, file)
+    lex_with_table(&mut SymbolTable::new(alloc), text, file)
 }
 
-/// The same, with symbols from that table and in memory of its allocator, so that texts are shared with what else it was
-/// asked for.
-pub fn lex_in<A: Allocator + Copy>(
+/// Does the same as `lex`, but takes symbols from that table, and memory from the table's
+/// allocator. Texts are shared with whatever else the table was asked for.
+pub fn lex_with_table<A: Allocator + Copy>(
     table: &mut SymbolTable<A>,
     text: &str,
     file: u32,
 ) -> Result<TopSubtree<A>, LexError>
     requires { length text.now < 2 ^ 32 }
-    ensures made { IfOk result (IsMade file text.now) }
+    ensures made { IfOk result (IsLexed file text.now) }
     ensures within { IfErr result (FaultsWithin (length text.now)) }
-    ensures exact { Lexes (trees_of Sample file text.now) result }
+    ensures exact { Lexes (lexed_trees Sample file text.now) result }
 {
-    lex_as_in(table, Dialect::Sample, text, file)
+    lex_dialect_with_table(table, Dialect::Sample, text, file)
 }
 
-/// The token trees of a file's text in that dialect, as `lex` has them in the sample dialect.
+/// Lexes a file's text in that dialect. Returns its token trees as `lex` does.
 ///
-/// In `Dialect::Rust` the tokens are those of the Rust Reference ("Lexical structure"), as rustc's lexer reads them. A byte order mark
-/// and a `#!` line are passed. A lifetime is two leaves, a joint `'` and an identifier; a doc comment is the attribute that it is
-/// for, `#[doc = r".."]` or `#![doc = r".."]`, each of whose tokens has the comment's span. A group that is open at the end is a fault
-/// there. A fault is the first one, at the byte and for the reason that rustc gives.
-pub fn lex_as<A: Allocator + Copy>(
+/// In `Dialect::Rust` the tokens are those of the Rust Reference ("Lexical structure"), as rustc's
+/// lexer reads them:
+///
+/// - A byte order mark and a `#!` line at the front are skipped.
+/// - A lifetime becomes two leaves: a joint `'` and an identifier.
+/// - A doc comment becomes an attribute, `#[doc = r".."]` or `#![doc = r".."]`, whose tokens all
+///   have the comment's span.
+/// - A group that is open at the end is a fault there.
+/// - The returned fault is the first one, with the byte and the reason that rustc gives.
+pub fn lex_dialect<A: Allocator + Copy>(
     alloc: A,
     dialect: Dialect,
     text: &str,
     file: u32,
 ) -> Result<TopSubtree<A>, LexError>
     requires { length text.now < 2 ^ 32 }
-    ensures made { dialect ≡ Sample → IfOk result (IsMade file text.now) }
+    ensures made { dialect ≡ Sample → IfOk result (IsLexed file text.now) }
     ensures within { IfErr result (FaultsWithin (length text.now)) }
-    ensures exact { Lexes (trees_of dialect file text.now) result }
+    ensures exact { Lexes (lexed_trees dialect file text.now) result }
 {
-    lex_as_in(&mut SymbolTable::new(alloc), dialect, text, file)
+    lex_dialect_with_table(&mut SymbolTable::new(alloc), dialect, text, file)
 }
 
-/// The same, with symbols from that table and in memory of its allocator.
-pub fn lex_as_in<A: Allocator + Copy>(
+/// Does the same as `lex_dialect`, but takes symbols from that table, and memory from the table's
+/// allocator.
+pub fn lex_dialect_with_table<A: Allocator + Copy>(
     table: &mut SymbolTable<A>,
     dialect: Dialect,
     text: &str,
     file: u32,
 ) -> Result<TopSubtree<A>, LexError>
     requires { length text.now < 2 ^ 32 }
-    ensures made { dialect ≡ Sample → IfOk result (IsMade file text.now) }
+    ensures made { dialect ≡ Sample → IfOk result (IsLexed file text.now) }
     ensures within { IfErr result (FaultsWithin (length text.now)) }
-    ensures exact { Lexes (trees_of dialect file text.now) result }
+    ensures exact { Lexes (lexed_trees dialect file text.now) result }
 {
     let len = text.len() as u32;
     let mut scanner = Scanner::new(dialect, text, file);
@@ -381,19 +401,19 @@ pub fn lex_as_in<A: Allocator + Copy>(
     let mut builder = TopSubtreeBuilder::new(table.alloc(), whole)?;
     builder.reserve(text.len() / 4)?;
     'tokens: loop {
-        if let Some(token) = scanner.common() {
+        if let Some(token) = scanner.fast_token() {
             add(&mut builder, table, token)?;
             continue;
         }
         let Some(token) = scanner.token()? else {
             break;
         };
-        add_any(&mut builder, table, token)?;
+        add_out_of_line(&mut builder, table, token)?;
     }
     if is_unclosed(dialect, &builder) {
         return Err(LexError::Fault(LexFault {
             offset: len,
-            wrong: Wrong::Open,
+            fault_kind: LexFaultKind::Open,
         }));
     }
     Ok(finish(builder, file_span(file, len, len)))

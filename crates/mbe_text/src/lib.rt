@@ -1,17 +1,21 @@
-// Text and token trees: the trees of a text, the printed form of trees, trees as Rust text, and that such a text comes back with its trees.
+// Text and token trees.
+//
+// A `Scanner` reads a text token by token, and `lex` makes token trees of the tokens. A `Writer`
+// prints trees as Rust text, and `print_tree` prints them one line each. `laws` states that trees
+// of Rust come back when their printed text is lexed.
 #![tactic(auto)]
 
 mod characters;
-mod comments;
 pub mod dialect;
+mod doc_comments;
 mod escapes;
+pub mod fault_kind;
 mod gaps;
 pub mod laws;
 pub mod lexer;
 pub mod output;
-pub mod printing;
-mod rust;
+pub mod rust_printer;
+mod rust_tokens;
 pub mod scanner;
-pub mod symbols;
-pub mod writing;
-pub mod wrong;
+pub mod symbol_table;
+pub mod tree_dump;

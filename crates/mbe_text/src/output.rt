@@ -1,18 +1,22 @@
-// Lines on their way to a writer.
+// Output to an `io::Write`, line by line.
+//
+// A line is collected in a buffer of 128 bytes, so that a short line is one call of the writer.
 ghost use Rattle.std.specs.Prelude.{◌≡◌, ◌++◌, [], OnOk, flat_map};
-ghost use Rattle.mbe_text.specs.Printing.{indentation, line};
-ghost use Rattle.mbe_text.specs.Writing.{Holds, Writes};
+ghost use Rattle.mbe_text.specs.TreeDump.{indentation, line};
+ghost use Rattle.mbe_text.specs.WriterBytes.{Holds, Writes};
 
 use arrayvec::ArrayVec;
 use std::io;
 use std::io::Write;
 
-// What of a line isn't written yet. A text for which it has no room is written at once.
-type Line = ArrayVec<u8, 128>;
+// The part of a line that isn't written yet. A text that doesn't fit is written at once.
+type LineBuffer = ArrayVec<u8, 128>;
 
-/// Writes all the bytes, in as many calls of the writer as that takes. It returns the writer's first error, other than that a
-/// call was interrupted, which is tried again; then what was written is a prefix, the bytes that the writer took. A writer that takes none
-/// is an error too.
+/// Writes all the bytes, in as many calls of the writer as that takes.
+///
+/// Returns the writer's first error, but tries again after an interrupted call. On an error, the
+/// bytes that the writer took are a prefix of `bytes`. A writer that takes no byte is an error
+/// too.
 pub fn write_whole<W: Write>(bytes: &[u8], out: &mut W) -> io::Result<()>
     ensures { Writes (W.contents out.old) (W.contents out.new) result bytes.now }
 {
@@ -34,8 +38,8 @@ pub fn write_whole<W: Write>(bytes: &[u8], out: &mut W) -> io::Result<()>
     Err(io::Error::from(io::ErrorKind::Interrupted))
 }
 
-// Writes the line, and then the bytes for which it has no room.
-fn overflow<W: Write>(line: &mut Line, bytes: &[u8], out: &mut W) -> io::Result<()>
+// Writes the line, and then the bytes that don't fit into it.
+fn overflow<W: Write>(line: &mut LineBuffer, bytes: &[u8], out: &mut W) -> io::Result<()>
     ensures written { Writes (W.contents out.old) (W.contents out.new) result
         (line.old.items ++ bytes.now) }
     ensures empty { OnOk result (line.new.items ≡ []) }
@@ -46,7 +50,7 @@ fn overflow<W: Write>(line: &mut Line, bytes: &[u8], out: &mut W) -> io::Result<
 }
 
 // Adds a text to the line.
-fn push<W: Write>(line: &mut Line, text: &str, out: &mut W) -> io::Result<()>
+fn push<W: Write>(line: &mut LineBuffer, text: &str, out: &mut W) -> io::Result<()>
     ensures { Holds (W.contents out.old) (W.contents out.new) result
         (line.old.items ++ text.now) line.new.items }
 {
@@ -57,8 +61,8 @@ fn push<W: Write>(line: &mut Line, text: &str, out: &mut W) -> io::Result<()>
     }
 }
 
-// Adds the spaces before a line with so many groups around.
-fn indent<W: Write>(line: &mut Line, depth: usize, out: &mut W) -> io::Result<()>
+// Adds the indentation of a line: two spaces for each of `depth` groups around it.
+fn indent<W: Write>(line: &mut LineBuffer, depth: usize, out: &mut W) -> io::Result<()>
     ensures { Holds (W.contents out.old) (W.contents out.new) result
         (line.old.items ++ indentation depth) line.new.items }
 {
@@ -69,7 +73,7 @@ fn indent<W: Write>(line: &mut Line, depth: usize, out: &mut W) -> io::Result<()
 }
 
 // Adds the texts one after another.
-fn push_all<W: Write>(line: &mut Line, texts: &[&str], out: &mut W) -> io::Result<()>
+fn push_all<W: Write>(line: &mut LineBuffer, texts: &[&str], out: &mut W) -> io::Result<()>
     ensures { Holds (W.contents out.old) (W.contents out.new) result
         (line.old.items ++ flat_map (λ t. t.now) texts.now) line.new.items }
 {
@@ -79,7 +83,8 @@ fn push_all<W: Write>(line: &mut Line, texts: &[&str], out: &mut W) -> io::Resul
     Ok(())
 }
 
-// Writes a line of these texts with so many groups around, in one call where it has room.
+// Writes a line of these texts, indented for `depth` groups around it. A line that fits into the
+// buffer is one call of the writer.
 pub(crate) fn write_line<W: Write>(depth: usize, texts: &[&str], out: &mut W) -> io::Result<()>
     ensures { Writes (W.contents out.old) (W.contents out.new) result
         (line depth (flat_map (λ t. t.now) texts.now)) }

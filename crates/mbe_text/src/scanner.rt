@@ -1,50 +1,54 @@
-// The tokens of a text, one after another.
+// A scanner: it reads the tokens of a text one after another.
+//
+// A `Scanner` skips white space and comments, and then reads one token in its `Dialect`. This
+// module reads the tokens of the sample dialect. `read_rust` reads those of Rust.
 ghost use Rattle.std.specs.Prelude.{◌≡◌, ◌↔◌, ◌<◌, ◌≤◌, ◌+◌, ◌^◌, length, IsSome, IfSome, IfNone};
 ghost use Rattle.std.specs.Prelude.{ℕ, true, List, [], ◌++◌, ◌∷◌, IfOk, IfErr};
-ghost use Rattle.std.specs.Prelude.{encode_utf8, slice_range, chars, drop, Some, None, Ok, Err, MatchOption, MatchResult, false, ◌==◌, is_some, unwrap_or};
+ghost use Rattle.std.specs.Prelude.{encode_utf8, slice_range, chars, drop, Some, None, Ok, Err};
+ghost use Rattle.std.specs.Prelude.{MatchOption, MatchResult, false, ◌==◌, is_some, unwrap_or};
 ghost use Rattle.std.specs.Str.{IsUtf8};
 ghost use Rattle.mbe_tt.specs.Trees.Literals.{opening, closing};
-ghost use Rattle.mbe_text.specs.Ends.{IsRest, IsEnd, Begins};
+ghost use Rattle.mbe_text.specs.Rests.{IsRest, IsEnd, Begins};
 ghost use Rattle.mbe_text.specs.Characters as characters;
 ghost use Rattle.mbe_text.specs.Characters.{bytes_before};
 ghost use Rattle.mbe_text.specs.Dialect.{read_sample, read_shape};
 ghost use Rattle.mbe_text.specs.Dialect as dialects;
-ghost use Rattle.mbe_text.specs.Division.{IsNext, next_token};
-ghost use Rattle.mbe_text.specs.Signs as signs;
-ghost use Rattle.mbe_text.specs.Shapes.{Gives, shape_of};
-ghost use Rattle.mbe_text.specs.Blanks.{begins_comment, blank};
-ghost use Rattle.mbe_text.specs.Trivia.{after_head};
-ghost use Rattle.mbe_text.specs.Faults.{fault_at};
+ghost use Rattle.mbe_text.specs.LexedTrees.{IsNext, next_token};
+ghost use Rattle.mbe_text.specs.Punctuation as signs;
+ghost use Rattle.mbe_text.specs.Shapes.{ReadsAs, shape_of};
+ghost use Rattle.mbe_text.specs.Whitespace.{begins_comment, whitespace_class};
+ghost use Rattle.mbe_text.specs.Trivia.{after_preamble};
+ghost use Rattle.mbe_text.specs.LexFaults.{fault_at};
 ghost use Rattle.mbe_text.specs.declared.dialect.Dialect.TheVariants.{Sample};
-ghost use Rattle.mbe_text.specs.Words as words;
-ghost use Rattle.mbe_text.specs.Words.{read_identifier};
-ghost use Rattle.mbe_text.specs.Signs.{read_sign};
-ghost use Rattle.mbe_text.specs.declared.wrong.Wrong.TheVariants as wrong;
-ghost use Rattle.mbe_text.specs.Literals as literals;
-ghost use Rattle.mbe_text.specs.declared.characters.Class.TheVariants.{Decimal};
+ghost use Rattle.mbe_text.specs.Identifiers as words;
+ghost use Rattle.mbe_text.specs.Identifiers.{read_identifier};
+ghost use Rattle.mbe_text.specs.Punctuation.{read_punctuation};
+ghost use Rattle.mbe_text.specs.declared.fault_kind.LexFaultKind.TheVariants as fault_kind;
+ghost use Rattle.mbe_text.specs.SampleLiterals as literals;
+ghost use Rattle.mbe_text.specs.declared.characters.CharClass.TheVariants.{Decimal};
 ghost use Rattle.mbe_text.specs.Tokens.{bytes_of, token_item, item_text, lexeme_text};
 
 mod trivia;
 
 use crate::characters::{
-    Class, before, begins, begins_with, is_at, offset, past, past_front, past_one, split_first,
+    CharClass, before, begins, begins_with, is_at, offset, past, past_front, past_one, split_first,
 };
 use crate::dialect::Dialect;
-use crate::rust::read_rust;
-use crate::wrong::Wrong;
+use crate::fault_kind::LexFaultKind;
+use crate::rust_tokens::read_rust;
 use mbe_tt::span::{Edition, Span, SyntaxContext};
 use mbe_tt::tt::{DelimiterKind, IdentIsRaw, LitKind, Spacing};
 
-/// Text that isn't lexed.
+/// A fault in a text: the reason why it can't be lexed.
 #[derive(Clone, Copy, Debug, PartialEq, Eq)]
 pub struct LexFault {
-    /// The byte at which what is wrong begins.
+    /// The byte offset at which the fault begins.
     pub offset: u32,
-    /// What is wrong there.
-    pub wrong: Wrong,
+    /// What is wrong at that byte.
+    pub fault_kind: LexFaultKind,
 }
 
-/// What a token is. Texts are those of the source.
+/// What a token is, without its span. The texts are slices of the source.
 #[derive(Drop)]
 pub enum Lexeme<'t> {
     Ident {
@@ -63,7 +67,7 @@ pub enum Lexeme<'t> {
     },
     Open(DelimiterKind),
     Close(DelimiterKind),
-    /// A lifetime of the Rust dialect, without its `'` and its `r#`.
+    /// A lifetime of the Rust dialect. `name` has no `'` and no `r#`.
     Lifetime {
         name: &'t str,
         is_raw: IdentIsRaw,
@@ -75,14 +79,14 @@ pub enum Lexeme<'t> {
     },
 }
 
-/// A token, and where it is in the text.
+/// A token and its span in the text.
 #[derive(Drop)]
-pub struct Token<'t> {
+pub struct SourceToken<'t> {
     pub lexeme: Lexeme<'t>,
     pub span: Span,
 }
 
-/// A span of bytes of a file. Nothing is in an item or comes from an expansion.
+/// Returns the span of those bytes of a file. Its `ast` and its syntax context are 0.
 pub fn file_span(file: u32, start: u32, end: u32) -> Span
     ensures place { (result.file ≡ file) × (result.start ≡ start) × (result.end ≡ end) }
     ensures plain { (result.ast ≡ 0) × (result.ctx.0 ≡ 0) }
@@ -97,7 +101,7 @@ pub fn file_span(file: u32, start: u32, end: u32) -> Span
     }
 }
 
-/// The rest of a text that is read token by token, and how long the whole was.
+/// A text that is read token by token: its length and what is left of it.
 #[derive(Drop)]
 pub struct Scanner<'t> {
     dialect: Dialect,
@@ -111,8 +115,8 @@ pub struct Scanner<'t> {
     ghost left: { IsRest text.now rest.now },
 }
 
-// Whether an identifier of this text and what follows it would begin a prefixed or raw string, or a byte literal.
-// Those aren't lexed.
+// Returns whether an identifier of this text, with what follows it, would begin a prefixed string,
+// a raw string or a byte literal. The sample dialect doesn't lex those.
 #[inline(always)]
 fn begins_literal(name: &str, rest: &str) -> bool
     ensures { result ≡ words.begins_literal name.now (chars rest.now) }
@@ -125,8 +129,8 @@ fn begins_literal(name: &str, rest: &str) -> bool
     }
 }
 
-// Whether a char is after a `'`, and not a lifetime: a `\`, or a character and another `'`. That character is no `'` and no line
-// feed.
+// Returns whether a char literal follows a `'`, and not a lifetime. A char literal is a `\`, or a
+// character and another `'`. That character is neither a `'` nor a line feed.
 fn is_char(following: &str) -> bool
     ensures { result ≡ literals.is_char (chars following.now) }
 {
@@ -137,19 +141,20 @@ fn is_char(following: &str) -> bool
     }
 }
 
-// Whether a raw string goes on here, after its first letters.
+// Returns whether `rest` continues a raw string, after its letters.
 fn begins_hashes(rest: &str) -> bool
     ensures { result ≡ words.begins_hashes (chars rest.now) }
 {
-    begins(rest, Class::Hash) && begins_with(past(rest, Class::Hash), "\"")
+    begins(rest, CharClass::Hash) && begins_with(past(rest, CharClass::Hash), "\"")
 }
 
-// A punct is joint where the next one begins right after it. The `/` of a comment is none.
+// Returns the spacing of a punct before this rest. The punct is joint if another one begins right
+// after it. The `/` of a comment isn't a punct.
 #[inline(always)]
 fn spacing_before(rest: &str) -> Spacing
     ensures { result ≡ signs.spacing_before (chars rest.now) }
 {
-    if begins(rest, Class::Punct) && !is_at_comment(rest) {
+    if begins(rest, CharClass::Punct) && !is_at_comment(rest) {
         Spacing::Joint
     } else {
         Spacing::Alone
@@ -163,14 +168,14 @@ fn is_at_comment(rest: &str) -> bool
     begins_with(rest, "//") || begins_with(rest, "/*")
 }
 
-// The punct, or the side of a group, that this character is before this rest.
+// Returns the punct or the delimiter that this character is, before this rest.
 #[inline(always)]
 #[tactic(auto, using(crate::proofs::CharacterLemmas::punct_other))]
-fn sign_of<'t>(char: char, rest: &'t str) -> Option<Lexeme<'t>>
+fn punctuation_of<'t>(char: char, rest: &'t str) -> Option<Lexeme<'t>>
     ensures exact { MatchOption result
-        ((total : ℕ) → read_sign total (char ∷ chars rest.now)
-        ≡ Err (fault_at wrong.Start total (char ∷ chars rest.now)))
-        (λ l. (total : ℕ) → read_sign total (char ∷ chars rest.now)
+        ((total : ℕ) → read_punctuation total (char ∷ chars rest.now)
+        ≡ Err (fault_at fault_kind.Start total (char ∷ chars rest.now)))
+        (λ l. (total : ℕ) → read_punctuation total (char ∷ chars rest.now)
         ≡ Ok (shape_of l, chars rest.now)) }
     ensures text { IfSome result (λ l. encode_utf8 char ≡ lexeme_text l) }
     ensures other { IfSome result (λ _. (characters.has Decimal char ≡ false)
@@ -183,7 +188,7 @@ fn sign_of<'t>(char: char, rest: &'t str) -> Option<Lexeme<'t>>
         ')' => Some(Lexeme::Close(DelimiterKind::Parenthesis)),
         ']' => Some(Lexeme::Close(DelimiterKind::Bracket)),
         '}' => Some(Lexeme::Close(DelimiterKind::Brace)),
-        _ if Class::Punct.has(char) => Some(Lexeme::Punct {
+        _ if CharClass::Punct.has(char) => Some(Lexeme::Punct {
             char,
             spacing: spacing_before(rest),
         }),
@@ -191,10 +196,10 @@ fn sign_of<'t>(char: char, rest: &'t str) -> Option<Lexeme<'t>>
     }
 }
 
-// The identifier that the text begins with, whose first character is before `after`. None where it may be raw, or begin a
-// literal.
+// Reads the identifier at the front of the text; `after` is what follows its first character.
+// Returns `None` if the identifier may be raw, or may begin a literal.
 #[inline(always)]
-fn common_word<'t>(text: &'t str, after: &'t str) -> Option<(Lexeme<'t>, &'t str)>
+fn fast_identifier<'t>(text: &'t str, after: &'t str) -> Option<(Lexeme<'t>, &'t str)>
     requires end { IsEnd text.now after.now }
     requires rest { chars after.now ≡ drop 1 (chars text.now) }
     ensures exact { IfSome result (λ r. (total : ℕ)
@@ -205,7 +210,7 @@ fn common_word<'t>(text: &'t str, after: &'t str) -> Option<(Lexeme<'t>, &'t str
     if begins_with(text, "r#") {
         return None;
     }
-    let rest = past(after, Class::IdentContinue);
+    let rest = past(after, CharClass::IdentContinue);
     let name = before(text, rest);
     if begins_literal(name, rest) {
         return None;
@@ -217,10 +222,11 @@ fn common_word<'t>(text: &'t str, after: &'t str) -> Option<(Lexeme<'t>, &'t str
     Some((lexeme, rest))
 }
 
-// The token of the sample dialect that the text begins with, and what is left after it, where it is a word or a sign, as most
-// are. What begins with a `/` may be a comment.
+// Reads the token of the sample dialect at the front of the text, if it is an identifier, a punct
+// or a delimiter, as most are. Returns the token and the rest of the text. Returns `None` before a
+// `/`, which may begin a comment.
 #[inline(always)]
-fn common_lexeme(text: &str) -> Option<(Lexeme<'_>, &str)>
+fn fast_lexeme(text: &str) -> Option<(Lexeme<'_>, &str)>
     ensures exact { IfSome result (λ r. (total : ℕ)
         → read_sample total (chars text.now) ≡ Ok (shape_of r.0, chars r.1.now)) }
     ensures begins { IfSome result (λ _. (c : ℕ) × (rest : List ℕ)
@@ -230,27 +236,30 @@ fn common_lexeme(text: &str) -> Option<(Lexeme<'_>, &str)>
     ensures shorter { IfSome result (λ r. length r.1.now < length text.now) }
 {
     let (char, after) = split_first(text)?;
-    if Class::IdentStart.has(char) {
-        return common_word(text, after);
+    if CharClass::IdentStart.has(char) {
+        return fast_identifier(text, after);
     }
     if char == '/' {
         return None;
     }
-    let lexeme = sign_of(char, after)?;
+    let lexeme = punctuation_of(char, after)?;
     Some((lexeme, after))
 }
 
 impl<'t> Scanner<'t> {
-    ghost use Rattle.mbe_text.specs.Scanning.{GoesOn, Advances};
+    ghost use Rattle.mbe_text.specs.ScannerSteps.{ScansForward, Advances};
 
-    /// At the start of a file's text. A byte order mark and a `#!` line are passed in the Rust dialect, as the Rust Reference says
-    /// of input: the line is passed unless its next token is the `[` of an attribute.
+    /// Returns a scanner at the start of a file's text.
+    ///
+    /// In the Rust dialect it skips a byte order mark, and then a line that begins with `#!`, as
+    /// the Rust Reference defines for input. It doesn't skip the line if the next token after `#!`
+    /// is the `[` of an attribute.
     pub fn new(dialect: Dialect, text: &'t str, file: u32) -> Scanner<'t>
         requires { length text.now < 2 ^ 32 }
         ensures dialect { result.dialect ≡ dialect }
         ensures file { result.file ≡ file }
         ensures rest { chars result.rest.now
-            ≡ after_head dialect (length text.now) (chars text.now) }
+            ≡ after_preamble dialect (length text.now) (chars text.now) }
         ensures sample { dialect ≡ Sample → result.rest.now ≡ text.now }
         ensures total { result.total ≡ length text.now }
         ensures text { result.text.now ≡ text.now }
@@ -262,11 +271,11 @@ impl<'t> Scanner<'t> {
             text,
             rest: text,
         };
-        scanner.head();
+        scanner.preamble();
         scanner
     }
 
-    /// The number of bytes consumed.
+    /// Returns the number of bytes consumed.
     #[inline(always)]
     pub fn offset(&self) -> u32
         ensures bytes { result + length self.now.rest.now ≡ self.now.total }
@@ -286,11 +295,11 @@ impl<'t> Scanner<'t> {
         Some(char)
     }
 
-    // Passes one character.
+    // Consumes one character and returns it.
     #[inline(always)]
     fn bump(&mut self) -> Option<char>
         ensures some { IsSome result ↔ 0 < length self.old.rest.now }
-        ensures on { GoesOn self.old self.new }
+        ensures on { ScansForward self.old self.new }
         ensures past { Advances self.old self.new }
         ensures whole { IfSome result (λ c.
             self.old.rest.now ≡ encode_utf8 c ++ self.new.rest.now) }
@@ -303,46 +312,47 @@ impl<'t> Scanner<'t> {
         Some(char)
     }
 
-    // Passes the characters of a kind that come first.
+    // Consumes characters of that class, as many as there are.
     #[inline(always)]
-    fn pass(&mut self, class: Class)
-        ensures on { GoesOn self.old self.new }
+    fn bump_while(&mut self, class: CharClass)
+        ensures on { ScansForward self.old self.new }
         ensures exact { chars self.new.rest.now
             ≡ characters.past class (chars self.old.rest.now) }
     {
         self.rest = past(self.rest, class);
     }
 
-    // What is left after white space.
+    // Returns what is left after white space.
     #[inline(always)]
-    fn after_blanks(&self) -> &'t str
+    fn after_whitespace(&self) -> &'t str
         ensures exact { chars result.now
-            ≡ characters.past (blank self.now.dialect) (chars self.now.rest.now) }
+            ≡ characters.past (whitespace_class self.now.dialect) (chars self.now.rest.now) }
         ensures end { IsEnd self.now.rest.now result.now }
     {
         match self.dialect {
-            Dialect::Sample => past(self.rest, Class::Blank),
-            Dialect::Rust(_) => past(self.rest, Class::Space),
+            Dialect::Sample => past(self.rest, CharClass::Blank),
+            Dialect::Rust(_) => past(self.rest, CharClass::Space),
         }
     }
 
-    // Passes an identifier without a `r#`, whose first character is here.
+    // Consumes an identifier without a `r#`, and returns its text. The first character isn't
+    // checked.
     #[inline(always)]
-    fn word(&mut self) -> &'t str
-        ensures on { GoesOn self.old self.new }
+    fn bare_identifier(&mut self) -> &'t str
+        ensures on { ScansForward self.old self.new }
         ensures past { Advances self.old self.new }
         ensures whole { self.old.rest.now ≡ result.now ++ self.new.rest.now }
-        ensures rest { chars self.new.rest.now ≡ words.past_word (chars self.old.rest.now) }
+        ensures rest { chars self.new.rest.now ≡ words.past_identifier (chars self.old.rest.now) }
         ensures exact { result.now
             ≡ characters.bytes_before (chars self.old.rest.now) (chars self.new.rest.now) }
     {
         let text = self.rest;
         self.bump();
-        self.pass(Class::IdentContinue);
+        self.bump_while(CharClass::IdentContinue);
         before(text, self.rest)
     }
 
-    // Whether a raw identifier is here.
+    // Returns whether a raw identifier is next.
     #[inline(always)]
     fn is_at_raw(&self) -> bool
         ensures begins { result ≡ true
@@ -353,30 +363,30 @@ impl<'t> Scanner<'t> {
             return false;
         }
         match past_front(self.rest, "r#") {
-            Some(name) => begins(name, Class::IdentStart),
+            Some(name) => begins(name, CharClass::IdentStart),
             None => false,
         }
     }
 
-    // Passes a raw identifier with its `r#`.
+    // Consumes a raw identifier with its `r#`.
     fn raw_identifier(&mut self) -> Result<Lexeme<'t>, LexFault>
         requires { 0 < length self.old.rest.now }
-        ensures on { GoesOn self.old self.new }
+        ensures on { ScansForward self.old self.new }
         ensures past { Advances self.old self.new }
         ensures reads { ((text : List ℕ) × (self.old.rest.now ≡ 114 ∷ (35 ∷ text)))
             → IfOk result (λ l. self.old.rest.now ≡ lexeme_text l ++ self.new.rest.now) }
-        ensures exact { Gives (words.read_raw self.old.total (chars self.old.rest.now))
+        ensures exact { ReadsAs (words.read_raw_identifier self.old.total (chars self.old.rest.now))
             result (chars self.new.rest.now) }
         ensures within { IfErr result (λ fault. fault.offset ≤ self.old.total) }
     {
         let start = self.offset();
         self.bump();
         self.bump();
-        let name = self.word();
+        let name = self.bare_identifier();
         if begins_with(self.rest, "\"") {
             return Err(LexFault {
                 offset: start,
-                wrong: Wrong::Prefix,
+                fault_kind: LexFaultKind::Prefix,
             });
         }
         Ok(Lexeme::Ident {
@@ -385,12 +395,13 @@ impl<'t> Scanner<'t> {
         })
     }
 
-    // Passes an identifier that isn't raw.
+    // Consumes an identifier that isn't raw.
     #[inline(always)]
     fn identifier(&mut self) -> Result<Lexeme<'t>, LexFault>
         requires { 0 < length self.old.rest.now }
-        ensures on { GoesOn self.old self.new }
-        ensures exact { Gives (words.read_word self.old.total (chars self.old.rest.now))
+        ensures on { ScansForward self.old self.new }
+        ensures exact { ReadsAs (words.read_plain_identifier self.old.total
+            (chars self.old.rest.now))
             result (chars self.new.rest.now) }
         ensures past { Advances self.old self.new }
         ensures reads { IfOk result (λ l.
@@ -398,11 +409,11 @@ impl<'t> Scanner<'t> {
         ensures within { IfErr result (λ fault. fault.offset ≤ self.old.total) }
     {
         let start = self.offset();
-        let name = self.word();
+        let name = self.bare_identifier();
         if begins_literal(name, self.rest) {
             return Err(LexFault {
                 offset: start,
-                wrong: Wrong::Prefix,
+                fault_kind: LexFaultKind::Prefix,
             });
         }
         Ok(Lexeme::Ident {
@@ -411,16 +422,16 @@ impl<'t> Scanner<'t> {
         })
     }
 
-    // Passes an identifier, raw or not.
+    // Consumes an identifier, raw or not.
     #[inline(always)]
     fn any_identifier(&mut self) -> Result<Lexeme<'t>, LexFault>
         requires { 0 < length self.old.rest.now }
-        ensures on { GoesOn self.old self.new }
+        ensures on { ScansForward self.old self.new }
         ensures past { Advances self.old self.new }
         ensures reads { IfOk result (λ l.
             self.old.rest.now ≡ lexeme_text l ++ self.new.rest.now) }
         ensures within { IfErr result (λ fault. fault.offset ≤ self.old.total) }
-        ensures exact { Gives (words.read_identifier self.old.total (chars self.old.rest.now))
+        ensures exact { ReadsAs (words.read_identifier self.old.total (chars self.old.rest.now))
             result (chars self.new.rest.now) }
     {
         if self.is_at_raw() {
@@ -430,44 +441,44 @@ impl<'t> Scanner<'t> {
         }
     }
 
-    // Passes the identifier that is the suffix of a literal, where one is here, and returns it with its length in
-    // bytes, which is at most 255. One that would begin a prefixed string is a fault, as it is elsewhere. A suffix is
-    // never raw.
+    // Consumes the suffix of a literal, if there is one, and returns it with its length in bytes.
+    // A suffix is an identifier of at most 255 bytes, and never raw. As elsewhere, an identifier
+    // that would begin a prefixed string is a fault.
     fn suffix(&mut self) -> Result<(&'t str, u8), LexFault>
-        ensures on { GoesOn self.old self.new }
+        ensures on { ScansForward self.old self.new }
         ensures whole { IfOk result (λ r. self.old.rest.now ≡ r.0.now ++ self.new.rest.now) }
         ensures len { IfOk result (λ r. r.1 ≡ length r.0.now) }
         ensures utf8 { IfOk result (λ r. IsUtf8 r.0.now) }
         ensures exact { MatchResult result
             (λ r. (words.past_suffix (chars self.old.rest.now) ≡ Ok (chars self.new.rest.now))
             × (r.0.now ≡ bytes_before (chars self.old.rest.now) (chars self.new.rest.now)))
-            (λ fault. (words.past_suffix (chars self.old.rest.now) ≡ Err fault.wrong)
-            × (fault ≡ fault_at fault.wrong self.old.total (chars self.old.rest.now))) }
+            (λ fault. (words.past_suffix (chars self.old.rest.now) ≡ Err fault.fault_kind)
+            × (fault ≡ fault_at fault.fault_kind self.old.total (chars self.old.rest.now))) }
         ensures within { IfErr result (λ fault. fault.offset ≤ self.old.total) }
     {
         let start = self.offset();
-        if !begins(self.rest, Class::IdentStart) {
+        if !begins(self.rest, CharClass::IdentStart) {
             return Ok(("", 0));
         }
-        let name = self.word();
-        let wrong = match u8::try_from(name.len()) {
+        let name = self.bare_identifier();
+        let fault_kind = match u8::try_from(name.len()) {
             Ok(len) if !begins_literal(name, self.rest) => return Ok((name, len)),
-            Ok(_) => Wrong::Prefix,
-            Err(_) => Wrong::LongSuffix,
+            Ok(_) => LexFaultKind::Prefix,
+            Err(_) => LexFaultKind::LongSuffix,
         };
         Err(LexFault {
             offset: start,
-            wrong,
+            fault_kind,
         })
     }
 
-    // A literal of this text, with the suffix that is here.
+    // Consumes the suffix, and returns the literal of that text with it.
     fn literal(&mut self, text: &'t str, kind: LitKind) -> Result<Lexeme<'t>, LexFault>
-        ensures on { GoesOn self.old self.new }
+        ensures on { ScansForward self.old self.new }
         ensures reads { IfOk result (λ l. (suffix : List ℕ)
             × (self.old.rest.now ≡ suffix ++ self.new.rest.now)
             × (lexeme_text l ≡ opening kind ++ (text.now ++ (closing kind ++ suffix)))) }
-        ensures exact { Gives
+        ensures exact { ReadsAs
             (literals.read_literal self.old.total kind text.now (chars self.old.rest.now))
             result (chars self.new.rest.now) }
         ensures within { IfErr result (λ fault. fault.offset ≤ self.old.total) }
@@ -481,9 +492,10 @@ impl<'t> Scanner<'t> {
         })
     }
 
-    // Passes the text up to the next `end` and that too, where a `\` takes the next character with it.
+    // Consumes the text up to the next `end`, and that `end` too. A `\` takes the next character
+    // with it. Returns the text before the `end`.
     fn quoted(&mut self, end: char) -> Option<&'t str>
-        ensures on { GoesOn self.old self.new }
+        ensures on { ScansForward self.old self.new }
         ensures whole { IfSome result (λ text.
             self.old.rest.now ≡ text.now ++ (encode_utf8 end ++ self.new.rest.now)) }
         ensures exact { MatchOption result
@@ -505,16 +517,16 @@ impl<'t> Scanner<'t> {
         }
     }
 
-    // Passes a string, or a char, between two of that quote, with its suffix.
+    // Consumes a string, or a char, between two such quotes, and its suffix.
     fn string(&mut self, quote: char, kind: LitKind) -> Result<Lexeme<'t>, LexFault>
         requires { 0 < length self.old.rest.now }
-        ensures on { GoesOn self.old self.new }
+        ensures on { ScansForward self.old self.new }
         ensures past { Advances self.old self.new }
         ensures reads { Begins quote self.old.rest.now
             → opening kind ≡ encode_utf8 quote → closing kind ≡ encode_utf8 quote
             → IfOk result (λ l. self.old.rest.now ≡ lexeme_text l ++ self.new.rest.now) }
         ensures within { IfErr result (λ fault. fault.offset ≤ self.old.total) }
-        ensures exact { Gives
+        ensures exact { ReadsAs
             (literals.read_quoted self.old.total kind quote (chars self.old.rest.now))
             result (chars self.new.rest.now) }
     {
@@ -523,13 +535,13 @@ impl<'t> Scanner<'t> {
         let Some(text) = self.quoted(quote) else {
             return Err(LexFault {
                 offset: start,
-                wrong: Wrong::OpenString,
+                fault_kind: LexFaultKind::UnterminatedString,
             });
         };
         self.literal(text, kind)
     }
 
-    // Whether the `'` that is here begins a char.
+    // Returns whether the `'` that is next begins a char.
     fn is_at_char(&self) -> bool
         ensures { result ≡ literals.is_char (drop 1 (chars self.now.rest.now)) }
     {
@@ -539,23 +551,23 @@ impl<'t> Scanner<'t> {
         }
     }
 
-    // Passes the `'` of a lifetime, whose identifier is the next token.
+    // Consumes the `'` of a lifetime. The lifetime's identifier is the next token.
     fn lifetime(&mut self) -> Result<Lexeme<'t>, LexFault>
         requires { 0 < length self.old.rest.now }
-        ensures on { GoesOn self.old self.new }
+        ensures on { ScansForward self.old self.new }
         ensures past { Advances self.old self.new }
         ensures reads { Begins 39 self.old.rest.now
             → IfOk result (λ l. self.old.rest.now ≡ lexeme_text l ++ self.new.rest.now) }
         ensures within { IfErr result (λ fault. fault.offset ≤ self.old.total) }
-        ensures exact { Gives (literals.read_lifetime self.old.total (chars self.old.rest.now))
+        ensures exact { ReadsAs (literals.read_lifetime self.old.total (chars self.old.rest.now))
             result (chars self.new.rest.now) }
     {
         let start = self.offset();
         self.bump();
-        if !begins(self.rest, Class::IdentStart) {
+        if !begins(self.rest, CharClass::IdentStart) {
             return Err(LexFault {
                 offset: start,
-                wrong: Wrong::Start,
+                fault_kind: LexFaultKind::Start,
             });
         }
         Ok(Lexeme::Punct {
@@ -564,15 +576,16 @@ impl<'t> Scanner<'t> {
         })
     }
 
-    // Passes what begins with the `'` that is here: a char with its suffix, or the first token of a lifetime.
+    // Consumes what begins with the `'` that is next: a char with its suffix, or the first token
+    // of a lifetime.
     fn quote(&mut self) -> Result<Lexeme<'t>, LexFault>
         requires { 0 < length self.old.rest.now }
-        ensures on { GoesOn self.old self.new }
+        ensures on { ScansForward self.old self.new }
         ensures past { Advances self.old self.new }
         ensures reads { Begins 39 self.old.rest.now
             → IfOk result (λ l. self.old.rest.now ≡ lexeme_text l ++ self.new.rest.now) }
         ensures within { IfErr result (λ fault. fault.offset ≤ self.old.total) }
-        ensures exact { Gives (literals.read_quote self.old.total (chars self.old.rest.now))
+        ensures exact { ReadsAs (literals.read_quote self.old.total (chars self.old.rest.now))
             result (chars self.new.rest.now) }
     {
         if self.is_at_char() {
@@ -582,9 +595,10 @@ impl<'t> Scanner<'t> {
         }
     }
 
-    // Passes a `.` and the digits after it, where that is no range and no field.
+    // Consumes a `.` and the digits after it, unless the `.` belongs to a range or a field.
+    // Returns whether it did.
     fn fraction(&mut self) -> bool
-        ensures on { GoesOn self.old self.new }
+        ensures on { ScansForward self.old self.new }
         ensures exact { result ≡ is_some (literals.past_fraction (chars self.old.rest.now)) }
         ensures rest { chars self.new.rest.now
             ≡ unwrap_or (literals.past_fraction (chars self.old.rest.now)) (chars self.old.rest.now) }
@@ -593,41 +607,41 @@ impl<'t> Scanner<'t> {
             return false;
         }
         self.bump();
-        self.pass(Class::Digit);
+        self.bump_while(CharClass::Digit);
         true
     }
 
-    // Whether a `.` is here, and no range and no field.
+    // Returns whether a `.` is next that belongs neither to a range nor to a field.
     fn is_at_fraction(&self) -> bool
         ensures { result ≡ literals.begins_fraction (chars self.now.rest.now) }
     {
         match split_first(self.rest) {
-            Some(('.', rest)) => !begins_with(rest, ".") && !begins(rest, Class::IdentStart),
+            Some(('.', rest)) => !begins_with(rest, ".") && !begins(rest, CharClass::IdentStart),
             _ => false,
         }
     }
 
-    // Passes an exponent that has a digit.
+    // Consumes an exponent, if it has a digit. Returns whether it did.
     fn exponent(&mut self) -> bool
-        ensures on { GoesOn self.old self.new }
+        ensures on { ScansForward self.old self.new }
         ensures exact { result ≡ is_some (literals.past_exponent (chars self.old.rest.now)) }
         ensures rest { chars self.new.rest.now
             ≡ unwrap_or (literals.past_exponent (chars self.old.rest.now)) (chars self.old.rest.now) }
     {
-        let Some(rest) = past_one(self.rest, Class::Exponent) else {
+        let Some(rest) = past_one(self.rest, CharClass::Exponent) else {
             return false;
         };
-        let digits = past_one(rest, Class::Sign).unwrap_or(rest);
-        if !begins(digits, Class::Decimal) {
+        let digits = past_one(rest, CharClass::Sign).unwrap_or(rest);
+        if !begins(digits, CharClass::Decimal) {
             return false;
         }
-        self.rest = past(digits, Class::Digit);
+        self.rest = past(digits, CharClass::Digit);
         true
     }
 
-    // Passes a number without its suffix.
+    // Consumes a number without its suffix.
     fn digits(&mut self) -> LitKind
-        ensures on { GoesOn self.old self.new }
+        ensures on { ScansForward self.old self.new }
         ensures past { Advances self.old self.new }
         ensures unquoted { (opening result ≡ []) × (closing result ≡ []) }
         ensures exact { result ≡ (literals.past_number (chars self.old.rest.now)).0 }
@@ -639,21 +653,21 @@ impl<'t> Scanner<'t> {
         self.bump();
         if is_hex {
             self.bump();
-            self.pass(Class::HexDigit);
+            self.bump_while(CharClass::HexDigit);
             LitKind::Integer
         } else if is_other {
             self.bump();
-            self.pass(Class::Digit);
+            self.bump_while(CharClass::Digit);
             LitKind::Integer
         } else {
-            self.pass(Class::Digit);
+            self.bump_while(CharClass::Digit);
             self.decimal()
         }
     }
 
-    // Passes the fraction and the exponent of a number in base ten.
+    // Consumes the fraction and the exponent of a number in base ten.
     fn decimal(&mut self) -> LitKind
-        ensures on { GoesOn self.old self.new }
+        ensures on { ScansForward self.old self.new }
         ensures unquoted { (opening result ≡ []) × (closing result ≡ []) }
         ensures exact { result ≡ (literals.past_decimal (chars self.old.rest.now)).0 }
         ensures rest { chars self.new.rest.now
@@ -668,15 +682,15 @@ impl<'t> Scanner<'t> {
         }
     }
 
-    // Passes a number with its suffix.
+    // Consumes a number with its suffix.
     fn number(&mut self) -> Result<Lexeme<'t>, LexFault>
         requires { 0 < length self.old.rest.now }
-        ensures on { GoesOn self.old self.new }
+        ensures on { ScansForward self.old self.new }
         ensures past { Advances self.old self.new }
         ensures reads { IfOk result (λ l.
             self.old.rest.now ≡ lexeme_text l ++ self.new.rest.now) }
         ensures within { IfErr result (λ fault. fault.offset ≤ self.old.total) }
-        ensures exact { Gives (literals.read_number self.old.total (chars self.old.rest.now))
+        ensures exact { ReadsAs (literals.read_number self.old.total (chars self.old.rest.now))
             result (chars self.new.rest.now) }
     {
         let text = self.rest;
@@ -685,63 +699,63 @@ impl<'t> Scanner<'t> {
         self.literal(digits, kind)
     }
 
-    // Passes a punct, or one side of a group. Another character is a fault.
+    // Consumes a punct or a delimiter. Any other character is a fault.
     #[inline(always)]
-    fn sign(&mut self) -> Result<Lexeme<'t>, LexFault>
+    fn punctuation(&mut self) -> Result<Lexeme<'t>, LexFault>
         requires { 0 < length self.old.rest.now }
-        ensures on { GoesOn self.old self.new }
+        ensures on { ScansForward self.old self.new }
         ensures past { Advances self.old self.new }
         ensures reads { IfOk result (λ l.
             self.old.rest.now ≡ lexeme_text l ++ self.new.rest.now) }
         ensures within { IfErr result (λ fault. fault.offset ≤ self.old.total) }
-        ensures exact { Gives (signs.read_sign self.old.total (chars self.old.rest.now))
+        ensures exact { ReadsAs (signs.read_punctuation self.old.total (chars self.old.rest.now))
             result (chars self.new.rest.now) }
     {
         let start = self.offset();
         if let Some(char) = self.bump()
-            && let Some(lexeme) = sign_of(char, self.rest)
+            && let Some(lexeme) = punctuation_of(char, self.rest)
         {
             return Ok(lexeme);
         }
         Err(LexFault {
             offset: start,
-            wrong: Wrong::Start,
+            fault_kind: LexFaultKind::Start,
         })
     }
 
-    // Passes the token of the sample dialect that begins with this character, which is here.
+    // Consumes the next token of the sample dialect. It begins with this character.
     #[inline(always)]
     fn sample_lexeme(&mut self, char: char) -> Result<Lexeme<'t>, LexFault>
         requires { 0 < length self.old.rest.now }
-        ensures on { GoesOn self.old self.new }
+        ensures on { ScansForward self.old self.new }
         ensures past { Advances self.old self.new }
         ensures reads { Begins char self.old.rest.now
             → IfOk result (λ l. self.old.rest.now ≡ lexeme_text l ++ self.new.rest.now) }
         ensures within { IfErr result (λ fault. fault.offset ≤ self.old.total) }
         ensures exact { (rest : List ℕ) → chars self.old.rest.now ≡ char ∷ rest
-            → Gives (read_sample self.old.total (chars self.old.rest.now))
+            → ReadsAs (read_sample self.old.total (chars self.old.rest.now))
             result (chars self.new.rest.now) }
     {
-        if Class::IdentStart.has(char) {
+        if CharClass::IdentStart.has(char) {
             self.any_identifier()
-        } else if Class::Decimal.has(char) {
+        } else if CharClass::Decimal.has(char) {
             self.number()
         } else if char == '"' {
             self.string('"', LitKind::Str)
         } else if char == '\'' {
             self.quote()
         } else {
-            self.sign()
+            self.punctuation()
         }
     }
 
-    // Passes the token of Rust that is here.
+    // Consumes the next token of Rust.
     fn rust_lexeme(&mut self, edition: Edition) -> Result<Lexeme<'t>, LexFault>
         requires { 0 < length self.old.rest.now }
-        ensures on { GoesOn self.old self.new }
+        ensures on { ScansForward self.old self.new }
         ensures past { IfOk result (λ _. Advances self.old self.new) }
         ensures within { IfErr result (λ fault. fault.offset ≤ self.old.total) }
-        ensures exact { Gives
+        ensures exact { ReadsAs
             (dialects.read_rust edition self.old.total (chars self.old.rest.now))
             result (chars self.new.rest.now) }
     {
@@ -752,23 +766,23 @@ impl<'t> Scanner<'t> {
             }
             Some(Err(fault)) => Err(LexFault {
                 offset: offset(self.total, fault.at),
-                wrong: fault.wrong,
+                fault_kind: fault.fault_kind,
             }),
-            None => self.sign(),
+            None => self.punctuation(),
         }
     }
 
-    // Passes the token that begins with this character, which is here.
+    // Consumes the next token. It begins with this character.
     #[inline(always)]
     fn lexeme(&mut self, char: char) -> Result<Lexeme<'t>, LexFault>
         requires { 0 < length self.old.rest.now }
-        ensures on { GoesOn self.old self.new }
+        ensures on { ScansForward self.old self.new }
         ensures past { IfOk result (λ _. Advances self.old self.new) }
         ensures reads { self.old.dialect ≡ Sample → Begins char self.old.rest.now
             → IfOk result (λ l. self.old.rest.now ≡ lexeme_text l ++ self.new.rest.now) }
         ensures within { IfErr result (λ fault. fault.offset ≤ self.old.total) }
         ensures exact { (rest : List ℕ) → chars self.old.rest.now ≡ char ∷ rest
-            → Gives (read_shape self.old.dialect self.old.total (chars self.old.rest.now))
+            → ReadsAs (read_shape self.old.dialect self.old.total (chars self.old.rest.now))
             result (chars self.new.rest.now) }
     {
         match self.dialect {
@@ -777,12 +791,13 @@ impl<'t> Scanner<'t> {
         }
     }
 
-    // The next token, where it is a word or a sign of the sample dialect and no comment is before it. What `token` returns
-    // is written through pointers, which most tokens needn't be.
+    // Consumes the next token of the sample dialect, if it is an identifier, a punct or a
+    // delimiter and no comment is before it. This is the fast path: `token` returns its result
+    // through pointers, which most tokens don't need.
     #[inline(always)]
-    pub(crate) fn common(&mut self) -> Option<Token<'t>>
+    pub(crate) fn fast_token(&mut self) -> Option<SourceToken<'t>>
         ensures none { IfNone result (self.new.rest.now ≡ self.old.rest.now) }
-        ensures on { GoesOn self.old self.new }
+        ensures on { ScansForward self.old self.new }
         ensures sample { IfSome result (λ t. self.old.dialect ≡ Sample) }
         ensures past { IfSome result (λ t. length self.new.rest.now < length self.old.rest.now) }
         ensures start { IfSome result (λ t. t.span.start ≤ self.old.total) }
@@ -803,19 +818,19 @@ impl<'t> Scanner<'t> {
             Dialect::Rust(_) => return None,
             Dialect::Sample => {}
         }
-        let text = self.after_blanks();
-        let (lexeme, rest) = common_lexeme(text)?;
+        let text = self.after_whitespace();
+        let (lexeme, rest) = fast_lexeme(text)?;
         let start = offset(self.total, text);
         let end = offset(self.total, rest);
         self.rest = rest;
         let span = file_span(self.file, start, end);
-        Some(Token { lexeme, span })
+        Some(SourceToken { lexeme, span })
     }
 
-    /// Consumes white space, comments and the next token, and returns the token; `None` at the end of the text. `LexFault` if what
-    /// is there isn't a token or a comment.
-    pub fn token(&mut self) -> Result<Option<Token<'t>>, LexFault>
-        ensures on { GoesOn self.old self.new }
+    /// Consumes white space, comments and the next token, and returns the token. Returns `None` at
+    /// the end of the text, and a `LexFault` if what is next is neither a token nor a comment.
+    pub fn token(&mut self) -> Result<Option<SourceToken<'t>>, LexFault>
+        ensures on { ScansForward self.old self.new }
         ensures past { IfOk result (λ token. IsSome token
             → length self.new.rest.now < length self.old.rest.now) }
         ensures end { IfOk result (λ token. IfNone token (length self.new.rest.now ≡ 0)) }
@@ -841,6 +856,6 @@ impl<'t> Scanner<'t> {
         };
         let lexeme = self.lexeme(char)?;
         let span = file_span(self.file, start, self.offset());
-        Ok(Some(Token { lexeme, span }))
+        Ok(Some(SourceToken { lexeme, span }))
     }
 }

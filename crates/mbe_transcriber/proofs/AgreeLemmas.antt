@@ -1,18 +1,27 @@
 -- Environments that agree on every name fault alike and substitute alike.
-use Rattle.std.specs.Prelude.{◌≡◌, ℕ, zero, suc, Bool, false, not, ◌||◌, if◌then◌else◌, List, [], ◌∷◌, ◌++◌, filter_map, Option, Some, None, option_map, option_and_then, is_none, refl}
+use Rattle.std.specs.Prelude.{◌≡◌, ℕ, zero, suc, Bool, false, not, ◌||◌, if◌then◌else◌, List, [], ◌∷◌, ◌++◌, filter_map}
+use Rattle.std.specs.Prelude.{Option, Some, None, option_map, option_and_then, is_none, refl}
 use Rattle.std.specs.List.{cons_option}
 use Rattle.std.proofs.Common.{ap, ◌∙◌, subst}
 use Rattle.mbe_tt.specs.declared.span.Span.{Span}
 use Rattle.mbe_tt.specs.declared.tt.Punct.{Punct}
-use Rattle.mbe_tt.specs.Fragments.Grammar.{Grammar}
+use Rattle.mbe_tt.specs.Grammars.Grammar.{Grammar}
 use Rattle.mbe_tt.specs.Trees.Tree.{Forest}
-use Rattle.mbe_semantics.specs.declared.kinds.RepeatKind.{RepeatKind}
+use Rattle.mbe_semantics.specs.declared.fragment_kinds.RepeatKind.{RepeatKind}
 use Rattle.mbe_semantics.specs.Syntax.Op as ops
-use Rattle.mbe_semantics.specs.Syntax.Op.{Name, Token, Element, ident_element, literal_element, variable_element, Expression, ignore, count, index, len, concat, Use, used_name, uses_of, Op, Ops, no_ops, op}
+use Rattle.mbe_semantics.specs.Syntax.Op.{Name, Token, Element, ident_element, literal_element, variable_element}
+use Rattle.mbe_semantics.specs.Syntax.Op.{Expression, ignore, count, index, len, concat, Use, used_name, uses_of, Op}
+use Rattle.mbe_semantics.specs.Syntax.Op.{Ops, no_ops, op}
 use Rattle.mbe_semantics.specs.Bindings.Environment.{Value, fragment, list, empty, missing, Environment, value_of}
-use Rattle.mbe_semantics.specs.Writing.Rounds.{Path, follow, reach, followed, Extent, finite, endless, extent_of, extent_under, extent_over, kept, kept_rounds, level}
-use Rattle.mbe_semantics.specs.Writing.Concat.{text_of_value, text_of_element, joined_text, if_identifier, concat_text}
-use Rattle.mbe_semantics.specs.Writing.Substitution.{is_simple, is_counted, variable_faults, expression_faults, extent_faults, any_below, any_round, op_faults, faults, separator_trees, total_of, integer, AreRounds, AreKeptRounds, AreMarkedPuncts, IsMarked, IsVariable, IsConcat, IsExpression, Writes, Substitutes}
+use Rattle.mbe_semantics.specs.Transcription.Rounds.{Path, follow, reach, followed, Extent, finite, endless, extent_of}
+use Rattle.mbe_semantics.specs.Transcription.Rounds.{extent_under, extent_over, kept, kept_rounds, level}
+use Rattle.mbe_semantics.specs.Transcription.Concat.{text_of_value, text_of_element, joined_text, if_identifier}
+use Rattle.mbe_semantics.specs.Transcription.Concat.{concat_text}
+use Rattle.mbe_semantics.specs.Transcription.Substitution.{is_simple, is_counted, variable_faults, expression_faults}
+use Rattle.mbe_semantics.specs.Transcription.Substitution.{extent_faults, any_below, any_round, op_faults, faults}
+use Rattle.mbe_semantics.specs.Transcription.Substitution.{separator_trees, total_of, integer, AreRounds, AreKeptRounds}
+use Rattle.mbe_semantics.specs.Transcription.Substitution.{AreMarkedPuncts, IsMarked, IsVariable, IsConcat}
+use Rattle.mbe_semantics.specs.Transcription.Substitution.{IsExpression, Writes, Substitutes}
 
 -- ---- rounds of two sorts
 

@@ -3,13 +3,13 @@ use Rattle.std.proofs.Common.{◌≡◌, ℕ, ◌+◌, Option, Some, None, refl,
 use Rattle.std.specs.Option.{option_or}
 use Rattle.std.specs.Prelude.{option_map}
 use Rattle.mbe_tt.specs.declared.span.Span.{Span}
-use Rattle.mbe_semantics.specs.declared.kinds.RepeatKind.{RepeatKind}
+use Rattle.mbe_semantics.specs.declared.fragment_kinds.RepeatKind.{RepeatKind}
 use Rattle.mbe_semantics.specs.Syntax.Op.{Separator, Op, Ops, no_ops, op, repetition}
 use Rattle.mbe_semantics.specs.Bindings.Environment.{Environment}
 use Rattle.mbe_semantics.specs.Expansion.Error.{ExpandErrorKind, ExpandError}
-use Rattle.mbe_semantics.specs.Writing.Rounds.{Path, kept_rounds, finite, level}
-use Rattle.mbe_transcriber.specs.Faults.{first_below, first_round, op_fault, first_fault}
-use Rattle.mbe_variables.specs.Lost.{at, extent_fault}
+use Rattle.mbe_semantics.specs.Transcription.Rounds.{Path, kept_rounds, finite, level}
+use Rattle.mbe_transcriber.specs.TemplateFaults.{first_below, first_round, op_fault, first_fault}
+use Rattle.mbe_variables.specs.LookupErrors.{at, extent_fault}
 
 or_over : {X : Type 0} (a b c : Option X) → option_or (option_or a b) c ≡ option_or a (option_or b c)
 or_over None b c = refl

@@ -1,5 +1,6 @@
 -- Texts that are joined, element by element.
-use Rattle.std.proofs.Common.{◌≡◌, ℕ, Bool, true, false, List, [], ◌∷◌, ◌++◌, Option, Some, None, refl, ap, sym, ◌∙◌, not, take, length}
+use Rattle.std.proofs.Common.{◌≡◌, ℕ, Bool, true, false, List, [], ◌∷◌, ◌++◌, Option, Some, None, refl, ap, sym, ◌∙◌}
+use Rattle.std.proofs.Common.{not, take, length}
 use Rattle.std.specs.Prelude.{◌||◌, ◌&&◌, ◌==◌, is_some, is_none, option_map, option_and_then}
 use Rattle.std.specs.Prelude.{chars, if◌then◌else◌}
 use Rattle.std.proofs.Math.Seq.{take-append_seam}
@@ -7,14 +8,14 @@ use Rattle.std.specs.Option.{option_or}
 use Rattle.std.specs.List.{list_all}
 use Rattle.unicode_ident.specs.Ident.{is_xid_start, is_xid_continue}
 use Rattle.mbe_tt.specs.declared.span.Span.{Span}
-use Rattle.mbe_tt.specs.Buffers.Building.{Levels}
-use Rattle.mbe_tt.specs.Fragments.Grammar.{Grammar}
+use Rattle.mbe_tt.specs.Buffers.GroupStack.{GroupStack}
+use Rattle.mbe_tt.specs.Grammars.Grammar.{Grammar}
 use Rattle.mbe_semantics.specs.Syntax.Op.{Element}
 use Rattle.mbe_semantics.specs.Bindings.Environment.{Environment}
-use Rattle.mbe_semantics.specs.Writing.Rounds.{Path}
-use Rattle.mbe_semantics.specs.Writing.Concat.{joined_text, concat_text, if_identifier, are_identifier_chars}
-use Rattle.mbe_transcriber.specs.Writing.{Wrote, IsConcatWritten, IsJoined}
-use Rattle.mbe_variables.specs.Fragments.{Appends}
+use Rattle.mbe_semantics.specs.Transcription.Rounds.{Path}
+use Rattle.mbe_semantics.specs.Transcription.Concat.{joined_text, concat_text, if_identifier, are_identifier_chars}
+use Rattle.mbe_transcriber.specs.TranscriberSteps.{Wrote, IsConcatWritten, IsJoined}
+use Rattle.mbe_variables.specs.FragmentWriter.{Appends}
 use Rattle.mbe_transcriber.proofs.WroteLemmas.{appends_groups}
 
 module _ (env : Environment) (path : Path) where
@@ -52,7 +53,7 @@ or_either None b = refl
 or_either (Some y) b = refl
 
 module _ (g : Grammar) (Marks : Span → Span → Type 0) (span : Span) where
-  joined_case : (text : List ℕ) (f : Bool) (old new : Levels) (o : Option (List ℕ)) → IsJoined text f o
+  joined_case : (text : List ℕ) (f : Bool) (old new : GroupStack) (o : Option (List ℕ)) → IsJoined text f o
       → are_identifier_chars (chars text) ≡ true
       → Appends (IsConcatWritten g Marks span (Some text)) old new
       → Wrote f (is_none (option_and_then if_identifier o))
@@ -69,7 +70,7 @@ module _ (g : Grammar) (Marks : Span → Span → Type 0) (span : Span) where
       rw is (record { reported = h; groups = appends_groups _ old new w; written = λ _. w })
 
   pub joined_wrote : (env : Environment) (path : Path) (elements : List Element) (text : List ℕ) (f : Bool)
-      (old new : Levels) → IsJoined text f (joined_text env path elements)
+      (old new : GroupStack) → IsJoined text f (joined_text env path elements)
       → are_identifier_chars (chars text) ≡ true → Appends (IsConcatWritten g Marks span (Some text)) old new
       → Wrote f (is_none (concat_text env path elements)) (IsConcatWritten g Marks span (concat_text env path elements))
       old new
@@ -83,7 +84,7 @@ module _ (g : Grammar) (Marks : Span → Span → Type 0) (span : Span) where
       ap is_none is
 
   pub dummy_wrote : (env : Environment) (path : Path) (elements : List Element) (text : List ℕ) (f reported : Bool)
-      (dummy : Option (List ℕ)) (old new : Levels)
+      (dummy : Option (List ℕ)) (old new : GroupStack)
       → IsJoined text f (joined_text env path elements) → are_identifier_chars (chars text) ≡ false → reported ≡ true
       → Appends (IsConcatWritten g Marks span dummy) old new
       → Wrote reported (is_none (concat_text env path elements))

@@ -1,3 +1,3 @@
-pub mod Writing
-pub mod Faults
-pub mod Beside
+pub mod TranscriberSteps
+pub mod TemplateFaults
+pub mod PartialExpansion

@@ -1,51 +1,55 @@
-// Writes a template with its variables replaced.
+// The transcriber: emits a template with its variables replaced by their fragments.
 //
-// A repetition counts its rounds first, by the lists that its variables are bound to; then each round is written straight
-// into the builder, with the path of rounds that it is in. A fault stops nothing: the first is kept, and what follows is
-// written as far as it goes, since an editor shows the tree beside the error.
+// A repetition first counts its rounds, by the lists that its variables are bound to. Then each
+// round is written straight into the builder, under the path of rounds that it is in. A fault stops
+// nothing. The first fault is kept, and the rest is written as far as possible, since an editor
+// shows the tree beside the error.
 ghost use Rattle.std.specs.Prelude.{◌≡◌, ◌<◌, Some, true, false, [], is_some, length, option_map};
 ghost use Rattle.std.specs.Prelude.{IfOk, OnOk};
-ghost use Rattle.mbe_tt.specs.Buffers.Building.{put};
-ghost use Rattle.mbe_tt.specs.Views.Shown.{literal_of, ident_of};
+ghost use Rattle.mbe_tt.specs.Buffers.GroupStack.{put};
+ghost use Rattle.mbe_tt.specs.Views.LeafViews.{literal_of, ident_of};
 ghost use Rattle.mbe_tt.specs.Trees.Top.{top_group};
 ghost use Rattle.mbe_ops.specs.Errors.ErrorViews.{errors_of};
-ghost use Rattle.mbe_semantics.specs.Laws.Marking.{MayMark};
+ghost use Rattle.mbe_semantics.specs.Laws.Callbacks.{MayMark};
 ghost use Rattle.mbe_semantics.specs.Syntax.Op as ops;
 ghost use Rattle.mbe_semantics.specs.Syntax.Op.{group, repetition, lifetime_separator};
-ghost use Rattle.mbe_semantics.specs.Writing.Substitution.{IsSubstitution, faults, op_faults};
-ghost use Rattle.mbe_semantics.specs.Writing.Substitution.{variable_faults, separator_trees};
-ghost use Rattle.mbe_semantics.specs.Writing.Substitution.{integer, punct_trees};
+ghost use Rattle.mbe_semantics.specs.Transcription.Substitution.{IsSubstitution, faults, op_faults};
+ghost use Rattle.mbe_semantics.specs.Transcription.Substitution.{variable_faults, separator_trees};
+ghost use Rattle.mbe_semantics.specs.Transcription.Substitution.{integer, punct_trees};
 ghost use Rattle.mbe_ops.specs.Expressions.{expression_seen};
 ghost use Rattle.mbe_ops.specs.Views.{op_of, ops_of, template_of, separator_seen};
-ghost use Rattle.mbe_bindings.specs.BindingViews.{bound_by};
-ghost use Rattle.mbe_transcriber.specs.Writing.{AreMarked, IsMarkedLiteral, IsMarkedIdent};
-ghost use Rattle.mbe_variables.specs.Fragments.{Appends};
-ghost use Rattle.mbe_transcriber.specs.Writing.{IsWritten, AreWritten, IsVariableWritten, IsParted};
-ghost use Rattle.mbe_transcriber.specs.Writing.{Wrote};
-ghost use Rattle.mbe_transcriber.specs.Beside.{IsLeft, AreLeft, IsWhatIsLeft};
+ghost use Rattle.mbe_bindings.specs.BindingViews.{env_of};
+ghost use Rattle.mbe_transcriber.specs.TranscriberSteps.{AreMarked, IsMarkedLiteral, IsMarkedIdent};
+ghost use Rattle.mbe_variables.specs.FragmentWriter.{Appends};
+ghost use Rattle.mbe_transcriber.specs.TranscriberSteps.{IsWritten, AreWritten, IsVariableWritten};
+ghost use Rattle.mbe_transcriber.specs.TranscriberSteps.{IsSeparated};
+ghost use Rattle.mbe_transcriber.specs.TranscriberSteps.{Wrote};
+ghost use Rattle.mbe_transcriber.specs.PartialExpansion.{IsEmitted, AreEmitted, IsPartialExpansion};
 ghost use Rattle.mbe_variables.specs.FaultViews.{error_of_fault};
-ghost use Rattle.mbe_transcriber.specs.Faults.{variable_fault, op_fault, first_fault};
-ghost use Rattle.mbe_variables.specs.Lost.{at};
+ghost use Rattle.mbe_transcriber.specs.TemplateFaults.{variable_fault, op_fault, first_fault};
+ghost use Rattle.mbe_variables.specs.LookupErrors.{at};
 
 mod expressions;
 
-use crate::transcriber::expressions::{find_ignored, write_concat, write_count, write_number};
+use crate::transcriber::expressions::{check_ignored, write_concat, write_count, write_number};
 use mbe_bindings::bindings::Bindings;
 use mbe_ops::errors::value_result::{ExpandResult, ValueResult};
 use mbe_ops::expression::Expression;
 use mbe_ops::ops::{MetaTemplate, Op, Separator};
-use mbe_semantics::kinds::RepeatKind;
-use mbe_semantics::rounds::Level;
+use mbe_semantics::current_round::CurrentRound;
+use mbe_semantics::fragment_kinds::RepeatKind;
 use mbe_tt::grammar::FragmentGrammar;
 use mbe_tt::span::Span;
 use mbe_tt::symbol::Symbol;
 use mbe_tt::tt::{Delimiter, Ident, Leaf, Literal, Punct, TopSubtree, TopSubtreeBuilder};
-use mbe_variables::fault::WritingFault;
-use mbe_variables::following::{Simple, index_at, kept_rounds, rounds_at, rounds_of, simple_at};
-use mbe_variables::fragments::{mark, write_default, write_fragment, write_unbound};
+use mbe_variables::fragment_writer::{mark, write_default, write_fragment, write_unbound};
+use mbe_variables::transcriber_fault::TranscriberFault;
+use mbe_variables::variable_lookup::{
+    SimpleBinding, index_at, kept_rounds, rounds_at, rounds_of, simple_binding_at,
+};
 use std::alloc::{AllocError, Allocator};
 
-/// What a template is written with.
+/// The context of a transcription: what stays the same for all ops.
 #[derive_where(Clone, Copy; A, M)]
 pub(crate) struct ExpandCtx<'t, 'a, A: Allocator, G, M> {
     alloc: A,
@@ -55,8 +59,9 @@ pub(crate) struct ExpandCtx<'t, 'a, A: Allocator, G, M> {
     call_site: Span,
 }
 
-/// The template's substitution, in an invisible group with the call site as both spans, and its first fault. Beside a fault the
-/// tree holds what could be written.
+/// Emits the expansion of the template in an invisible group, which has the call site as both
+/// spans, and returns the first fault beside it. With a fault, the tree holds what could be
+/// written. `AllocError` if out of memory.
 pub fn transcribe<A: Allocator + Copy, G: FragmentGrammar, M: Fn(Span) -> Span + Copy>(
     alloc: A,
     grammar: &G,
@@ -67,15 +72,15 @@ pub fn transcribe<A: Allocator + Copy, G: FragmentGrammar, M: Fn(Span) -> Span +
 ) -> Result<ExpandResult<TopSubtree<A>, A>, AllocError>
     requires marks { MayMark (M.pre marker) }
     ensures fault { IfOk result (λ r.
-        is_some r.err ≡ faults (bound_by bindings.now) [] (template_of template.now)) }
+        is_some r.err ≡ faults (env_of bindings.now) [] (template_of template.now)) }
     ensures first { IfOk result (λ r. errors_of r.err
-        ≡ first_fault call_site (bound_by bindings.now) [] (template_of template.now)) }
+        ≡ first_fault call_site (env_of bindings.now) [] (template_of template.now)) }
     ensures left { IfOk result (λ r.
-        IsWhatIsLeft (G.grammar grammar.now) (M.post marker) call_site (bound_by bindings.now)
+        IsPartialExpansion (G.grammar grammar.now) (M.post marker) call_site (env_of bindings.now)
         (template_of template.now) (top_group r.value)) }
     ensures substitution { IfOk result (λ r.
-        faults (bound_by bindings.now) [] (template_of template.now) ≡ false
-        → IsSubstitution (G.grammar grammar.now) (M.post marker) call_site (bound_by bindings.now)
+        faults (env_of bindings.now) [] (template_of template.now) ≡ false
+        → IsSubstitution (G.grammar grammar.now) (M.post marker) call_site (env_of bindings.now)
         (template_of template.now) (top_group r.value)) }
 {
     let ctx = ExpandCtx {
@@ -96,26 +101,26 @@ pub fn transcribe<A: Allocator + Copy, G: FragmentGrammar, M: Fn(Span) -> Span +
     })
 }
 
-// Writes the ops one after the other, and returns the first fault.
+// Writes the ops in order. Returns the first fault.
 #[cycle(writing)]
 fn expand_ops<'t, A: Allocator + Copy, G: FragmentGrammar, M: Fn(Span) -> Span + Copy>(
     ctx: &ExpandCtx<'_, '_, A, G, M>,
     ops: &'t [Op<A>],
-    path: &[Level],
+    path: &[CurrentRound],
     builder: &mut TopSubtreeBuilder<A>,
-) -> Result<Option<WritingFault<'t, A>>, AllocError>
+) -> Result<Option<TranscriberFault<'t, A>>, AllocError>
     requires marks { MayMark (M.pre ctx.now.marker) }
     requires some_group { 0 < length builder.old }
     ensures wrote { IfOk result (λ fault. Wrote (is_some fault)
-        (faults (bound_by ctx.now.bindings.now) path.now (ops_of ops.now))
+        (faults (env_of ctx.now.bindings.now) path.now (ops_of ops.now))
         (AreWritten (G.grammar ctx.now.grammar.now) (M.post ctx.now.marker) ctx.now.call_site
-        (bound_by ctx.now.bindings.now) path.now (ops_of ops.now)) builder.old builder.new) }
+        (env_of ctx.now.bindings.now) path.now (ops_of ops.now)) builder.old builder.new) }
     ensures first { IfOk result (λ fault. option_map error_of_fault fault
-        ≡ first_fault ctx.now.call_site (bound_by ctx.now.bindings.now) path.now
+        ≡ first_fault ctx.now.call_site (env_of ctx.now.bindings.now) path.now
         (ops_of ops.now)) }
     ensures left { IfOk result (λ _. Appends
-        (AreLeft (G.grammar ctx.now.grammar.now) (M.post ctx.now.marker) ctx.now.call_site
-        (bound_by ctx.now.bindings.now) path.now (ops_of ops.now)) builder.old builder.new) }
+        (AreEmitted (G.grammar ctx.now.grammar.now) (M.post ctx.now.marker) ctx.now.call_site
+        (env_of ctx.now.bindings.now) path.now (ops_of ops.now)) builder.old builder.new) }
 {
     let mut first = None;
     for op in ops {
@@ -130,20 +135,20 @@ fn expand_ops<'t, A: Allocator + Copy, G: FragmentGrammar, M: Fn(Span) -> Span +
 fn expand_op<'t, A: Allocator + Copy, G: FragmentGrammar, M: Fn(Span) -> Span + Copy>(
     ctx: &ExpandCtx<'_, '_, A, G, M>,
     op: &'t Op<A>,
-    path: &[Level],
+    path: &[CurrentRound],
     builder: &mut TopSubtreeBuilder<A>,
-) -> Result<Option<WritingFault<'t, A>>, AllocError>
+) -> Result<Option<TranscriberFault<'t, A>>, AllocError>
     requires marks { MayMark (M.pre ctx.now.marker) }
     requires some_group { 0 < length builder.old }
     ensures wrote { IfOk result (λ fault. Wrote (is_some fault)
-        (op_faults (bound_by ctx.now.bindings.now) path.now (op_of op.now))
+        (op_faults (env_of ctx.now.bindings.now) path.now (op_of op.now))
         (IsWritten (G.grammar ctx.now.grammar.now) (M.post ctx.now.marker) ctx.now.call_site
-        (bound_by ctx.now.bindings.now) path.now (op_of op.now)) builder.old builder.new) }
+        (env_of ctx.now.bindings.now) path.now (op_of op.now)) builder.old builder.new) }
     ensures first { IfOk result (λ fault. option_map error_of_fault fault
-        ≡ op_fault ctx.now.call_site (bound_by ctx.now.bindings.now) path.now (op_of op.now)) }
+        ≡ op_fault ctx.now.call_site (env_of ctx.now.bindings.now) path.now (op_of op.now)) }
     ensures left { IfOk result (λ _. Appends
-        (IsLeft (G.grammar ctx.now.grammar.now) (M.post ctx.now.marker) ctx.now.call_site
-        (bound_by ctx.now.bindings.now) path.now (op_of op.now)) builder.old builder.new) }
+        (IsEmitted (G.grammar ctx.now.grammar.now) (M.post ctx.now.marker) ctx.now.call_site
+        (env_of ctx.now.bindings.now) path.now (op_of op.now)) builder.old builder.new) }
 {
     match op {
         Op::Literal(literal) => write_literal(literal, ctx.marker, builder).and(Ok(None)),
@@ -165,32 +170,32 @@ fn expand_op<'t, A: Allocator + Copy, G: FragmentGrammar, M: Fn(Span) -> Span + 
 fn write_expression<'t, A: Allocator + Copy, G: FragmentGrammar, M: Fn(Span) -> Span + Copy>(
     ctx: &ExpandCtx<'_, '_, A, G, M>,
     expression: &'t Expression<A>,
-    path: &[Level],
+    path: &[CurrentRound],
     builder: &mut TopSubtreeBuilder<A>,
-) -> Result<Option<WritingFault<'t, A>>, AllocError>
+) -> Result<Option<TranscriberFault<'t, A>>, AllocError>
     requires marks { MayMark (M.pre ctx.now.marker) }
     requires some_group { 0 < length builder.old }
     ensures wrote { IfOk result (λ fault. Wrote (is_some fault)
-        (op_faults (bound_by ctx.now.bindings.now) path.now
+        (op_faults (env_of ctx.now.bindings.now) path.now
         (ops.expression (expression_seen expression.now)))
         (IsWritten (G.grammar ctx.now.grammar.now) (M.post ctx.now.marker) ctx.now.call_site
-        (bound_by ctx.now.bindings.now) path.now
+        (env_of ctx.now.bindings.now) path.now
         (ops.expression (expression_seen expression.now))) builder.old builder.new) }
     ensures first { IfOk result (λ fault. option_map error_of_fault fault
-        ≡ op_fault ctx.now.call_site (bound_by ctx.now.bindings.now) path.now
+        ≡ op_fault ctx.now.call_site (env_of ctx.now.bindings.now) path.now
         (ops.expression (expression_seen expression.now))) }
     ensures left { IfOk result (λ _. Appends
-        (IsLeft (G.grammar ctx.now.grammar.now) (M.post ctx.now.marker) ctx.now.call_site
-        (bound_by ctx.now.bindings.now) path.now
+        (IsEmitted (G.grammar ctx.now.grammar.now) (M.post ctx.now.marker) ctx.now.call_site
+        (env_of ctx.now.bindings.now) path.now
         (ops.expression (expression_seen expression.now))) builder.old builder.new) }
 {
     match expression {
-        Expression::Ignore { name, id } => Ok(find_ignored(ctx.bindings, name, *id, path)),
+        Expression::Ignore { name, id } => Ok(check_ignored(ctx.bindings, name, *id, path)),
         Expression::Index { depth } => {
-            write_at_call(ctx, index_at(path, *depth), builder).and(Ok(None))
+            write_at_call_site(ctx, index_at(path, *depth), builder).and(Ok(None))
         }
         Expression::Len { depth } => {
-            write_at_call(ctx, rounds_at(path, *depth), builder).and(Ok(None))
+            write_at_call_site(ctx, rounds_at(path, *depth), builder).and(Ok(None))
         }
         Expression::Count { name, depth } => write_count(ctx, name, *depth, path, builder),
         Expression::Concat { elements, span } => {
@@ -199,28 +204,28 @@ fn write_expression<'t, A: Allocator + Copy, G: FragmentGrammar, M: Fn(Span) -> 
     }
 }
 
-// The body between the delimiters, which are marked each by itself.
+// Writes the body between the delimiters. Each delimiter is marked by itself.
 #[cycle(writing)]
 fn expand_group<'t, A: Allocator + Copy, G: FragmentGrammar, M: Fn(Span) -> Span + Copy>(
     ctx: &ExpandCtx<'_, '_, A, G, M>,
     delimiter: Delimiter,
     body: &'t [Op<A>],
-    path: &[Level],
+    path: &[CurrentRound],
     builder: &mut TopSubtreeBuilder<A>,
-) -> Result<Option<WritingFault<'t, A>>, AllocError>
+) -> Result<Option<TranscriberFault<'t, A>>, AllocError>
     requires marks { MayMark (M.pre ctx.now.marker) }
     requires some_group { 0 < length builder.old }
     ensures wrote { IfOk result (λ fault. Wrote (is_some fault)
-        (op_faults (bound_by ctx.now.bindings.now) path.now (group delimiter (ops_of body.now)))
+        (op_faults (env_of ctx.now.bindings.now) path.now (group delimiter (ops_of body.now)))
         (IsWritten (G.grammar ctx.now.grammar.now) (M.post ctx.now.marker) ctx.now.call_site
-        (bound_by ctx.now.bindings.now) path.now (group delimiter (ops_of body.now)))
+        (env_of ctx.now.bindings.now) path.now (group delimiter (ops_of body.now)))
         builder.old builder.new) }
     ensures first { IfOk result (λ fault. option_map error_of_fault fault
-        ≡ op_fault ctx.now.call_site (bound_by ctx.now.bindings.now) path.now
+        ≡ op_fault ctx.now.call_site (env_of ctx.now.bindings.now) path.now
         (group delimiter (ops_of body.now))) }
     ensures left { IfOk result (λ _. Appends
-        (IsLeft (G.grammar ctx.now.grammar.now) (M.post ctx.now.marker) ctx.now.call_site
-        (bound_by ctx.now.bindings.now) path.now (group delimiter (ops_of body.now)))
+        (IsEmitted (G.grammar ctx.now.grammar.now) (M.post ctx.now.marker) ctx.now.call_site
+        (env_of ctx.now.bindings.now) path.now (group delimiter (ops_of body.now)))
         builder.old builder.new) }
 {
     builder.open(delimiter.kind, mark(delimiter.opening, ctx.marker))?;
@@ -229,39 +234,39 @@ fn expand_group<'t, A: Allocator + Copy, G: FragmentGrammar, M: Fn(Span) -> Span
     Ok(fault)
 }
 
-// The rounds of the body, with the separator after each but the last that doesn't fault. Where they are too many, or none
-// where one has to be, nothing is written.
+// Writes the rounds of the body. The separator stands before each round but the first, unless the
+// round before it has a fault. Writes nothing if the rounds are too many, or if `+` has none.
 #[cycle(writing)]
 fn expand_repeat<'t, A: Allocator + Copy, G: FragmentGrammar, M: Fn(Span) -> Span + Copy>(
     ctx: &ExpandCtx<'_, '_, A, G, M>,
     body: &'t [Op<A>],
     kind: RepeatKind,
     separator: Option<&Separator<A>>,
-    path: &[Level],
+    path: &[CurrentRound],
     builder: &mut TopSubtreeBuilder<A>,
-) -> Result<Option<WritingFault<'t, A>>, AllocError>
+) -> Result<Option<TranscriberFault<'t, A>>, AllocError>
     requires marks { MayMark (M.pre ctx.now.marker) }
     requires some_group { 0 < length builder.old }
     ensures wrote { let whole = repetition (ops_of body.now)
         (option_map (λ s. separator_seen s.now) separator.entry) kind in
         IfOk result (λ fault. Wrote (is_some fault)
-        (op_faults (bound_by ctx.now.bindings.now) path.now whole)
+        (op_faults (env_of ctx.now.bindings.now) path.now whole)
         (IsWritten (G.grammar ctx.now.grammar.now) (M.post ctx.now.marker) ctx.now.call_site
-        (bound_by ctx.now.bindings.now) path.now whole) builder.old builder.new) }
+        (env_of ctx.now.bindings.now) path.now whole) builder.old builder.new) }
     ensures first { let whole = repetition (ops_of body.now)
         (option_map (λ s. separator_seen s.now) separator.entry) kind in
         IfOk result (λ fault. option_map error_of_fault fault
-        ≡ op_fault ctx.now.call_site (bound_by ctx.now.bindings.now) path.now whole) }
+        ≡ op_fault ctx.now.call_site (env_of ctx.now.bindings.now) path.now whole) }
     ensures left { let whole = repetition (ops_of body.now)
         (option_map (λ s. separator_seen s.now) separator.entry) kind in
         IfOk result (λ _. Appends
-        (IsLeft (G.grammar ctx.now.grammar.now) (M.post ctx.now.marker) ctx.now.call_site
-        (bound_by ctx.now.bindings.now) path.now whole) builder.old builder.new) }
+        (IsEmitted (G.grammar ctx.now.grammar.now) (M.post ctx.now.marker) ctx.now.call_site
+        (env_of ctx.now.bindings.now) path.now whole) builder.old builder.new) }
 {
     let rounds = match kept_rounds(kind, rounds_of(ctx.bindings, path, body)) {
         Ok(rounds) => rounds,
         Err(kind) => {
-            return Ok(Some(WritingFault {
+            return Ok(Some(TranscriberFault {
                 span: ctx.call_site,
                 kind,
             }));
@@ -271,8 +276,8 @@ fn expand_repeat<'t, A: Allocator + Copy, G: FragmentGrammar, M: Fn(Span) -> Spa
     let mut first = None;
     let mut separated = false;
     for index in 0..rounds {
-        write_between(separated, separator, builder)?;
-        inside.push(Level { index, rounds })?;
+        write_separator_if(separated, separator, builder)?;
+        inside.push(CurrentRound { index, rounds })?;
         let fault = expand_ops(ctx, body, &inside, builder)?;
         let _level = inside.pop();
         separated = fault.is_none();
@@ -281,14 +286,14 @@ fn expand_repeat<'t, A: Allocator + Copy, G: FragmentGrammar, M: Fn(Span) -> Spa
     Ok(first)
 }
 
-// The separator, where one goes here.
-fn write_between<A: Allocator>(
+// Writes the separator if `separated`.
+fn write_separator_if<A: Allocator>(
     separated: bool,
     separator: Option<&Separator<A>>,
     builder: &mut TopSubtreeBuilder<A>,
 ) -> Result<(), AllocError>
     ensures open_groups { OnOk result (length builder.new ≡ length builder.old) }
-    ensures parted { OnOk result (IsParted (option_map (λ s. separator_seen s.now)
+    ensures parted { OnOk result (IsSeparated (option_map (λ s. separator_seen s.now)
         separator.entry) separated builder.old builder.new) }
 {
     if separated {
@@ -298,7 +303,7 @@ fn write_between<A: Allocator>(
     }
 }
 
-// A separator keeps its spans.
+// Writes the separator with its own spans: they aren't marked.
 fn write_separator<A: Allocator>(
     separator: Option<&Separator<A>>,
     builder: &mut TopSubtreeBuilder<A>,
@@ -339,34 +344,34 @@ fn push_puncts<A: Allocator>(
     Ok(())
 }
 
-// What the variable took, or `$` and its name where it is bound to nothing.
+// Writes the fragment of the variable. A name that isn't bound is written as `$` and the name.
 fn write_var<'t, A: Allocator + Copy, G, M: Fn(Span) -> Span + Copy>(
     ctx: &ExpandCtx<'_, '_, A, G, M>,
     name: &'t Symbol<A>,
     id: Span,
-    path: &[Level],
+    path: &[CurrentRound],
     builder: &mut TopSubtreeBuilder<A>,
-) -> Result<Option<WritingFault<'t, A>>, AllocError>
+) -> Result<Option<TranscriberFault<'t, A>>, AllocError>
     requires marks { MayMark (M.pre ctx.now.marker) }
     requires some_group { 0 < length builder.old }
     ensures wrote { IfOk result (λ fault. Wrote (is_some fault)
-        (variable_faults (bound_by ctx.now.bindings.now) path.now name.now)
+        (variable_faults (env_of ctx.now.bindings.now) path.now name.now)
         (IsVariableWritten (M.post ctx.now.marker) ctx.now.call_site
-        (bound_by ctx.now.bindings.now) path.now name.now id) builder.old builder.new) }
+        (env_of ctx.now.bindings.now) path.now name.now id) builder.old builder.new) }
     ensures first { IfOk result (λ fault. option_map error_of_fault fault
-        ≡ option_map (at id) (variable_fault (bound_by ctx.now.bindings.now) path.now name.now)) }
+        ≡ option_map (at id) (variable_fault (env_of ctx.now.bindings.now) path.now name.now)) }
     ensures unchanged { IfOk result (λ fault. is_some fault ≡ true → builder.new ≡ builder.old) }
 {
     let Some(binding) = ctx.bindings.get(name) else {
         write_unbound(name, id, builder)?;
         return Ok(None);
     };
-    match simple_at(binding, name, id, path) {
-        Ok(Simple::Fragment(fragment)) => {
+    match simple_binding_at(binding, name, id, path) {
+        Ok(SimpleBinding::Fragment(fragment)) => {
             write_fragment(fragment, id, ctx.marker, ctx.call_site, builder)?;
             Ok(None)
         }
-        Ok(Simple::Missing(kind)) => {
+        Ok(SimpleBinding::Missing(kind)) => {
             write_default(ctx.alloc, kind, mark(id, ctx.marker), builder)?;
             Ok(None)
         }
@@ -407,8 +412,8 @@ fn write_ident<A: Allocator, M: Fn(Span) -> Span + Copy>(
     }))
 }
 
-// An integer with the span of the call site.
-fn write_at_call<A: Allocator + Copy, G, M>(
+// Writes an integer with the span of the call site.
+fn write_at_call_site<A: Allocator + Copy, G, M>(
     ctx: &ExpandCtx<'_, '_, A, G, M>,
     number: usize,
     builder: &mut TopSubtreeBuilder<A>,

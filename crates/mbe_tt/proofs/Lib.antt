@@ -1,4 +1,4 @@
 pub mod Buffers
-pub mod Places
+pub mod Offsets
 pub mod Glue
 pub mod Trees

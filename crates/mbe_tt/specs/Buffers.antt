@@ -1,4 +1,4 @@
--- Words of private code: what a builder has written, places in a buffer.
-pub mod Building
+-- Definitions for private code: what a builder has written, and offsets in a buffer.
+pub mod GroupStack
 pub mod OpensAt
-pub mod Place
+pub mod Offsets

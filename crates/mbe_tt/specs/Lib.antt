@@ -1,5 +1,5 @@
 pub mod Trees
 pub mod Views
 pub mod Buffers
-pub mod Fragments
+pub mod Grammars
 pub mod Laws

@@ -1,8 +1,8 @@
--- How the values of the code are seen as trees.
-pub mod Kept
-pub mod Entry
-pub mod Entries
-pub mod Shown
+-- How clauses see the values of the code: as trees.
+pub mod SymbolText
+pub mod BufferEntry
+pub mod BufferEntries
+pub mod LeafViews
 pub mod View
 pub mod Element
 pub mod Savepoint

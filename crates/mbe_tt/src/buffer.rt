@@ -1,8 +1,10 @@
-// A flat buffer that holds one group. The names follow rust-analyzer's `tt`; what the calls return is the project's own.
+// A flat buffer that holds one group of trees.
+//
+// The names follow rust-analyzer's `tt`; the contracts are the project's own.
 ghost use Rattle.std.specs.Prelude.{◌≡◌, IfOk};
 ghost use Rattle.mbe_tt.specs.Trees.Tree.{none};
 ghost use Rattle.mbe_tt.specs.Trees.Top.{top_code};
-ghost use Rattle.mbe_tt.specs.Laws.Same.{same, same_equiv};
+ghost use Rattle.mbe_tt.specs.Laws.CodeEquality.{same, same_equiv};
 ghost use Rattle.std.specs.Cmp.{partial_equiv_from_equiv};
 
 use crate::builder::TopSubtreeBuilder;
@@ -14,8 +16,9 @@ use crate::view::TokenTreesView;
 use std::alloc::{AllocError, Allocator, Global};
 use std::marker::Model;
 
-/// One group with its content. Clauses see its delimiter and the trees inside. Two are equal where their trees are, spans
-/// and spacing included.
+/// One group with its content. Clauses see its delimiter and the trees inside.
+///
+/// Two buffers are equal if their groups are, spans and spacing included.
 #[derive(Drop)]
 #[derive_where(Debug)]
 pub struct TopSubtree<A: Allocator = Global> {
@@ -24,8 +27,8 @@ pub struct TopSubtree<A: Allocator = Global> {
 
 impl<A: Allocator> Model for TopSubtree<A> {
     ghost use Rattle.std.specs.Prelude.{◌≡◌};
-    ghost use Rattle.mbe_tt.specs.Views.Entries.{forest_of, spell};
-    ghost use Rattle.mbe_tt.specs.Views.Shown.{entries_of};
+    ghost use Rattle.mbe_tt.specs.Views.BufferEntries.{forest_of, spell};
+    ghost use Rattle.mbe_tt.specs.Views.LeafViews.{entries_of};
     ghost use Rattle.mbe_tt.specs.Trees.Top.{Top, top_of, top_group, top_code};
 
     ghost Value = { Top };
@@ -43,7 +46,7 @@ impl<A: Allocator> TopSubtree<A> {
     ghost use Rattle.mbe_tt.specs.Trees.Top.{top_group, delimiter_of, inside};
     ghost use Rattle.mbe_tt.specs.declared.tt.DelimiterKind.TheVariants.{Invisible};
 
-    /// An empty invisible group with those spans. `AllocError` if out of memory.
+    /// Returns an empty invisible group with those spans. Returns `AllocError` if out of memory.
     pub fn empty(alloc: A, span: DelimSpan) -> Result<TopSubtree<A>, AllocError>
         ensures { IfOk result
             (λ t. t ≡ (
@@ -59,7 +62,7 @@ impl<A: Allocator> TopSubtree<A> {
         Ok(TopSubtreeBuilder::new(alloc, delimiter)?.build())
     }
 
-    /// The one tree that is the whole group.
+    /// Returns a view of one tree: the whole group.
     pub fn view(&self) -> TokenTreesView<'_, A>
         ensures { trees result ≡ top_group self.now }
     {
@@ -68,7 +71,7 @@ impl<A: Allocator> TopSubtree<A> {
         }
     }
 
-    /// The group without its content.
+    /// Returns the group without its content.
     pub fn top_subtree(&self) -> &Subtree
         ensures { result.now.delimiter ≡ delimiter_of self.now }
     {
@@ -78,7 +81,7 @@ impl<A: Allocator> TopSubtree<A> {
         subtree
     }
 
-    /// An iterator over the trees inside.
+    /// Returns an iterator over the trees inside.
     pub fn iter(&self) -> TtIter<'_, A>
         ensures { result ≡ inside self.now }
     {
@@ -91,7 +94,8 @@ impl<A: Allocator> TopSubtree<A> {
 }
 
 impl<A: Allocator + Copy> TopSubtree<A> {
-    /// An equal copy, in memory of the same allocator. `AllocError` if out of memory.
+    /// Returns an equal copy in memory of the same allocator. Returns `AllocError` if out of
+    /// memory.
     pub fn try_clone(&self) -> Result<TopSubtree<A>, AllocError>
         ensures { IfOk result (λ t. t ≡ self.now) }
     {

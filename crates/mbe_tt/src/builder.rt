@@ -1,14 +1,18 @@
-// Writing a buffer, group by group. The names follow rust-analyzer's `tt`; what the calls return is the project's own.
+// A builder of buffers. It writes leaves, and opens and closes groups.
+//
+// While a group is open, its opening holds the index of the opening around it. When the group is
+// closed, its opening and its closing get the length of its content. The names follow
+// rust-analyzer's `tt`; the contracts are the project's own.
 ghost use Rattle.std.specs.Prelude.{◌≡◌, ℕ, ◌+◌, ◌<◌, ◌≤◌, List, [], ◌∷◌, ◌++◌, length, slice_set};
 ghost use Rattle.std.specs.Prelude.{vec_capacity, vec_len, IfOk, IfSome, IfNone, OnOk, OnErr};
 ghost use Rattle.mbe_tt.specs.Buffers.OpensAt.{OpensAt};
-ghost use Rattle.mbe_tt.specs.Views.Entry.{Entry as FlatEntry, Open, Close};
-ghost use Rattle.mbe_tt.specs.Views.Shown.{entries_of, entry_of, leaf_of, leaves_of};
+ghost use Rattle.mbe_tt.specs.Views.BufferEntry.{Entry as FlatEntry, Open, Close};
+ghost use Rattle.mbe_tt.specs.Views.LeafViews.{entries_of, entry_of, leaf_of, leaves_of};
 ghost use Rattle.mbe_tt.specs.declared.tt.Subtree.{Subtree};
 ghost use Rattle.mbe_tt.specs.Trees.Tree.{Forest, none, one_leaf, alone};
 ghost use Rattle.mbe_tt.specs.Trees.Tree as spec;
-ghost use Rattle.mbe_tt.specs.Views.Entry as flat;
-ghost use Rattle.mbe_tt.specs.Views.Entries.{Spelled, forest_of};
+ghost use Rattle.mbe_tt.specs.Views.BufferEntry as flat;
+ghost use Rattle.mbe_tt.specs.Views.BufferEntries.{Spelled, forest_of};
 ghost use Rattle.mbe_tt.specs.Views.Element.{element_tree};
 ghost use Rattle.std.specs.Iterator.{Drains, IsFinite};
 ghost use Rattle.std.specs.Prelude.{take, drop, ◌-◌, Some, None, if◌then◌else◌};
@@ -22,40 +26,44 @@ use crate::view::TokenTreesView;
 use std::alloc::{AllocError, Allocator, Global};
 use std::marker::Model;
 
-/// A buffer that is being written. Clauses see the groups that are open, innermost first, each with its trees so far.
-/// After an `AllocError` it holds what it held before the call. What a call that writes needs, the builder takes from the
+/// A buffer that is being written. Clauses see the open groups, innermost first, each with its
+/// trees so far.
+///
+/// After an `AllocError` the builder holds what it held before the call. It allocates with the
 /// allocator that `new` was given.
 #[derive(Drop)]
 #[derive_where(Debug)]
 pub struct TopSubtreeBuilder<A: Allocator = Global> {
     entries: Vec<Entry<A>, A>,
-    // The index of the innermost open group's opening. Until it is closed, that holds the index of the opening around it.
+    // The index of the innermost open group's opening. Until the group is closed, that entry holds
+    // the index of the opening around it.
     at: usize,
-    // How many groups are open. For each there is room for a closing.
+    // The number of open groups. The buffer has room for a closing of each.
     depth: usize,
 }
 
 impl<A: Allocator> Model for TopSubtreeBuilder<A> {
     ghost use Rattle.std.specs.Prelude.{vec_capacity};
-    ghost use Rattle.mbe_tt.specs.Buffers.Building.{Levels, levels_of, levels_code, IsBuilding};
-    ghost use Rattle.mbe_tt.specs.Views.Shown.{entries_of};
+    ghost use Rattle.mbe_tt.specs.Buffers.GroupStack.{GroupStack, stack_of, stack_code, IsBuilder};
+    ghost use Rattle.mbe_tt.specs.Views.LeafViews.{entries_of};
 
-    ghost Value = { Levels };
+    ghost Value = { GroupStack };
 
-    ghost coded = { levels_code };
+    ghost coded = { stack_code };
 
-    ghost view = { λ b. levels_of (entries_of b.entries.items) };
+    ghost view = { λ b. stack_of (entries_of b.entries.items) };
 
     ghost invariant = { λ b.
-        IsBuilding (entries_of b.entries.items) (vec_capacity b.entries) b.at b.depth };
+        IsBuilder (entries_of b.entries.items) (vec_capacity b.entries) b.at b.depth };
 }
 
 impl<A: Allocator> TopSubtreeBuilder<A> {
-    ghost use Rattle.mbe_tt.specs.Buffers.Building.{Levels, kind_inside, put, closed};
-    ghost use Rattle.mbe_tt.specs.Buffers.Building.{flat_written, unwrap_last, IsEarlier};
+    ghost use Rattle.mbe_tt.specs.Buffers.GroupStack.{GroupStack, innermost_kind, put, closed};
+    ghost use Rattle.mbe_tt.specs.Buffers.GroupStack.{flat_written, unwrap_last, IsEarlier};
     ghost use Rattle.mbe_tt.specs.Views.View.{trees};
 
-    /// A builder with one open group, the whole. `AllocError` if out of memory.
+    /// Returns a builder with one open group, the outermost one. Returns `AllocError` if out of
+    /// memory.
     pub fn new(alloc: A, delimiter: Delimiter) -> Result<TopSubtreeBuilder<A>, AllocError>
         ensures { IfOk result (λ b. b ≡ (delimiter, none) ∷ []) }
     {
@@ -68,14 +76,15 @@ impl<A: Allocator> TopSubtreeBuilder<A> {
         })
     }
 
-    /// Takes room for so many flat tokens more. `AllocError` if out of memory.
+    /// Reserves room for so many more flat tokens. Returns `AllocError` if out of memory.
     pub fn reserve(&mut self, more: usize) -> Result<(), AllocError>
         ensures { self.new ≡ self.old }
     {
         self.entries.reserve(more.saturating_add(self.depth))
     }
 
-    /// Writes a leaf at the end of the innermost open group. `AllocError` if out of memory.
+    /// Writes a leaf at the end of the innermost open group. Returns `AllocError` if out of
+    /// memory.
     #[inline(always)]
     pub fn push(&mut self, leaf: Leaf<A>) -> Result<(), AllocError>
         ensures ok { OnOk result (self.new ≡ put (one_leaf (leaf_of leaf)) self.old) }
@@ -86,8 +95,9 @@ impl<A: Allocator> TopSubtreeBuilder<A> {
         Ok(())
     }
 
-    /// Opens a group at the end of the innermost one, and takes the room for its closing. Until it is closed, its closing span
-    /// is the opening one. `AllocError` if out of memory.
+    /// Opens a group at the end of the innermost open one, and reserves room for its closing.
+    /// Until the group is closed, its closing span equals its opening span. Returns `AllocError`
+    /// if out of memory.
     #[inline(always)]
     pub fn open(&mut self, kind: DelimiterKind, span: Span) -> Result<(), AllocError>
         ensures ok { OnOk result
@@ -108,11 +118,12 @@ impl<A: Allocator> TopSubtreeBuilder<A> {
         Ok(())
     }
 
-    /// The kind of the innermost open group; `None` if only the whole is open. So a caller knows by it whether `close` may be
-    /// called, and whether a closing fits. The call is the project's own.
+    /// Returns the kind of the innermost open group, or `None` if only the outermost group is
+    /// open. A caller learns from it whether it may call `close`, and whether a closing matches.
+    /// The call is the project's own.
     #[inline(always)]
     pub fn open_kind(&self) -> Option<DelimiterKind>
-        ensures kind { result ≡ kind_inside self.now }
+        ensures kind { result ≡ innermost_kind self.now }
         ensures inside { IfSome result (λ _. 1 < length self.now) }
         ensures whole { IfNone result (length self.now ≡ 1) }
     {
@@ -123,7 +134,8 @@ impl<A: Allocator> TopSubtreeBuilder<A> {
         Some(subtree.delimiter.kind)
     }
 
-    /// Closes the innermost open group with that span. A group other than the whole must be open. It takes no memory.
+    /// Closes the innermost open group with that span. A group other than the outermost must be
+    /// open. Allocates nothing.
     #[inline(always)]
     pub fn close(&mut self, span: Span)
         requires { 1 < length self.old }
@@ -131,12 +143,13 @@ impl<A: Allocator> TopSubtreeBuilder<A> {
     {
         let (mut subtree, around) = opening_at(&self.entries, self.at);
         subtree.delimiter.close = span;
-        finish(&mut self.entries, self.at, subtree);
+        close_at(&mut self.entries, self.at, subtree);
         self.at = around;
         self.depth -= 1;
     }
 
-    /// Writes copies of the view's trees at the end of the innermost open group. `AllocError` if out of memory.
+    /// Writes copies of the view's trees at the end of the innermost open group. Returns
+    /// `AllocError` if out of memory.
     pub fn extend_with_tt(&mut self, view: TokenTreesView<'_, A>) -> Result<(), AllocError>
         ensures ok { OnOk result (self.new ≡ put (trees view.entry) self.old) }
         ensures err { OnErr result (self.new ≡ self.old) }
@@ -147,7 +160,8 @@ impl<A: Allocator> TopSubtreeBuilder<A> {
         Ok(())
     }
 
-    /// The same, with the last of these trees `Alone` where it is a punct. Puncts inside groups keep their spacing.
+    /// Does the same, but writes the last of these trees as `Alone` if it is a punct. Puncts
+    /// inside groups keep their spacing.
     pub fn extend_with_tt_alone(&mut self, view: TokenTreesView<'_, A>) -> Result<(), AllocError>
         ensures ok { OnOk result (self.new ≡ put (alone (trees view.entry)) self.old) }
         ensures err { OnErr result (self.new ≡ self.old) }
@@ -172,19 +186,19 @@ impl<A: Allocator> TopSubtreeBuilder<A> {
         Ok(())
     }
 
-    /// Replaces the innermost open group's last tree by its content if it is an invisible group; else it does nothing. It
-    /// takes no memory.
+    /// Replaces the last tree of the innermost open group by its content, if that tree is an
+    /// invisible group. Otherwise it does nothing. Allocates nothing.
     pub fn remove_last_subtree_if_invisible(&mut self)
         ensures { self.new ≡ unwrap_last self.old }
     {
         let (_before, trees) = self.entries.split_at(self.at + 1);
-        if let Some(place) = last_invisible(trees) {
-            unwrap_at(&mut self.entries, self.at + 1 + place);
+        if let Some(offset) = last_invisible(trees) {
+            unwrap_at(&mut self.entries, self.at + 1 + offset);
         }
     }
 
-    /// Writes the leaves one after another at the end of the innermost open group. The iterator of leaves must end.
-    /// `AllocError` if out of memory: then none of them is written.
+    /// Writes the leaves one after another at the end of the innermost open group. The iterator of
+    /// leaves must end. On `AllocError` none of them is written.
     pub fn extend<I: IntoIterator<Item = Leaf<A>>>(&mut self, leaves: I) -> Result<(), AllocError>
         requires { (s : I.IntoIter) → I.into_iter_gives leaves s → I.IntoIter.can_next s
             × IsFinite (I.IntoIter.remaining s) }
@@ -203,36 +217,40 @@ impl<A: Allocator> TopSubtreeBuilder<A> {
         Ok(())
     }
 
-    /// The number of flat tokens written so far, without the opening of the whole.
+    /// Returns the number of flat tokens written so far, without the opening of the outermost
+    /// group.
     pub fn restore_point(&self) -> usize
         ensures { result ≡ flat_written self.now }
     {
         self.entries.len() - 1
     }
 
-    /// Keeps the first flat tokens, as many as `point` says. There must be so many, and the groups open after the last of
-    /// them must be those that are open now. It takes no memory.
+    /// Keeps the first `point` flat tokens and removes the rest. There must be so many, and the
+    /// groups that are open after the last of them must be those that are open now. Allocates
+    /// nothing.
     pub fn restore(&mut self, point: usize)
-        requires { (kept : Levels) × IsEarlier self.old point kept }
-        ensures { (kept : Levels) (since : Forest) → self.old ≡ put since kept
+        requires { (kept : GroupStack) × IsEarlier self.old point kept }
+        ensures { (kept : GroupStack) (since : Forest) → self.old ≡ put since kept
             → flat_written kept ≡ point → self.new ≡ kept }
     {
         self.entries.truncate(point + 1);
     }
 
-    /// The buffer, with the whole closed. No other group may be open. It takes no memory.
+    /// Closes the outermost group and returns the buffer. No other group may be open. Allocates
+    /// nothing.
     pub fn build(self) -> TopSubtree<A>
         requires { length self ≡ 1 }
         ensures { self ≡ result ∷ [] }
     {
         let TopSubtreeBuilder { mut entries, .. } = self;
         let (subtree, _around) = opening_at(&entries, 0);
-        finish(&mut entries, 0, subtree);
+        close_at(&mut entries, 0, subtree);
         TopSubtree { entries }
     }
 }
 
-// Room for so many entries more. What asks for memory is a call of its own, so that a push is short where there is room.
+// Reserves room for so many more entries. The allocation is a call of its own, so that a push is
+// short if there is room.
 #[inline(always)]
 fn reserve<A: Allocator>(entries: &mut Vec<Entry<A>, A>, more: usize) -> Result<(), AllocError>
     ensures items { entries.new.items ≡ entries.old.items }
@@ -265,8 +283,8 @@ fn entry_punct<A: Allocator>(entry: &Entry<A>) -> Option<Punct>
     }
 }
 
-// The index of the last tree, where it is an invisible group. Its closing says where it begins, so the number of trees
-// before it doesn't matter.
+// Returns the index of the last tree, if that is an invisible group. The closing says where the
+// group begins, so the time doesn't depend on the number of trees before it.
 fn last_invisible<A: Allocator>(entries: &[Entry<A>]) -> Option<usize>
     requires { Spelled (entries_of entries.now) }
     ensures { result ≡ spec.last_invisible (forest_of (entries_of entries.now)) }
@@ -275,36 +293,36 @@ fn last_invisible<A: Allocator>(entries: &[Entry<A>]) -> Option<usize>
     let Entry::Close(len) = last else {
         return None;
     };
-    if let Some(place) = front.len().checked_sub(len.saturating_add(1)) {
-        let (_before, group) = entries.split_at(place);
+    if let Some(offset) = front.len().checked_sub(len.saturating_add(1)) {
+        let (_before, group) = entries.split_at(offset);
         if let Some((Entry::Open(subtree, inside), _content)) = group.split_first()
             && inside == len
         {
             return match subtree.delimiter.kind {
-                DelimiterKind::Invisible => Some(place),
+                DelimiterKind::Invisible => Some(offset),
                 _ => None,
             };
         }
     }
-    last_by_trees(entries)
+    find_last_invisible(entries)
 }
 
-// The same, found tree by tree: for a closing with which its opening doesn't agree.
-fn last_by_trees<A: Allocator>(entries: &[Entry<A>]) -> Option<usize>
+// Does the same tree by tree, for a closing that its opening doesn't agree with.
+fn find_last_invisible<A: Allocator>(entries: &[Entry<A>]) -> Option<usize>
     requires { Spelled (entries_of entries.now) }
     ensures { result ≡ spec.last_invisible (forest_of (entries_of entries.now)) }
 {
     let mut iter = TtIter { entries };
-    let mut place = 0;
+    let mut offset = 0;
     while let Some(tree) = iter.next() {
         if iter.is_empty() {
             return if is_invisible(&tree) {
-                Some(place)
+                Some(offset)
             } else {
                 None
             };
         }
-        place = entries.len() - iter.remaining().flat_len();
+        offset = entries.len() - iter.remaining().flat_len();
     }
     None
 }
@@ -319,19 +337,19 @@ fn is_invisible<A: Allocator>(tree: &TtElement<'_, A>) -> bool
     }
 }
 
-// Takes out the opening at that index, and the closing at the end.
-fn unwrap_at<A: Allocator>(entries: &mut Vec<Entry<A>, A>, place: usize)
-    requires { place + 1 < length entries.old.items }
+// Removes the opening at that index, and the closing at the end.
+fn unwrap_at<A: Allocator>(entries: &mut Vec<Entry<A>, A>, offset: usize)
+    requires { offset + 1 < length entries.old.items }
     ensures items { entries_of entries.new.items
-        ≡ take place (take (length entries.old.items - 1) (entries_of entries.old.items))
-        ++ drop (place + 1) (take (length entries.old.items - 1) (entries_of entries.old.items)) }
+        ≡ take offset (take (length entries.old.items - 1) (entries_of entries.old.items))
+        ++ drop (offset + 1) (take (length entries.old.items - 1) (entries_of entries.old.items)) }
     ensures capacity { vec_capacity entries.new ≡ vec_capacity entries.old }
 {
     let _closing = entries.pop();
-    let _opening = entries.remove(place);
+    let _opening = entries.remove(offset);
 }
 
-// What is written in the opening at that index.
+// Returns the group and the number that the opening at that index holds.
 #[inline(always)]
 fn opening_at<A: Allocator>(entries: &Vec<Entry<A>, A>, at: usize) -> (Subtree, usize)
     requires { (s : Subtree) × (n : ℕ) × OpensAt (entries_of entries.now.items) at s n }
@@ -344,9 +362,10 @@ fn opening_at<A: Allocator>(entries: &Vec<Entry<A>, A>, at: usize) -> (Subtree, 
     }
 }
 
-// Closes the group whose opening is at that index, at the end, where there is room.
+// Closes the group whose opening is at that index. The closing goes to the end, where there must
+// be room.
 #[inline(always)]
-fn finish<A: Allocator>(entries: &mut Vec<Entry<A>, A>, at: usize, subtree: Subtree)
+fn close_at<A: Allocator>(entries: &mut Vec<Entry<A>, A>, at: usize, subtree: Subtree)
     requires opens { (s : Subtree) × (n : ℕ) × OpensAt (entries_of entries.old.items) at s n }
     requires room { length entries.old.items < vec_capacity entries.old }
     ensures items { (before after : List FlatEntry) (s : Subtree) (n : ℕ)

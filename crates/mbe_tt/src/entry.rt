@@ -1,14 +1,15 @@
-// An entry of a flat buffer, which spells one flat token.
+// The entries of a flat buffer. Each entry is one flat token: a leaf, an opening or a closing.
 ghost use Rattle.std.specs.Prelude.{◌≡◌, ◌↔◌, IsTrue};
-ghost use Rattle.mbe_tt.specs.Views.Shown.{entry_of, entries_of};
+ghost use Rattle.mbe_tt.specs.Views.LeafViews.{entry_of, entries_of};
 ghost use Rattle.std.specs.Cmp.{partial_equiv_from_equiv};
 
 use crate::tt::{Leaf, Subtree, same_leaf};
 use std::alloc::{AllocError, Allocator, Global};
 
-// A group is its opening, its content and its closing. Both know how many entries its content has, so that a group is
-// passed from either end in one step. Clauses see the opening's number alone, and whoever goes by the closing's looks
-// whether the opening agrees.
+// A group is its opening, its content and its closing. The opening and the closing both hold the
+// number of entries of the content, so that a reader skips the group from either end in one step.
+// Clauses see the opening's number alone. A reader that uses the closing's number checks that the
+// opening agrees.
 #[derive(Drop)]
 #[derive_where(Debug)]
 pub(crate) enum Entry<A: Allocator = Global> {
@@ -30,7 +31,7 @@ impl<A: Allocator> Clone for Entry<A> {
 }
 
 impl<A: Allocator> PartialEq for Entry<A> {
-    ghost use Rattle.mbe_tt.specs.Views.Shown.{entry_eq, entry_eq_laws};
+    ghost use Rattle.mbe_tt.specs.Views.LeafViews.{entry_eq, entry_eq_laws};
 
     ghost eq = { entry_eq };
 
@@ -42,7 +43,7 @@ impl<A: Allocator> PartialEq for Entry<A> {
 }
 
 impl<A: Allocator> Eq for Entry<A> {
-    ghost use Rattle.mbe_tt.specs.Views.Shown.{entry_eq_laws};
+    ghost use Rattle.mbe_tt.specs.Views.LeafViews.{entry_eq_laws};
 
     ghost laws = { entry_eq_laws };
 }
@@ -58,6 +59,7 @@ fn same_entry<A: Allocator>(one: &Entry<A>, two: &Entry<A>) -> bool
     }
 }
 
+// Returns whether the entries are equal, in clauses' view of them.
 pub(crate) fn same_entries<A: Allocator>(one: &[Entry<A>], two: &[Entry<A>]) -> bool
     ensures { IsTrue result ↔ (entries_of one.now ≡ entries_of two.now) }
 {

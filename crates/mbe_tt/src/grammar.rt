@@ -1,11 +1,13 @@
-// What a grammar of fragments is asked for, and what it promises. rust-analyzer calls its own parser; that any grammar may
-// be handed in, and its laws, are the project's own.
+// Grammars of fragments: what the expander asks of a grammar, and what the grammar promises.
+//
+// A caller may hand in any grammar that keeps the laws of `FragmentGrammar`. (rust-analyzer calls
+// its own parser instead.) The trait and its laws are the project's own.
 ghost use Rattle.std.specs.Prelude.{◌≡◌, IfOk};
 
 use crate::view::TokenTreesView;
 use std::alloc::{AllocError, Allocator};
 
-/// The kind of fragment that a grammar is asked for.
+/// The kind of fragment that the expander asks a grammar for.
 #[derive(Clone, Copy, Debug, Drop, PartialEq, Eq)]
 pub enum PrefixEntryPoint {
     Path,
@@ -20,7 +22,8 @@ pub enum PrefixEntryPoint {
     Vis,
 }
 
-/// How many flat tokens at the front are the fragment, and whether the grammar faults.
+/// What a grammar returns: how many flat tokens at the front are the fragment, and whether the
+/// grammar reports a fault.
 #[derive(Clone, Copy, Debug, Drop, PartialEq, Eq)]
 pub struct Front {
     pub count: usize,
@@ -29,17 +32,20 @@ pub struct Front {
 
 /// A grammar of fragments, which a caller of the expander hands in.
 ///
-/// An implementation says by its ghost member `grammar` what it returns, and proves that this is lawful: it counts no
-/// more flat tokens than there are, and takes nothing without a fault for `Vis` alone.
+/// An implementation states in its ghost member `grammar` what it returns, and proves two laws:
+///
+/// - It counts at most as many flat tokens as there are.
+/// - It counts none without a fault only for `Vis`.
 pub trait FragmentGrammar {
     ghost use Rattle.mbe_tt.specs.Trees.Tree.{flat};
     ghost use Rattle.mbe_tt.specs.Views.View.{trees};
-    ghost use Rattle.mbe_tt.specs.Fragments.Grammar.{Grammar, IsLawful};
+    ghost use Rattle.mbe_tt.specs.Grammars.Grammar.{Grammar, IsLawful};
 
     ghost grammar: { Self → Grammar };
 
-    /// The fragment of that kind at the front of the trees: how many flat tokens it has, and whether there is none.
-    /// `AllocError` if out of memory; a grammar that needs memory keeps its own allocator.
+    /// Parses a fragment of that kind at the front of the trees. Returns how many flat tokens it
+    /// has, and whether there is no such fragment. Returns `AllocError` if out of memory. A
+    /// grammar that needs memory keeps its own allocator.
     fn parse<A: Allocator>(
         &self,
         entry: PrefixEntryPoint,
@@ -48,7 +54,7 @@ pub trait FragmentGrammar {
         ensures { IfOk result (λ front.
             front ≡ (grammar self.now).parse entry (flat (trees tokens.entry))) };
 
-    /// Whether the text is a keyword, so that an identifier of this text has to be raw.
+    /// Returns whether the text is a keyword. An identifier with this text must be raw.
     fn is_keyword(&self, text: &str) -> bool
         ensures { result ≡ (grammar self.now).is_keyword text.now };
 

@@ -1,5 +1,7 @@
-// An iterator over trees side by side. The names follow rust-analyzer's `tt`; what the calls return is the
-// project's own.
+// An iterator over trees that stand side by side.
+//
+// It consumes one tree at a time. The `expect_` calls consume a tree only if it is of the kind
+// that they ask for. The names follow rust-analyzer's `tt`; the contracts are the project's own.
 ghost use Rattle.std.specs.Prelude.{◌≡◌, ◌↔◌, IsTrue, option_map, length, [], ◌∷◌, IsOk, is_ok};
 ghost use Rattle.std.specs.Prelude.{is_some, OnSome, if◌then◌else◌, Some, None, ⊤};
 ghost use Rattle.std.specs.Result.{result_ok};
@@ -8,10 +10,10 @@ ghost use Rattle.mbe_tt.specs.Trees.Tree.{front_char, front_punct, front_ident, 
 ghost use Rattle.mbe_tt.specs.Trees.Tree.{front_leaf, front_literal, literal_leaf, any_ident};
 ghost use Rattle.mbe_tt.specs.Trees.Tree.{first_span, skip};
 ghost use Rattle.mbe_tt.specs.Trees.Leaf.{is_underscore};
-ghost use Rattle.mbe_tt.specs.Views.Entries.{forest_of, Spelled};
+ghost use Rattle.mbe_tt.specs.Views.BufferEntries.{forest_of, Spelled};
 ghost use Rattle.mbe_tt.specs.Trees.Glue.{glue, glued, is_operator, joined_punct, third_punct};
-ghost use Rattle.mbe_tt.specs.Views.Entry.{Open};
-ghost use Rattle.mbe_tt.specs.Views.Shown.{entries_of, ident_of, leaf_of};
+ghost use Rattle.mbe_tt.specs.Views.BufferEntry.{Open};
+ghost use Rattle.mbe_tt.specs.Views.LeafViews.{entries_of, ident_of, leaf_of};
 ghost use Rattle.std.specs.List.{Contains};
 ghost use Rattle.std.specs.Iterator.{YieldsFirstBy, item_count};
 ghost use Rattle.mbe_tt.specs.declared.tt.Punct.{Punct as SpecPunct};
@@ -24,10 +26,12 @@ use arrayvec::ArrayVec;
 use std::alloc::{AllocError, Allocator, Global};
 use std::marker::Model;
 
-/// An iterator over the trees of one group's content, borrowed from its buffer. Clauses see the trees that are left.
+/// An iterator over the trees of one group's content, borrowed from its buffer. Clauses see the
+/// trees that are left.
 ///
-/// Each `expect_` call looks at the next tree, consumes it if it is of the sort that is asked for, and else returns
-/// `Err(())` and leaves the iterator where it was. A clone has the same trees left and takes no memory.
+/// Each `expect_` call looks at the next tree and consumes it if it is of the kind that the call
+/// asks for. Otherwise the call returns `Err(())` and leaves the iterator unchanged. A clone has
+/// the same trees left and allocates nothing.
 #[derive(Drop)]
 #[derive_where(Debug)]
 pub struct TtIter<'a, A: Allocator = Global> {
@@ -37,8 +41,8 @@ pub struct TtIter<'a, A: Allocator = Global> {
 impl<'a, A: Allocator> Model for TtIter<'a, A> {
     ghost use Rattle.std.specs.Prelude.{◌≡◌};
     ghost use Rattle.mbe_tt.specs.Trees.Tree.{Forest};
-    ghost use Rattle.mbe_tt.specs.Views.Entries.{forest_of, spell, forest_code};
-    ghost use Rattle.mbe_tt.specs.Views.Shown.{entries_of};
+    ghost use Rattle.mbe_tt.specs.Views.BufferEntries.{forest_of, spell, forest_code};
+    ghost use Rattle.mbe_tt.specs.Views.LeafViews.{entries_of};
 
     ghost Value = { Forest };
 
@@ -50,13 +54,14 @@ impl<'a, A: Allocator> Model for TtIter<'a, A> {
         ≡ spell (forest_of (entries_of a.entries.now)) };
 }
 
-/// A mark of an iterator's position. Clauses see the trees that were left there, by `saved`.
+/// A mark of where an iterator is. Clauses see the trees that were left there, by `saved`.
 #[derive_where(Clone, Copy, Debug)]
 pub struct TtIterSavepoint<'a, A: Allocator = Global> {
     left: TokenTreesView<'a, A>,
 }
 
-/// One tree: a leaf, or a group and an iterator over its content. Clauses see the tree by `element_tree`.
+/// One tree: a leaf, or a group and an iterator over its content. Clauses see the tree by
+/// `element_tree`.
 #[derive(Drop)]
 #[derive_where(Clone, Debug)]
 pub enum TtElement<'a, A: Allocator = Global> {
@@ -64,7 +69,8 @@ pub enum TtElement<'a, A: Allocator = Global> {
     Subtree(&'a Subtree, TtIter<'a, A>),
 }
 
-// The trees inside a group, and those after it. `rest` is what follows the group's opening.
+// Returns the trees inside a group, and those after it. `rest` is what follows the group's
+// opening.
 pub(crate) fn content_and_rest<'a, A: Allocator>(
     subtree: &Subtree,
     len: usize,
@@ -84,7 +90,7 @@ impl<'a, A: Allocator> TtIter<'a, A> {
     ghost use Rattle.mbe_tt.specs.Views.Element.{element_tree};
     ghost use Rattle.mbe_tt.specs.Views.Savepoint.{saved};
 
-    /// Whether no tree is left.
+    /// Returns whether no tree is left.
     pub fn is_empty(&self) -> bool
         ensures { IsTrue result ↔ (self.now ≡ none) }
     {
@@ -100,7 +106,8 @@ impl<'a, A: Allocator> TtIter<'a, A> {
         }
     }
 
-    /// An iterator at the same place, to look ahead with. It takes no memory, and can't fail, as `clone` could.
+    /// Returns an iterator over the same trees, to look ahead with. Unlike `clone`, it never
+    /// returns `AllocError`.
     #[inline(always)]
     pub fn fork(&self) -> TtIter<'a, A>
         ensures { result ≡ self.now }
@@ -110,7 +117,7 @@ impl<'a, A: Allocator> TtIter<'a, A> {
         }
     }
 
-    /// The next tree, which is consumed; `None` at the end.
+    /// Consumes the next tree and returns it. Returns `None` at the end.
     pub fn next(&mut self) -> Option<TtElement<'a, A>>
         ensures value { option_map element_tree result ≡ first self.old }
         ensures rest { self.new ≡ rest_of self.old }
@@ -130,7 +137,7 @@ impl<'a, A: Allocator> TtIter<'a, A> {
         }
     }
 
-    /// The next tree, which isn't consumed; `None` at the end.
+    /// Returns the next tree without consuming it. Returns `None` at the end.
     pub fn peek(&self) -> Option<TtElement<'a, A>>
         ensures { option_map element_tree result ≡ first self.now }
     {
@@ -138,7 +145,7 @@ impl<'a, A: Allocator> TtIter<'a, A> {
         ahead.next()
     }
 
-    /// A mark of this position, for `from_savepoint`.
+    /// Marks where the iterator is, for `from_savepoint`.
     pub fn savepoint(&self) -> TtIterSavepoint<'a, A>
         ensures { saved result ≡ self.now }
     {
@@ -147,7 +154,8 @@ impl<'a, A: Allocator> TtIter<'a, A> {
         }
     }
 
-    /// The trees consumed since the savepoint. The trees left at the savepoint must end with those that are left now.
+    /// Returns the trees consumed since the savepoint. The trees left at the savepoint must end
+    /// with those that are left now.
     pub fn from_savepoint(&self, savepoint: TtIterSavepoint<'a, A>) -> TokenTreesView<'a, A>
         requires { (passed : Forest) × (saved savepoint ≡ append passed self.now) }
         ensures { (passed : Forest) → saved savepoint.entry ≡ append passed self.now
@@ -158,7 +166,7 @@ impl<'a, A: Allocator> TtIter<'a, A> {
         TokenTreesView { entries: passed }
     }
 
-    /// The next tree as a view of one tree, consumed; `None` at the end.
+    /// Consumes the next tree and returns it as a view of one tree. Returns `None` at the end.
     pub fn next_as_view(&mut self) -> Option<TokenTreesView<'a, A>>
         ensures value { option_map trees result ≡ option_map (λ t. tree t none) (first self.old) }
         ensures rest { self.new ≡ rest_of self.old }
@@ -264,7 +272,7 @@ impl<'a, A: Allocator> TtIter<'a, A> {
         Err(())
     }
 
-    /// Consumes an identifier, also `_`, raw or not.
+    /// Consumes an identifier, raw or not. `_` is one too.
     pub fn expect_ident_or_underscore(&mut self) -> Result<&'a Ident<A>, ()>
         ensures value { option_map (λ i. ident_of i.now) (result_ok result) ≡ any_ident self.old }
         ensures rest { self.new ≡ (if is_ok result then rest_of self.old else self.old) }
@@ -291,16 +299,19 @@ impl<'a, A: Allocator> TtIter<'a, A> {
         Err(())
     }
 
-    /// Where the next tree begins: a leaf's span, or where a group opens. `None` at the end.
+    /// Returns where the next tree begins: a leaf's span, or the span of a group's opening.
+    /// Returns `None` at the end.
     pub fn next_span(&self) -> Option<Span>
         ensures { result ≡ option_map first_span (first self.now) }
     {
         Some(self.peek()?.first_span())
     }
 
-    /// Consumes the next one to three puncts, those that make the longest operator, or one punct if none is made. All but
-    /// the last have to be joint, and a third is looked at only after two that are. The operators, such as `..=` and
-    /// `->`, are those that `specs/Trees/Glue` lists.
+    /// Consumes one to three puncts: those that make the longest operator, or the first punct if
+    /// they make none.
+    ///
+    /// All but the last must be joint. The call looks at a third punct only if the first two are
+    /// joint. The operators, such as `..=` and `->`, are those that `specs/Trees/Glue` lists.
     pub fn expect_glued_punct(&mut self) -> Result<ArrayVec<Punct, 3>, ()>
         ensures value { option_map (λ ps. ps.items) (result_ok result) ≡ glued self.old }
         ensures rest { self.new ≡ skip (length (glue self.old)) self.old }
@@ -319,14 +330,14 @@ impl<'a, A: Allocator> TtIter<'a, A> {
             *self = beyond;
             return Ok(glued);
         }
-        if is_two(first.char, second.char) {
+        if is_double_operator(first.char, second.char) {
             glued.push(second);
             *self = ahead;
         }
         Ok(glued)
     }
 
-    // The punct that is joined to the one before it, consumed.
+    // Consumes the next punct if the one before it is joined to it, and returns it.
     fn next_joined(&mut self, before: Punct) -> Option<Punct>
         ensures value { result ≡ joined_punct before.spacing self.old }
         ensures rest { self.new ≡ (if is_some result then rest_of self.old else self.old) }
@@ -337,13 +348,14 @@ impl<'a, A: Allocator> TtIter<'a, A> {
         self.expect_single_punct().ok().copied()
     }
 
-    // The punct that makes an operator of three with the two before it, consumed.
+    // Consumes the punct that makes an operator of three chars with the two before it, and returns
+    // it.
     fn next_third(&mut self, first: Punct, second: Punct) -> Option<Punct>
         ensures value { result ≡ third_punct first second self.old }
         ensures rest { OnSome result (self.new ≡ rest_of self.old) }
     {
         let third = self.next_joined(second)?;
-        if is_three(first.char, second.char, third.char) {
+        if is_triple_operator(first.char, second.char, third.char) {
             Some(third)
         } else {
             None
@@ -351,7 +363,7 @@ impl<'a, A: Allocator> TtIter<'a, A> {
     }
 }
 
-/// Each tree comes once, in order, and the iterator ends.
+/// The iterator yields each tree once, in order, and then ends.
 impl<'a, A: Allocator> Iterator for TtIter<'a, A> {
     ghost use Rattle.mbe_tt.specs.Trees.Tree.{each_tree};
     ghost use Rattle.mbe_tt.specs.Views.Element.{element_tree};
@@ -370,7 +382,7 @@ impl<'a, A: Allocator> Iterator for TtIter<'a, A> {
 impl<'a, A: Allocator> TtElement<'a, A> {
     ghost use Rattle.mbe_tt.specs.Views.Element.{element_tree};
 
-    /// Where the tree begins: a leaf's span, or where a group opens.
+    /// Returns where the tree begins: a leaf's span, or the span of a group's opening.
     pub fn first_span(&self) -> Span
         ensures { result ≡ first_span (element_tree self.now) }
     {
@@ -381,7 +393,7 @@ impl<'a, A: Allocator> TtElement<'a, A> {
     }
 }
 
-// By its bytes, which takes less than to compare texts.
+// Compares bytes, which is faster than to compare texts.
 #[inline(always)]
 fn is_underscore(text: &str) -> bool
     ensures { result ≡ is_underscore text.now }
@@ -399,7 +411,7 @@ fn is_literal<A: Allocator>(leaf: &Leaf<A>) -> bool
     }
 }
 
-fn is_three(a: char, b: char, c: char) -> bool
+fn is_triple_operator(a: char, b: char, c: char) -> bool
     ensures { result ≡ is_operator (a ∷ b ∷ c ∷ []) }
 {
     matches!(
@@ -408,7 +420,7 @@ fn is_three(a: char, b: char, c: char) -> bool
     )
 }
 
-fn is_two(a: char, b: char) -> bool
+fn is_double_operator(a: char, b: char) -> bool
     ensures { result ≡ is_operator (a ∷ b ∷ []) }
 {
     match b {

@@ -1,16 +1,21 @@
-// Token trees: spans, symbols, a flat buffer with its iterator, views and builder, and the trait of fragment grammars.
+// The token trees that `mbe` reads and writes.
+//
+// A `TopSubtree` is a flat buffer that holds one group of trees. A `TopSubtreeBuilder` writes it.
+// `TokenTreesView`, `TtIter` and `Cursor` borrow from it and read it. A leaf has a `Span`, and
+// keeps its text as a `Symbol`. A `FragmentGrammar` tells the expander where a fragment, such as
+// an expression, ends.
 #![tactic(auto)]
 
 mod buffer;
 mod builder;
 mod cursor;
+mod display;
 mod entry;
 pub mod grammar;
+mod inline_str;
 mod iter;
 pub mod laws;
 pub mod span;
 pub mod symbol;
-mod text;
 pub mod tt;
 mod view;
-mod word;

@@ -1,12 +1,17 @@
-// Positions in a source text, and editions of the language. All of this is the project's own; the names follow rust-analyzer.
+// Spans in a source text, syntax contexts, and editions of Rust.
+//
+// The definitions are the project's own. The names follow rust-analyzer.
 ghost use Rattle.std.specs.Prelude.{◌≡◌};
 
-/// The number of a hygiene context. What it means is the caller's.
+/// The number of a syntax context. The caller decides what it means.
 #[derive(Clone, Copy, Debug, Default, Drop, PartialEq, Eq, Hash)]
 pub struct SyntaxContext(pub u32);
 
-/// Where a token is in a source text. `file` and `ast` name a text and an item in it, and are the caller's; `start` and `end` are
-/// byte offsets in that text, where this crate asks for no order; `ctx` is the hygiene context.
+/// Where a token is in a source text.
+///
+/// `file` and `ast` name a text and an item in it; the caller decides how. `start` and `end` are
+/// byte offsets in that text. This crate doesn't require that `start` is at most `end`. `ctx` is
+/// the syntax context.
 #[derive(Clone, Copy, Debug, Default, Drop, PartialEq, Eq, Hash)]
 pub struct Span {
     pub file: u32,
@@ -24,7 +29,7 @@ pub struct DelimSpan {
 }
 
 impl DelimSpan {
-    /// That span for both sides.
+    /// Returns that span for both sides.
     pub fn from_single(span: Span) -> DelimSpan
         ensures { result ≡ record { opening = span; close = span } }
     {
@@ -47,7 +52,7 @@ pub enum Edition {
 impl Edition {
     ghost use Rattle.mbe_tt.specs.Trees.Editions as spec;
 
-    /// Whether it is the edition of 2021 or a later one.
+    /// Returns whether the edition is 2021 or later.
     pub fn at_least_2021(self) -> bool
         ensures { result ≡ spec.at_least_2021 self }
     {
@@ -57,7 +62,7 @@ impl Edition {
         }
     }
 
-    /// Whether it is the edition of 2024 or a later one.
+    /// Returns whether the edition is 2024 or later.
     pub fn at_least_2024(self) -> bool
         ensures { result ≡ spec.at_least_2024 self }
     {

@@ -1,7 +1,9 @@
-// Token trees: leaves, and the delimiters of groups. The types of trees, iterators, views and builders are re-exported
-// here. The names follow rust-analyzer's `tt`; what the calls return is the project's own.
+// Token trees: leaves, and the delimiters of groups.
+//
+// The module re-exports the types of buffers, iterators, views, cursors and builders. The names
+// follow rust-analyzer's `tt`; the contracts are the project's own.
 ghost use Rattle.std.specs.Prelude.{◌≡◌, ◌↔◌, IsTrue};
-ghost use Rattle.mbe_tt.specs.Views.Shown.{ident_of, literal_of, leaf_of};
+ghost use Rattle.mbe_tt.specs.Views.LeafViews.{ident_of, literal_of, leaf_of};
 ghost use Rattle.std.specs.Cmp.{partial_equiv_from_equiv};
 
 pub use crate::buffer::TopSubtree;
@@ -13,7 +15,7 @@ use crate::symbol::Symbol;
 pub use crate::view::{SubtreeView, TokenTreesView};
 use std::alloc::{AllocError, Allocator, Global};
 
-/// Whether a punct is alone, or is joined to the next tree if that is a punct.
+/// Whether a punct is joined to the next tree, if that is a punct too, or stands alone.
 #[derive(Clone, Copy, Debug, Default, Drop, PartialEq, Eq)]
 pub enum Spacing {
     #[default]
@@ -21,7 +23,9 @@ pub enum Spacing {
     Joint,
 }
 
-/// One punctuation char. Its default is the char of number 0, alone, with a span of zeros, which `ArrayVec::new` asks for.
+/// One punctuation char.
+///
+/// `ArrayVec::new` asks for a default. It is the char of number 0, alone, with a span of zeros.
 #[derive(Clone, Copy, Debug, Default, Drop, PartialEq, Eq)]
 pub struct Punct {
     pub char: char,
@@ -36,7 +40,7 @@ pub enum IdentIsRaw {
     Yes,
 }
 
-/// An identifier, also `_` or a keyword. `sym` is its text without `r#`.
+/// An identifier. `_` and keywords are identifiers too. `sym` is the text without `r#`.
 #[derive(Drop)]
 #[derive_where(Debug)]
 pub struct Ident<A: Allocator = Global> {
@@ -45,7 +49,7 @@ pub struct Ident<A: Allocator = Global> {
     pub is_raw: IdentIsRaw,
 }
 
-/// What sort of literal it is. The numbers are those of the `#` of a raw string.
+/// The kind of a literal. The number of a raw kind says how many `#`s are on each side.
 #[derive(Clone, Copy, Debug, Drop, PartialEq, Eq)]
 pub enum LitKind {
     Byte,
@@ -61,7 +65,8 @@ pub enum LitKind {
     Err,
 }
 
-/// A literal. `text_and_suffix` is the text between its quotes, and its suffix; `suffix_len` is the suffix's length in bytes.
+/// A literal. `text_and_suffix` is the text between the quotes, then the suffix. `suffix_len` is
+/// the length of the suffix in bytes.
 #[derive(Drop)]
 #[derive_where(Debug)]
 pub struct Literal<A: Allocator = Global> {
@@ -71,7 +76,7 @@ pub struct Literal<A: Allocator = Global> {
     pub span: Span,
 }
 
-/// A tree that is no group.
+/// A tree that isn't a group.
 #[derive(Drop)]
 #[derive_where(Debug)]
 pub enum Leaf<A: Allocator = Global> {
@@ -89,7 +94,7 @@ pub enum DelimiterKind {
     Invisible,
 }
 
-/// The delimiter of a group, and where it opens and closes.
+/// The kind of a group's delimiters, and the spans of its opening and its closing.
 #[derive(Clone, Copy, Debug, Drop, PartialEq, Eq)]
 pub struct Delimiter {
     pub opening: Span,
@@ -106,7 +111,7 @@ pub struct Subtree {
 impl Delimiter {
     ghost use Rattle.mbe_tt.specs.declared.tt.DelimiterKind.TheVariants.{Invisible};
 
-    /// An invisible delimiter with that span on both sides.
+    /// Returns an invisible delimiter with that span on both sides.
     pub fn invisible_spanned(span: Span) -> Delimiter
         ensures { result ≡ record { opening = span; close = span; kind = Invisible } }
     {
@@ -117,7 +122,7 @@ impl Delimiter {
         }
     }
 
-    /// Where the group opens and closes.
+    /// Returns the spans of the opening and the closing.
     pub fn delim_span(&self) -> DelimSpan
         ensures { result ≡ record { opening = self.now.opening; close = self.now.close } }
     {
@@ -131,7 +136,7 @@ impl Delimiter {
 impl<A: Allocator> Leaf<A> {
     ghost use Rattle.mbe_tt.specs.Trees.Leaf.{span_of};
 
-    /// Where the leaf is in its source text.
+    /// Returns where the leaf is in its source text.
     pub fn span(&self) -> Span
         ensures { result ≡ span_of (leaf_of self.now) }
     {
@@ -143,7 +148,8 @@ impl<A: Allocator> Leaf<A> {
     }
 }
 
-/// The clone is equal. It shares the symbol's text and takes no memory; it is refused only where the symbol's is.
+/// The clone is equal. It shares the symbol's text and allocates nothing. It fails only if cloning
+/// the symbol fails.
 impl<A: Allocator> Clone for Ident<A> {
     ghost is_clone = { λ x y. y ≡ x };
 
@@ -156,7 +162,8 @@ impl<A: Allocator> Clone for Ident<A> {
     }
 }
 
-/// The clone is equal. It shares the symbol's text and takes no memory; it is refused only where the symbol's is.
+/// The clone is equal. It shares the symbol's text and allocates nothing. It fails only if cloning
+/// the symbol fails.
 impl<A: Allocator> Clone for Literal<A> {
     ghost is_clone = { λ x y. y ≡ x };
 
@@ -170,7 +177,8 @@ impl<A: Allocator> Clone for Literal<A> {
     }
 }
 
-/// The clone is equal. It shares the symbol's text and takes no memory; it is refused only where the symbol's is.
+/// The clone is equal. It shares the symbol's text and allocates nothing. It fails only if cloning
+/// the symbol fails.
 impl<A: Allocator> Clone for Leaf<A> {
     ghost is_clone = { λ x y. y ≡ x };
 
@@ -184,7 +192,7 @@ impl<A: Allocator> Clone for Leaf<A> {
 }
 
 impl<A: Allocator> PartialEq for Ident<A> {
-    ghost use Rattle.mbe_tt.specs.Views.Shown.{ident_eq, ident_eq_laws};
+    ghost use Rattle.mbe_tt.specs.Views.LeafViews.{ident_eq, ident_eq_laws};
 
     ghost eq = { ident_eq };
 
@@ -196,13 +204,13 @@ impl<A: Allocator> PartialEq for Ident<A> {
 }
 
 impl<A: Allocator> Eq for Ident<A> {
-    ghost use Rattle.mbe_tt.specs.Views.Shown.{ident_eq_laws};
+    ghost use Rattle.mbe_tt.specs.Views.LeafViews.{ident_eq_laws};
 
     ghost laws = { ident_eq_laws };
 }
 
 impl<A: Allocator> PartialEq for Literal<A> {
-    ghost use Rattle.mbe_tt.specs.Views.Shown.{literal_eq, literal_eq_laws};
+    ghost use Rattle.mbe_tt.specs.Views.LeafViews.{literal_eq, literal_eq_laws};
 
     ghost eq = { literal_eq };
 
@@ -214,13 +222,13 @@ impl<A: Allocator> PartialEq for Literal<A> {
 }
 
 impl<A: Allocator> Eq for Literal<A> {
-    ghost use Rattle.mbe_tt.specs.Views.Shown.{literal_eq_laws};
+    ghost use Rattle.mbe_tt.specs.Views.LeafViews.{literal_eq_laws};
 
     ghost laws = { literal_eq_laws };
 }
 
 impl<A: Allocator> PartialEq for Leaf<A> {
-    ghost use Rattle.mbe_tt.specs.Views.Shown.{leaf_eq, leaf_eq_laws};
+    ghost use Rattle.mbe_tt.specs.Views.LeafViews.{leaf_eq, leaf_eq_laws};
 
     ghost eq = { leaf_eq };
 
@@ -232,7 +240,7 @@ impl<A: Allocator> PartialEq for Leaf<A> {
 }
 
 impl<A: Allocator> Eq for Leaf<A> {
-    ghost use Rattle.mbe_tt.specs.Views.Shown.{leaf_eq_laws};
+    ghost use Rattle.mbe_tt.specs.Views.LeafViews.{leaf_eq_laws};
 
     ghost laws = { leaf_eq_laws };
 }
@@ -252,6 +260,7 @@ fn same_literal<A: Allocator>(one: &Literal<A>, two: &Literal<A>) -> bool
         && one.span == two.span
 }
 
+// Returns whether the leaves are equal, spans included.
 pub(crate) fn same_leaf<A: Allocator>(one: &Leaf<A>, two: &Leaf<A>) -> bool
     ensures { IsTrue result ↔ (leaf_of one.now ≡ leaf_of two.now) }
 {

@@ -1,9 +1,10 @@
-// Trees side by side in a buffer. The names follow rust-analyzer's `tt`; what the calls return is the
-// project's own.
+// Views: trees that stand side by side in a buffer, or one group of it.
+//
+// The names follow rust-analyzer's `tt`; the contracts are the project's own.
 ghost use Rattle.std.specs.Prelude.{◌≡◌, IfOk, option_map, ⊤};
-ghost use Rattle.mbe_tt.specs.Views.Entries.{Spelled, Spelled-prop};
+ghost use Rattle.mbe_tt.specs.Views.BufferEntries.{Spelled, Spelled-prop};
 ghost use Rattle.std.specs.Prelude.{IsTrue, ◌↔◌};
-ghost use Rattle.mbe_tt.specs.Views.Shown.{entries_of};
+ghost use Rattle.mbe_tt.specs.Views.LeafViews.{entries_of};
 ghost use Rattle.std.specs.Cmp.{partial_equiv_from_equiv};
 ghost use Rattle.mbe_tt.specs.Trees.Tree.{tree_count, flat_len, strip_invisible, one_group};
 
@@ -14,8 +15,9 @@ use crate::iter::{TtElement, TtIter};
 use crate::tt::{Delimiter, DelimiterKind, Subtree};
 use std::alloc::{AllocError, Allocator, Global};
 
-/// Trees side by side in a buffer, borrowed from it. Clauses see them by `trees`. Views are equal where their
-/// trees are, spans and spacing included.
+/// Trees that stand side by side in a buffer, borrowed from it. Clauses see them by `trees`.
+///
+/// Two views are equal if their trees are, spans and spacing included.
 #[derive_where(Debug)]
 pub struct TokenTreesView<'a, A: Allocator = Global> {
     pub(crate) entries: &'a [Entry<A>],
@@ -37,7 +39,7 @@ impl<'a, A: Allocator> Clone for TokenTreesView<'a, A> {
 impl<'a, A: Allocator> TokenTreesView<'a, A> {
     ghost use Rattle.mbe_tt.specs.Views.View.{trees, group_of};
 
-    /// An iterator over the trees.
+    /// Returns an iterator over the trees.
     pub fn iter(&self) -> TtIter<'a, A>
         ensures { result ≡ trees self.now }
     {
@@ -46,14 +48,14 @@ impl<'a, A: Allocator> TokenTreesView<'a, A> {
         }
     }
 
-    /// The number of flat tokens: leaves, openings and closings.
+    /// Returns the number of flat tokens: leaves, openings and closings.
     pub fn flat_len(&self) -> usize
         ensures { result ≡ flat_len (trees self.now) }
     {
         self.entries.len()
     }
 
-    /// The number of trees.
+    /// Returns the number of trees.
     pub fn len(&self) -> usize
         ensures { result ≡ tree_count (trees self.now) }
     {
@@ -66,7 +68,8 @@ impl<'a, A: Allocator> TokenTreesView<'a, A> {
         n
     }
 
-    /// The content, where this is exactly one invisible group; else the view itself. Only one level is opened.
+    /// Returns the content if the view is exactly one invisible group, and the view itself
+    /// otherwise. Opens only one level.
     pub fn strip_invisible(self) -> TokenTreesView<'a, A>
         ensures { trees result ≡ strip_invisible (trees self.entry) }
     {
@@ -80,7 +83,7 @@ impl<'a, A: Allocator> TokenTreesView<'a, A> {
         self
     }
 
-    /// The group, where this is exactly one group; else `None`.
+    /// Returns the group if the view is exactly one group, and `None` otherwise.
     pub fn try_into_subtree(self) -> Option<SubtreeView<'a, A>>
         ensures { option_map group_of result ≡ one_group (trees self.entry) }
     {
@@ -100,7 +103,8 @@ impl<'a, A: Allocator> TokenTreesView<'a, A> {
 impl<'a, A: Allocator + Copy> TokenTreesView<'a, A> {
     ghost use Rattle.mbe_tt.specs.Views.View.{trees};
 
-    /// A buffer with copies of the trees inside that delimiter. `AllocError` if out of memory.
+    /// Copies the trees into a new buffer, inside that delimiter. Returns `AllocError` if out of
+    /// memory.
     pub fn try_to_buffer(self, alloc: A, delimiter: Delimiter) -> Result<TopSubtree<A>, AllocError>
         ensures { IfOk result (λ t. t ≡ (delimiter, trees self.entry)) }
     {
@@ -110,7 +114,8 @@ impl<'a, A: Allocator + Copy> TokenTreesView<'a, A> {
     }
 }
 
-/// One group of a buffer, borrowed from it. Clauses see its delimiter and its content by `group_of`.
+/// One group of a buffer, borrowed from it. Clauses see its delimiter and its content by
+/// `group_of`.
 #[derive_where(Clone, Copy, Debug)]
 pub struct SubtreeView<'a, A: Allocator = Global> {
     subtree: &'a Subtree,
@@ -121,14 +126,14 @@ impl<'a, A: Allocator> SubtreeView<'a, A> {
     ghost use Rattle.mbe_tt.specs.Views.View.{group_of};
     ghost use Rattle.mbe_tt.specs.Trees.Top.{delimiter_of, inside};
 
-    /// The group without its content.
+    /// Returns the group without its content.
     pub fn top_subtree(&self) -> &'a Subtree
         ensures { result.now.delimiter ≡ delimiter_of (group_of self.now) }
     {
         self.subtree
     }
 
-    /// An iterator over the trees inside.
+    /// Returns an iterator over the trees inside.
     pub fn iter(&self) -> TtIter<'a, A>
         ensures { result ≡ inside (group_of self.now) }
     {
@@ -139,7 +144,7 @@ impl<'a, A: Allocator> SubtreeView<'a, A> {
 impl<'a, A: Allocator + Copy> SubtreeView<'a, A> {
     ghost use Rattle.mbe_tt.specs.Views.View.{group_of};
 
-    /// A buffer that holds a copy of the group. `AllocError` if out of memory.
+    /// Copies the group into a new buffer. Returns `AllocError` if out of memory.
     pub fn try_to_buffer(self, alloc: A) -> Result<TopSubtree<A>, AllocError>
         ensures { IfOk result (λ t. t ≡ group_of self.entry) }
     {
@@ -186,7 +191,7 @@ impl<'a, A: Allocator> Eq for SubtreeView<'a, A> {
 impl<'a, A: Allocator> SubtreeView<'a, A> {
     ghost use Rattle.mbe_tt.specs.Views.View.{group_of};
 
-    // Whether the delimiters and the contents are the same.
+    // Returns whether the delimiters and the contents are the same.
     fn is_same(&self, other: &SubtreeView<'a, A>) -> bool
         ensures { IsTrue result ↔ (group_of self.now ≡ group_of other.now) }
     {

@@ -1,29 +1,33 @@
 -- Where names lead, and how many rounds they allow.
-use Rattle.std.proofs.Common.{◌≡◌, ◌≢◌, ℕ, zero, suc, ◌+◌, ◌-◌, ◌<◌, ◌≤◌, Bool, true, false, List, [], ◌∷◌, ◌++◌, length, drop, get_or, Option, Some, None, Vec, rules, refl, ap, sym, ◌∙◌, arith}
-use Rattle.std.specs.Prelude.{◌==◌, if◌then◌else◌, nat_lt, option_map, option_and_then, slice_get, unwrap_or, filter_map}
+use Rattle.std.proofs.Common.{◌≡◌, ◌≢◌, ℕ, zero, suc, ◌+◌, ◌-◌, ◌<◌, ◌≤◌, Bool, true, false, List, [], ◌∷◌, ◌++◌}
+use Rattle.std.proofs.Common.{length, drop, get_or, Option, Some, None, Vec, rules, refl, ap, sym, ◌∙◌, arith}
+use Rattle.std.specs.Prelude.{◌==◌, if◌then◌else◌, nat_lt, option_map, option_and_then, slice_get, unwrap_or}
+use Rattle.std.specs.Prelude.{filter_map}
 use Rattle.std.specs.Option.{option_copied}
 use Rattle.std.specs.List.{cons_option}
 use Rattle.std.proofs.lemmas.Bool.{eqb-true, eqb-false, ltb-false}
 use Rattle.std.proofs.lemmas.List.{drop_more, drop_all}
 use Rattle.std.proofs.lemmas.Option.{slice_get_read, slice_get_past}
 use denote.Bor.{Bor}
-use Rattle.mbe_semantics.specs.declared.kinds.MetaVarKind.{MetaVarKind}
-use Rattle.mbe_semantics.specs.declared.kinds.RepeatKind.{RepeatKind}
+use Rattle.mbe_semantics.specs.declared.fragment_kinds.MetaVarKind.{MetaVarKind}
+use Rattle.mbe_semantics.specs.declared.fragment_kinds.RepeatKind.{RepeatKind}
 use Rattle.mbe_ops.specs.declared.ops.Separator.{Separator}
 use Rattle.mbe_ops.specs.declared.ops.Op as code
 use Rattle.mbe_ops.specs.declared.ops.Op.{Repeat, the_lemmas as op_lemmas}
 use Rattle.mbe_ops.specs.declared.ops.Op.TheOpen.{MetaTemplate-F}
-use Rattle.mbe_ops.specs.declared.expression.Want.{Want}
-use Rattle.mbe_ops.specs.declared.expression.Want.TheVariants as wants
+use Rattle.mbe_ops.specs.declared.expression.UseKind.{UseKind}
+use Rattle.mbe_ops.specs.declared.expression.UseKind.TheVariants as wants
 use Rattle.mbe_log.specs.declared.fragment.Fragment.{Fragment as Took}
 use Rattle.mbe_bindings.specs.declared.bindings.Binding.{Binding, Fragment, Nested, Empty, Missing, the_lemmas}
 use Rattle.mbe_semantics.specs.Syntax.Op.{Name, Op, Ops, op, no_ops, repetition, Use, used_name, uses_of, uses_of_op}
 use Rattle.mbe_semantics.specs.Bindings.Environment.{Environment, value_of, Value, fragment, list, empty, missing}
-use Rattle.mbe_semantics.specs.declared.rounds.Level.{Level}
-use Rattle.mbe_semantics.specs.Writing.Rounds.{member, value_count, follow, reach, Path, level_at, value_total, totals, Extent, finite, endless, lesser, least_extent, extent_over, extent_of, extent_under}
-use Rattle.mbe_variables.specs.Lost.{lost, lost_in}
-use Rattle.mbe_variables.specs.declared.following.Lost.TheVariants.{NoValue}
-use Rattle.mbe_variables.specs.Counting.{shorter, shortest}
+use Rattle.mbe_semantics.specs.declared.current_round.CurrentRound.{CurrentRound}
+use Rattle.mbe_semantics.specs.Transcription.Rounds.{member, value_count, follow, reach, Path, level_at, value_total}
+use Rattle.mbe_semantics.specs.Transcription.Rounds.{totals, Extent, finite, endless, lesser, least_extent, extent_over}
+use Rattle.mbe_semantics.specs.Transcription.Rounds.{extent_of, extent_under}
+use Rattle.mbe_variables.specs.LookupErrors.{lookup_error, lookup_error_in}
+use Rattle.mbe_variables.specs.declared.variable_lookup.LookupError.TheVariants.{NoValue}
+use Rattle.mbe_variables.specs.RoundCounts.{shorter, shortest}
 use Rattle.mbe_log.specs.FragmentViews.{fragment_seen}
 use Rattle.mbe_bindings.specs.BindingViews.{value_seen, values_seen}
 use Rattle.mbe_ops.specs.Expressions.{use_seen}
@@ -62,7 +66,7 @@ count_seen (v ∷ vs) = omega (arith, count_seen vs)
 
 -- ---- one step of a path
 
-module _ {A : Type 0} (vs : List (Binding A)) (l : Level) (path : Path) where
+module _ {A : Type 0} (vs : List (Binding A)) (l : CurrentRound) (path : Path) where
   pub follow_member : (b : Binding A) → slice_get vs l.index ≡ Some b
       → follow (l ∷ path) (list (values_seen vs)) ≡ follow path (value_seen b)
   follow_member b e = ap (option_and_then (follow path)) (member_seen vs l.index ∙ ap (option_map value_seen) e)
@@ -71,11 +75,11 @@ module _ {A : Type 0} (vs : List (Binding A)) (l : Level) (path : Path) where
   follow_lost e = ap (option_and_then (follow path)) (member_seen vs l.index ∙ ap (option_map value_seen) e)
 
   pub lost_member : (b : Binding A) → slice_get vs l.index ≡ Some b
-      → lost (l ∷ path) (list (values_seen vs)) ≡ lost path (value_seen b)
-  lost_member b e = ap (lost_in (lost path)) (member_seen vs l.index ∙ ap (option_map value_seen) e)
+      → lookup_error (l ∷ path) (list (values_seen vs)) ≡ lookup_error path (value_seen b)
+  lost_member b e = ap (lookup_error_in (lookup_error path)) (member_seen vs l.index ∙ ap (option_map value_seen) e)
 
-  pub lost_past : slice_get vs l.index ≡ None → lost (l ∷ path) (list (values_seen vs)) ≡ Some NoValue
-  lost_past e = ap (lost_in (lost path)) (member_seen vs l.index ∙ ap (option_map value_seen) e)
+  pub lost_past : slice_get vs l.index ≡ None → lookup_error (l ∷ path) (list (values_seen vs)) ≡ Some NoValue
+  lost_past e = ap (lookup_error_in (lookup_error path)) (member_seen vs l.index ∙ ap (option_map value_seen) e)
 
   pub reach_member : (b : Binding A) → slice_get vs l.index ≡ Some b
       → reach (l ∷ path) (list (values_seen vs)) ≡ reach path (value_seen b)
@@ -84,7 +88,8 @@ module _ {A : Type 0} (vs : List (Binding A)) (l : Level) (path : Path) where
   pub reach_lost : slice_get vs l.index ≡ None → reach (l ∷ path) (list (values_seen vs)) ≡ None
   reach_lost e = ap (option_and_then (reach path)) (member_seen vs l.index ∙ ap (option_map value_seen) e)
 
-module _ {A : Type 0} (path inner : Path) (l : Level) (b : Binding A) (vs : Vec (Binding A) A) (xs : List (Binding A))
+module _ {A : Type 0} (path inner : Path) (l : CurrentRound) (b : Binding A) (vs : Vec (Binding A) A)
+    (xs : List (Binding A))
     (p : path ≡ l ∷ inner) (q : b ≡ Nested vs) (r : xs ≡ vs.items) where
   found : (v : Binding A) → l.index < length xs → v ≡ get_or xs l.index v → slice_get vs.items l.index ≡ Some v
   found v h e = ap (λ ys. slice_get ys l.index) (sym r) ∙ slice_get_read xs (length xs) l.index v refl h e
@@ -103,16 +108,16 @@ module _ {A : Type 0} (path inner : Path) (l : Level) (b : Binding A) (vs : Vec 
       ap (λ x. follow x (value_seen b)) p ∙ (ap (λ x. follow (l ∷ inner) (value_seen x)) q
       ∙ (ap (follow (l ∷ inner)) (view-nested vs) ∙ follow_lost vs.items l inner (past h)))
 
-  lost_inside : lost path (value_seen b) ≡ lost (l ∷ inner) (list (values_seen vs.items))
+  lost_inside : lookup_error path (value_seen b) ≡ lookup_error (l ∷ inner) (list (values_seen vs.items))
   lost_inside =
-      ap (λ x. lost x (value_seen b)) p ∙ (ap (λ x. lost (l ∷ inner) (value_seen x)) q
-      ∙ ap (lost (l ∷ inner)) (view-nested vs))
+      ap (λ x. lookup_error x (value_seen b)) p ∙ (ap (λ x. lookup_error (l ∷ inner) (value_seen x)) q
+      ∙ ap (lookup_error (l ∷ inner)) (view-nested vs))
 
   pub lost_on : (v : Binding A) → l.index < length xs → v ≡ get_or xs l.index v
-      → lost path (value_seen b) ≡ lost inner (value_seen v)
+      → lookup_error path (value_seen b) ≡ lookup_error inner (value_seen v)
   lost_on v h e = lost_inside ∙ lost_member vs.items l inner v (found v h e)
 
-  pub lost_stop : length xs ≤ l.index → lost path (value_seen b) ≡ Some NoValue
+  pub lost_stop : length xs ≤ l.index → lookup_error path (value_seen b) ≡ Some NoValue
   lost_stop h = lost_inside ∙ lost_past vs.items l inner (past h)
 
   pub reach_on : (v : Binding A) → l.index < length xs → v ≡ get_or xs l.index v
@@ -141,7 +146,7 @@ ops_over xs i h = ap ops_of (drop_all i xs h)
 
 -- ---- levels
 
-near_case : (path : Path) (l : Level) (depth : ℕ) (d : Level) → depth < length (l ∷ path)
+near_case : (path : Path) (l : CurrentRound) (depth : ℕ) (d : CurrentRound) → depth < length (l ∷ path)
     → (depth < length path → level_at path depth ≡ Some (get_or path (length path - 1 - depth) d))
     → (b : Bool) → (length path == depth) ≡ b
     → (if b then Some l else level_at path depth) ≡ Some (get_or (l ∷ path) (length (l ∷ path) - 1 - depth) d)
@@ -154,13 +159,14 @@ near_case path l depth d h inner false e =
     let n : length (l ∷ path) - 1 - depth ≡ suc (length path - 1 - depth) = omega (arith, apart) in
     rw n (inner inside)
 
-pub level_near : (path : Path) (depth : ℕ) (d : Level) → depth < length path
+pub level_near : (path : Path) (depth : ℕ) (d : CurrentRound) → depth < length path
     → level_at path depth ≡ Some (get_or path (length path - 1 - depth) d)
 level_near [] depth d h = absurd (omega arith)
 level_near (l ∷ path) depth d h = near_case path l depth d h (λ i. level_near path depth d i) (length path == depth)
     refl
 
-no_case : (path : Path) (l : Level) (depth : ℕ) → length (l ∷ path) ≤ depth → level_at path depth ≡ None → (b : Bool)
+no_case : (path : Path) (l : CurrentRound) (depth : ℕ) → length (l ∷ path) ≤ depth → level_at path depth ≡ None
+    → (b : Bool)
     → (length path == depth) ≡ b
     → (if b then Some l else level_at path depth) ≡ None
 no_case path l depth h inner true e = absurd (omega (arith, eqb-true (length path) depth e))
@@ -184,7 +190,7 @@ total_zero vs = ap (value_total 0) (view-nested vs) ∙ count_seen vs.items
 
 -- ---- what a list allows
 
-used_is : (want : Want) (name : Name) → used_name (use_seen want name) ≡ name
+used_is : (use_kind : UseKind) (name : Name) → used_name (use_seen use_kind name) ≡ name
 used_is wants.Fragment name = refl
 used_is wants.Number name = refl
 
@@ -199,12 +205,12 @@ list_under env path u name v w vs n m a b e h =
     ∙ (ap (λ x. Some (extent_of u x)) (e ∙ view-nested vs)
     ∙ ap (λ k. Some (finite k)) (count_seen vs.items ∙ sym h)))))
 
-pub extent_list : {A : Type 0} (env : Environment) (path : Path) (want : Want) (name : Name) (v w : Value)
+pub extent_list : {A : Type 0} (env : Environment) (path : Path) (use_kind : UseKind) (name : Name) (v w : Value)
     (vs : Vec (Binding A) A) (n : ℕ) → Some v ≡ value_of env name
     → Some w ≡ reach path v → w ≡ value_seen (Nested vs) → n ≡ length vs.items
-    → Some (finite n) ≡ extent_under env path (use_seen want name)
-extent_list env path want name v w vs n a b e h =
-    list_under env path (use_seen want name) name v w vs n (used_is want name) a b e h
+    → Some (finite n) ≡ extent_under env path (use_seen use_kind name)
+extent_list env path use_kind name v w vs n a b e h =
+    list_under env path (use_seen use_kind name) name v w vs n (used_is use_kind name) a b e h
 
 -- a repetition of the code, whose ops are in sight
 pub view-body : {A : Type 0} (t : MetaTemplate-F A (code.Op A) (Unit {0})) (kind : RepeatKind)

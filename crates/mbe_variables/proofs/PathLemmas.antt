@@ -3,9 +3,10 @@ use Rattle.std.proofs.Common.{◌≡◌, Bool, true, false, Some, None, refl, ap
 use Rattle.std.specs.Prelude.{◌||◌, ◌&&◌, ◌==◌, if◌then◌else◌, option_map}
 use Rattle.mbe_tt.specs.declared.span.Span.{Span}
 use Rattle.mbe_tt.specs.Trees.Leaf.{literal, ident, punct}
-use Rattle.mbe_tt.specs.Trees.Tree.{Forest, none, leaf, group, append, Tree, Leaf_tree, Group_tree, tree, first, rest_of}
-use Rattle.mbe_tt.specs.Buffers.Building.{Levels, put}
-use Rattle.mbe_semantics.specs.Writing.Written.{path_trees, double_colon, is_ident, is_before_less}
+use Rattle.mbe_tt.specs.Trees.Tree.{Forest, none, leaf, group, append, Tree, Leaf_tree, Group_tree, tree, first}
+use Rattle.mbe_tt.specs.Trees.Tree.{rest_of}
+use Rattle.mbe_tt.specs.Buffers.GroupStack.{GroupStack, put}
+use Rattle.mbe_semantics.specs.Transcription.FragmentTrees.{path_trees, double_colon, is_ident, is_before_less}
 use Rattle.mbe_variables.proofs.PutLemmas.{put-none, put-put, put_both}
 
 -- ---- parentheses, by the first two trees and whether more follow
@@ -47,7 +48,7 @@ first_and_rest (leaf l rest) t e = let s : Leaf_tree l ≡ t = cc in ap (λ x. t
 first_and_rest (group d inside rest) t e = let s : Group_tree d inside ≡ t = cc in ap (λ x. tree x rest) s
 
 -- what a loop over a path's trees keeps: what it wrote, and what it has to write still, is all
-pub path_next : (site : Span) (f one now_left : Forest) (t : Tree) (b : Bool) (start now mid new : Levels)
+pub path_next : (site : Span) (f one now_left : Forest) (t : Tree) (b : Bool) (start now mid new : GroupStack)
     → put (path_trees site f) now ≡ start → first f ≡ Some t → now_left ≡ rest_of f → one ≡ tree t none
     → mid ≡ put one now → b ≡ colons_after t now_left
     → new ≡ put (following site b) mid → put (path_trees site now_left) new ≡ start
@@ -87,7 +88,7 @@ pub ident_then : (a b : Bool) → b ≡ false → false ≡ (a && b)
 ident_then true b e = sym e
 ident_then false b e = refl
 
-pub path_end : (site : Span) (left all : Forest) (old now : Levels) → first left ≡ None
+pub path_end : (site : Span) (left all : Forest) (old now : GroupStack) → first left ≡ None
     → put (path_trees site left) now ≡ put (path_trees site all) old → now ≡ put (path_trees site all) old
 path_end site none all old now e h = put-none now ∙ h
 path_end site (leaf l rest) all old now e h = absurd cc

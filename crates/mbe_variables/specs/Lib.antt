@@ -1,4 +1,4 @@
-pub mod Counting
+pub mod RoundCounts
 pub mod FaultViews
-pub mod Fragments
-pub mod Lost
+pub mod FragmentWriter
+pub mod LookupErrors

@@ -1,7 +1,7 @@
-// Where the variables of a template lead, how many rounds a repetition has by them, and how what
-// they took is written. A layer of `mbe`: use that crate.
+// The variables of a template: the binding of a variable in a round, the number of rounds of a
+// repetition, and the trees that a fragment is written as. A layer of `mbe`: use that crate.
 #![tactic(auto)]
 
-pub mod fault;
-pub mod following;
-pub mod fragments;
+pub mod fragment_writer;
+pub mod transcriber_fault;
+pub mod variable_lookup;

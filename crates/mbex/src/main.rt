@@ -1,4 +1,5 @@
-// Expands an argument by a definition, both lexed from files, and prints the expansion's token trees.
+// The program `mbex`: it expands an argument by a definition, each lexed from a file, and prints
+// the token trees of the expansion.
 #![tactic(auto)]
 
 use mbe_program::command::run_command;

@@ -6,21 +6,21 @@ ghost use Rattle.mbe.specs.MacroViews.{macro_of};
 
 use crate::macros::DeclarativeMacro;
 use mbe_ops::errors::error::ParseError;
-use mbe_parser::equality::{copied_rules, same_rules};
+use mbe_parser::equality::{clone_rules, same_rules};
 use std::alloc::{AllocError, Allocator};
 
 impl<A: Allocator + Copy> DeclarativeMacro<A> {
-    /// An equal copy. `AllocError` if out of memory. The macro stays as it was in each case.
+    /// Returns an equal copy. `AllocError` if out of memory.
     pub fn try_clone(&self, alloc: A) -> Result<DeclarativeMacro<A>, AllocError>
         ensures { IfOk result (λ copy. macro_of copy ≡ macro_of self.now) }
     {
-        let rules = copied_rules(alloc, &self.rules)?;
-        let err = copied_fault(alloc, &self.err)?;
+        let rules = clone_rules(alloc, &self.rules)?;
+        let err = clone_fault(alloc, &self.err)?;
         Ok(DeclarativeMacro { rules, err })
     }
 }
 
-fn copied_fault<A: Allocator + Copy>(
+fn clone_fault<A: Allocator + Copy>(
     alloc: A,
     err: &Option<ParseError<A>>,
 ) -> Result<Option<ParseError<A>>, AllocError>
@@ -33,8 +33,8 @@ fn copied_fault<A: Allocator + Copy>(
     }
 }
 
-/// Macros are equal where their rules and faults are, spans included; but separators count by their
-/// texts alone (as in rust-analyzer).
+/// Two macros are equal if their rules and errors are, with spans. Only separators are compared by
+/// their texts alone (as in rust-analyzer).
 impl<A: Allocator> PartialEq for DeclarativeMacro<A> {
     ghost use Rattle.mbe_ops.specs.Codes.{macro_eq, macro_eq_laws};
     ghost use Rattle.std.specs.Cmp.{partial_equiv_from_equiv};

@@ -1,7 +1,7 @@
 use Rattle.std.proofs.Common.{refl}
 use Rattle.mbe_program.specs.Replies.Answers.{answer_of}
-use Rattle.mbe_program.specs.Replies.Calls.{definition_of}
-use Rattle.mbe_c.specs.Each.{answers_seen, with_expansions, without_expansions}
+use Rattle.mbe_program.specs.Replies.Requests.{definition_of}
+use Rattle.mbe_c.specs.Batch.{answers_seen, with_expansions, without_expansions}
 use Rattle.mbe_c.proofs.EachLemmas.{no_expansion-bare}
 use Rattle.mbe_c.proofs.GivingLemmas.{gives_message}
 use Rattle.mbe_c.proofs.mbe_c_expand_each.Goals as goal
@@ -15,10 +15,10 @@ returns-in-Err-clause-expands c =
     without_expansions (
       a,
       c.in-Err.ensures.fails,
-      gives_message a c.args.message.now c.give.new.message c.give.new.tokens c.give.new.text
-          c.give.new.reply bare c.give.ensures.gives,
+      gives_message a c.args.message.now c.copy_answer.new.message c.copy_answer.new.tokens c.copy_answer.new.text
+          c.copy_answer.new.reply bare c.copy_answer.ensures.gives,
     ) refl refl refl
 
 pub returns-in-Ok-clause-expands : goal.returns-in-Ok-clause-expands
 returns-in-Ok-clause-expands c = with_expansions (answers_seen c.in-Ok.found) c.in-Ok.ensures.expands
-    c.give_answers.ensures.gives
+    c.copy_answers.ensures.gives

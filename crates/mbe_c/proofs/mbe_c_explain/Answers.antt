@@ -1,7 +1,7 @@
 use Rattle.std.proofs.Common.{◌≡◌, List, refl, subst}
-use Rattle.mbe_program.specs.declared.replies.calls.FlatVerdict.{FlatVerdict}
+use Rattle.mbe_program.specs.declared.replies.requests.FlatVerdict.{FlatVerdict}
 use Rattle.mbe_program.specs.Replies.Answers.{answer_of}
-use Rattle.mbe_program.specs.Replies.Calls.{argument_of, definition_of}
+use Rattle.mbe_program.specs.Replies.Requests.{argument_of, definition_of}
 use Rattle.mbe_program.proofs.ReplyLemmas.BareLemmas.{no_answer-bare}
 use Rattle.mbe_c.specs.Copies.{GivesVerdicts, with_verdicts, without_verdicts}
 use Rattle.mbe_c.proofs.GivingLemmas.{gives_message}
@@ -17,14 +17,14 @@ returns-in-Err-clause-explains c =
     without_verdicts (
       a,
       c.in-Err.ensures.fails,
-      gives_message a c.args.message.now c.give.new.message c.give.new.tokens c.give.new.text
-          c.give.new.reply bare c.give.ensures.gives,
+      gives_message a c.args.message.now c.copy_answer.new.message c.copy_answer.new.tokens c.copy_answer.new.text
+          c.copy_answer.new.reply bare c.copy_answer.ensures.gives,
     ) refl
 
 pub returns-in-Ok-clause-explains : goal.returns-in-Ok-clause-explains
 returns-in-Ok-clause-explains c =
     let same : c.deref.result.now ≡ c.in-Ok.found.items = cc in
     with_verdicts c.in-Ok.found.items c.in-Ok.ensures.explains
-    (subst (λ (vs : List FlatVerdict). GivesVerdicts vs c.args.verdicts.now c.give_verdicts.new.verdicts
-    c.give_verdicts.new.reply) same
-    c.give_verdicts.ensures.gives) refl
+    (subst (λ (vs : List FlatVerdict). GivesVerdicts vs c.args.verdicts.now c.copy_verdicts.new.verdicts
+    c.copy_verdicts.new.reply) same
+    c.copy_verdicts.ensures.gives) refl

@@ -1,7 +1,7 @@
 use Rattle.std.proofs.Common.{◌∙◌, ℕ, ap, ap₂, refl, sym}
 use Rattle.mbe_program.specs.Replies.Answers.{Answer, answer_of}
-use Rattle.mbe_program.specs.Replies.Calls.{definition_of}
-use Rattle.mbe_program.specs.Replies.Kept.{rule_count}
+use Rattle.mbe_program.specs.Replies.Requests.{definition_of}
+use Rattle.mbe_program.specs.Replies.KeptMacros.{rule_count}
 use Rattle.mbe_program.proofs.ReplyLemmas.BareLemmas.{IsBare}
 use Rattle.mbe_c.specs.declared.Reply.{Reply}
 use Rattle.mbe_c.specs.Copies.{reply_to}
@@ -18,8 +18,9 @@ returns-in-Some-clause-reads c =
     with_another c.in-Some.held.value (sym c.in-Some.ensures.taken) (c.put.ensures ∙ c.in-Some.ensures.taken) (
       a,
       e,
-      gives_message a c.args.message.now c.give.new.message c.give.new.tokens c.give.new.text c.give.new.reply bare
-          c.give.ensures.gives,
+      gives_message a c.args.message.now c.copy_answer.new.message c.copy_answer.new.tokens c.copy_answer.new.text
+          c.copy_answer.new.reply bare
+          c.copy_answer.ensures.gives,
     )
 
 pub returns-in-Err-clause-reads : goal.returns-in-Err-clause-reads
@@ -31,8 +32,9 @@ returns-in-Err-clause-reads c =
     without_macro (sym c.in_default.ensures.taken) c.take.ensures.none (
       a,
       c.in-Err.ensures.fails,
-      gives_message a c.args.message.now c.give-in-Err.new.message c.give-in-Err.new.tokens c.give-in-Err.new.text
-          c.give-in-Err.new.reply bare c.give-in-Err.ensures.gives,
+      gives_message a c.args.message.now c.copy_answer-in-Err.new.message c.copy_answer-in-Err.new.tokens
+          c.copy_answer-in-Err.new.text
+          c.copy_answer-in-Err.new.reply bare c.copy_answer-in-Err.ensures.gives,
     )
 
 pub returns-in-Ok-clause-reads : goal.returns-in-Ok-clause-reads

@@ -1,21 +1,21 @@
-// What a crate exports of another one.
+// What a crate exports from another one.
 use std::alloc::{Allocator, Global};
 
-/// What is exported of another crate.
+/// What is exported from another crate.
 #[derive(Drop)]
-pub enum What<A: Allocator = Global> {
-    /// All that it offers.
+pub enum ExportedMacros<A: Allocator = Global> {
+    /// All that the other crate offers.
     All,
-    /// Its macro of the first name, by the second one.
+    /// The other crate's macro of the first name, under the second name.
     One(String<A>, String<A>),
 }
 
-/// An export of a crate. Clauses see it by `export_of`.
+/// An export of a crate. Contracts see it by `export_of`.
 #[derive(Drop)]
 pub struct Export<A: Allocator = Global> {
     /// The crate that exports it.
     pub by: String<A>,
-    /// The crate that it is of.
+    /// The crate that it comes from.
     pub from: String<A>,
-    pub what: What<A>,
+    pub exported_macros: ExportedMacros<A>,
 }

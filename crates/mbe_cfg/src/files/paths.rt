@@ -1,12 +1,12 @@
-// Paths of files and folders, with `/` between their parts.
+// Paths of files and folders. A `/` is between their parts.
 ghost use Rattle.std.specs.Prelude.{◌≡◌, IfOk};
 ghost use Rattle.std.specs.String.{string_bytes};
-ghost use Rattle.mbe_cfg.specs.Files.Paths.{join, is_absolute, ends_open, folder_of};
+ghost use Rattle.mbe_cfg.specs.Files.Paths.{join, is_absolute, needs_separator, folder_of};
 
 use std::alloc::{AllocError, Allocator};
 use std::path::Path;
 
-// Whether a path begins at the root.
+// Returns whether a path begins at the root.
 fn is_absolute(path: &str) -> bool
     ensures { result ≡ is_absolute path.now }
 {
@@ -16,9 +16,9 @@ fn is_absolute(path: &str) -> bool
     }
 }
 
-// Whether a `/` has to follow before more.
-fn ends_open(folder: &str) -> bool
-    ensures { result ≡ ends_open folder.now }
+// Returns whether a `/` must follow before more parts.
+fn needs_separator(folder: &str) -> bool
+    ensures { result ≡ needs_separator folder.now }
 {
     match folder.as_bytes().last() {
         Some(byte) => *byte != 47,
@@ -26,14 +26,15 @@ fn ends_open(folder: &str) -> bool
     }
 }
 
-/// A path that is relative to a folder, as one; an absolute path stays as it is. `AllocError` if out of memory.
+/// Joins a folder and a path that is relative to it. An absolute path is unchanged. Returns
+/// `AllocError` if memory runs out.
 pub fn join<A: Allocator>(alloc: A, folder: &str, path: &str) -> Result<String<A>, AllocError>
     ensures { IfOk result (λ s. string_bytes s ≡ join folder.now path.now) }
 {
     let mut joined = String::new(alloc);
     if !is_absolute(path) {
         joined.push_str(folder)?;
-        if ends_open(folder) {
+        if needs_separator(folder) {
             joined.push_str("/")?;
         }
     }
@@ -41,7 +42,7 @@ pub fn join<A: Allocator>(alloc: A, folder: &str, path: &str) -> Result<String<A
     Ok(joined)
 }
 
-/// The folder of a file: nothing, where its path has but one part.
+/// Returns the folder of a file. It is empty if the path has only one part.
 pub fn folder_of(path: &str) -> &str
     ensures { result.now ≡ folder_of path.now }
 {

@@ -1,13 +1,16 @@
 -- Characters at the front of texts.
-use Rattle.std.proofs.Common.{◌≡◌, ◌≢◌, ℕ, zero, suc, ◌+◌, ◌<◌, ◌≤◌, Bool, true, false, cond, not, eqb, ltb, add-one, List, [], ◌∷◌, ◌++◌, length, drop, get_or, Option, Some, None, option_map, MatchOption, Bor, refl, sym, ap, ◌∙◌, subst, arith, zero-add, encode_utf8}
+use Rattle.std.proofs.Common.{◌≡◌, ◌≢◌, ℕ, zero, suc, ◌+◌, ◌<◌, ◌≤◌, Bool, true, false, cond, not, eqb, ltb, add-one}
+use Rattle.std.proofs.Common.{List, [], ◌∷◌, ◌++◌, length, drop, get_or, Option, Some, None, option_map, MatchOption}
+use Rattle.std.proofs.Common.{Bor, refl, sym, ap, ◌∙◌, subst, arith, zero-add, encode_utf8}
 use Rattle.std.specs.Char.{len_utf8}
 use Rattle.std.specs.List.{position, position_or_len, prefix_len}
 use Rattle.std.specs.Prelude.{unwrap_or}
 use Rattle.std.specs.Str.{IsUtf8, IsCharBoundary}
 use Rattle.std.proofs.lemmas.Bool.Decides.{nat_tests}
 use Rattle.std.proofs.lemmas.List.Sums.{prefix_len_passes}
-use Rattle.std.proofs.lemmas.Str.{chars-nil, chars_past_char, drop_past_char, IsCharBoundary-start, IsCharBoundary-after_ascii}
-use Rattle.mbe_grammar.specs.Text.Words.{first_char, after_byte, is_of_name, name_len}
+use Rattle.std.proofs.lemmas.Str.{chars-nil, chars_past_char, drop_past_char, IsCharBoundary-start}
+use Rattle.std.proofs.lemmas.Str.{IsCharBoundary-after_ascii}
+use Rattle.mbe_grammar.specs.Peg.Tokens.{first_char, after_byte, is_of_name, name_len}
 
 -- a text's first character
 pub first_char_is : (text rest : List ℕ) (c : ℕ) → IsUtf8 text → text ≡ encode_utf8 c ++ rest

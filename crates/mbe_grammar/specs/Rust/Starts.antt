@@ -1,9 +1,11 @@
--- The rules that Rust's fragments begin with, by the names of `rust.peg`.
-use Rattle.mbe_grammar.specs.declared.tables.table.Starts.{Starts}
-use Rattle.mbe_grammar.specs.declared.rust.positions.TheConstants.{TYPE_PATH, EXPR_FRAGMENT, TYPE, PAT_TOP_FRAGMENT, PAT_FRAGMENT, STMT, BLOCK, META, ITEM, VIS}
+-- The rules of the entry points of Rust's grammar, by their names in `rust.peg`.
+use Rattle.mbe_grammar.specs.declared.tables.peg_table.EntryRules.{EntryRules}
+use Rattle.mbe_grammar.specs.declared.rust.positions.TheConstants.{TYPE_PATH, EXPR_FRAGMENT, TYPE}
+use Rattle.mbe_grammar.specs.declared.rust.positions.TheConstants.{PAT_TOP_FRAGMENT, PAT_FRAGMENT}
+use Rattle.mbe_grammar.specs.declared.rust.positions.TheConstants.{STMT, BLOCK, META, ITEM, VIS}
 
-abbrev pub rust_starts : Starts
-rust_starts = record {
+abbrev pub rust_entry_rules : EntryRules
+rust_entry_rules = record {
   path = TYPE_PATH;
   expr = EXPR_FRAGMENT;
   ty = TYPE;

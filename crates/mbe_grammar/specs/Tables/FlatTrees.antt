@@ -1,14 +1,15 @@
--- The trees whose flat tokens are in a list.
+-- The trees of a list of flat tokens.
 use Rattle.std.specs.Prelude.{List, [], ◌∷◌}
 use Rattle.mbe_tt.specs.Trees.Tree.{Forest, none, leaf, group, FlatToken, token, opening, closing}
 use Rattle.mbe_tt.specs.declared.tt.Delimiter.{Delimiter}
 
--- Read from the end of a list: the trees up to the end of the innermost group, and the same for each group around it.
+-- The result of reading a list from its end: the trees up to the end of the innermost group, and
+-- the same for each group around it.
 pub record Levels : Type 0 where
   pub level : Forest
   pub around : List Forest
 
--- An opening makes a group where its end was read. Else it is skipped.
+-- An opening makes a group if the end of the group was read. Else it is skipped.
 abbrev pub open_level : Delimiter → Forest → List Forest → Levels
 open_level d inside [] = record { level = inside; around = [] }
 open_level d inside (rest ∷ more) = record { level = group d inside rest; around = more }

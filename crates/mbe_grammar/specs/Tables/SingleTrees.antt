@@ -2,27 +2,29 @@
 use Rattle.std.specs.Prelude.{ℕ, nat_eq, Bool, true, false, not, ◌&&◌, ◌==◌, List, codes}
 use Rattle.std.specs.List.{list_any, ends_with}
 use Rattle.mbe_tt.specs.Trees.Tree.{Tree, Leaf_tree, Group_tree, is_same_kind}
-use Rattle.mbe_tt.specs.Trees.Leaf.{Leaf, Ident, Literal, literal, punct, ident, is_text, is_underscore}
+use Rattle.mbe_tt.specs.Trees.Leaf.{Leaf, Ident, Literal, literal, punct, ident, is_text}
+use Rattle.mbe_tt.specs.Trees.Leaf.{is_underscore}
 use Rattle.mbe_tt.specs.declared.tt.IdentIsRaw.{IdentIsRaw}
 use Rattle.mbe_tt.specs.declared.tt.IdentIsRaw.TheVariants.{No, Yes}
 use Rattle.mbe_tt.specs.declared.tt.DelimiterKind.{DelimiterKind}
 use Rattle.mbe_tt.specs.declared.tt.LitKind.{LitKind}
-use Rattle.mbe_tt.specs.declared.tt.LitKind.TheVariants.{Byte, Char, Integer, Float, Str, StrRaw, ByteStr, ByteStrRaw, CStr, CStrRaw, Err}
+use Rattle.mbe_tt.specs.declared.tt.LitKind.TheVariants.{Byte, Char, Integer, Float, Str, StrRaw}
+use Rattle.mbe_tt.specs.declared.tt.LitKind.TheVariants.{ByteStr, ByteStrRaw, CStr, CStrRaw, Err}
 use Rattle.mbe_grammar.specs.Tables.Editions.{edition_of, is_keyword_in}
-use Rattle.mbe_grammar.specs.declared.tables.table.RuleTable.{RuleTable}
+use Rattle.mbe_grammar.specs.declared.tables.peg_table.RuleTable.{RuleTable}
 
--- the punct of that char
+-- a punct with this char
 abbrev pub is_char : ℕ → Leaf → Bool
 is_char char (punct p) = p.char == char
 is_char char (literal x) = false
 is_char char (ident i) = false
 
--- one of the words, and not raw
+-- one of the texts, and not raw
 abbrev pub is_word : List (List ℕ) → IdentIsRaw → List ℕ → Bool
 is_word texts No sym = list_any (is_text sym) texts
 is_word texts Yes sym = false
 
--- an identifier of one of these texts that isn't raw
+-- an identifier with one of these texts that isn't raw
 abbrev pub is_one_of : List (List ℕ) → Tree → Bool
 is_one_of texts (Leaf_tree (ident i)) = is_word texts i.is_raw i.sym
 is_one_of texts (Leaf_tree (punct p)) = false
@@ -36,7 +38,7 @@ is_identifier (Leaf_tree (punct p)) = false
 is_identifier (Leaf_tree (literal x)) = false
 is_identifier (Group_tree d inside) = false
 
--- not raw, and a keyword in its edition
+-- not raw, and reserved
 abbrev pub unless_raw : IdentIsRaw → Bool → Bool
 unless_raw No is_reserved = is_reserved
 unless_raw Yes is_reserved = false
@@ -44,7 +46,7 @@ unless_raw Yes is_reserved = false
 abbrev pub is_keyword : RuleTable → Ident → Bool
 is_keyword table i = unless_raw i.is_raw (is_keyword_in table (edition_of table i.span.ctx) i.sym)
 
--- any identifier but `_` and keywords
+-- any identifier except `_` and keywords
 abbrev pub is_name : RuleTable → Tree → Bool
 is_name table (Leaf_tree (ident i)) = not (is_underscore i.sym) && not (is_keyword table i)
 is_name table (Leaf_tree (punct p)) = false
@@ -83,7 +85,7 @@ is_pointed (Group_tree d inside) = false
 abbrev pub is_any : Tree → Bool
 is_any t = true
 
--- a punct of that char, whatever would be taken together with it
+-- a punct with this char, even if it is the first of an operator
 abbrev pub is_punct : ℕ → Tree → Bool
 is_punct char (Leaf_tree x) = is_char char x
 is_punct char (Group_tree d inside) = false

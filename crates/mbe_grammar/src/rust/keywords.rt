@@ -1,9 +1,10 @@
-// Rust's keywords, strict and reserved, and the edition from which each is one (the Rust Reference, "Keywords"). Weak keywords, as
-// `union` and `safe`, are names.
+// Rust's keywords, strict and reserved, each with the first edition that has it (the Rust
+// Reference, "Keywords"). Weak keywords, such as `union` and `safe`, are names.
 use crate::tables::node::Keyword;
 use mbe_tt::span::Edition;
 
-/// The keywords of Rust. An identifier of such a text is a name in the editions before it, and where it is raw.
+/// The keywords of Rust. In an earlier edition an identifier with such a text is a name, and in
+/// every edition if it is raw.
 pub const KEYWORDS: &[Keyword<'static>] = &[
     Keyword {
         text: "as",

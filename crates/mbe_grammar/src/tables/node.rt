@@ -1,66 +1,70 @@
-// Rules of a grammar, as data. What each takes is in `specs/Rule` and `specs/Terminals`.
+// The rules of a grammar, as data. The specification of what each rule consumes is in
+// `specs/Tables/Rule` and `specs/Tables/Terminals`.
 use mbe_tt::span::Edition;
 use mbe_tt::tt::DelimiterKind;
 
-/// What is asked of the trees at the front, without naming another rule. Texts of words are without `r#`; those of operators
-/// are in ASCII, as `->`.
+/// A test of the trees at the front that names no other rule. Texts of words are without `r#`.
+/// Texts of operators are ASCII, such as `->`.
 #[derive(Clone, Copy, Debug, Drop, PartialEq, Eq)]
 pub enum Terminal<'g> {
-    /// An identifier of this text, not raw.
+    /// An identifier with this text that isn't raw.
     Word(&'g str),
-    /// An identifier of one of these texts, not raw.
+    /// An identifier with one of these texts that isn't raw.
     Words(&'g [&'g str]),
-    /// The puncts that are taken together as an operator, where this is their text.
+    /// An operator with this text: puncts that join.
     Operator(&'g str),
-    /// The same, where one of these is their text.
+    /// An operator with one of these texts.
     Operators(&'g [&'g str]),
-    /// One punct, whatever would be taken together with it: `<` of `<<` too.
+    /// One punct, even if it is the first of an operator: `<` also matches at `<<`.
     Sign(char),
-    /// A group of one of these kinds, whatever it holds.
+    /// A group of one of these kinds, with any content.
     Group(&'g [DelimiterKind]),
-    /// An identifier other than `_` that is raw, or no keyword in the edition of its span.
+    /// An identifier other than `_` that is raw, or isn't a keyword in the edition of its span.
     Name,
-    /// Any identifier, also `_` and keywords.
+    /// Any identifier, `_` and keywords included.
     Identifier,
-    /// A literal. `true` and `false` are words.
+    /// A literal. `true` and `false` are identifiers.
     Literal,
-    /// A number that ends with a `.`, as `0.`: in Rust a field and the point before the next one.
+    /// A number that ends with a `.`, such as `0.`: in Rust, the index of a field and the point
+    /// before the next field.
     Pointed,
     /// Any tree.
     Any,
-    /// Nothing, at the end.
+    /// Consumes nothing. Matches at the end.
     End,
-    /// Nothing, where the next tree begins with a span of this edition or a later one.
+    /// Consumes nothing. Matches if the next tree begins with a span of this edition or a later
+    /// one.
     Since(Edition),
 }
 
-/// A rule of a parsing expression grammar over whole trees. Numbers are positions in the table of rules; one beyond its end
-/// faults.
+/// A rule of a parsing expression grammar over whole trees. A number is the index of a rule in the
+/// table. An index beyond the end of the table faults.
 #[derive(Clone, Copy, Debug, Drop, PartialEq, Eq)]
 pub enum Node<'g> {
-    /// What a terminal says.
+    /// This terminal.
     Terminal(Terminal<'g>),
-    /// A group of this kind whose whole content is that rule.
+    /// A group of this kind whose whole content matches the rule.
     Inside(DelimiterKind, usize),
-    /// That rule.
+    /// The rule with this index.
     Part(usize),
-    /// The one, and after it the other.
+    /// The first rule, and after it the second.
     Then(usize, usize),
-    /// The one, or the other where the one doesn't fit.
+    /// The first rule, or the second if the first doesn't match.
     Or(usize, usize),
-    /// The rule, or nothing where it doesn't fit.
+    /// The rule, or nothing if it doesn't match.
     Maybe(usize),
-    /// The rule as often as it fits.
+    /// The rule as often as it matches.
     Repeated(usize),
-    /// The rule; a fault where it doesn't fit, which no alternative catches.
+    /// The rule. Faults if it doesn't match, and no alternative is tried then.
     Needed(usize),
-    /// Nothing, where the rule fits.
+    /// Consumes nothing. Matches if the rule matches.
     Ahead(usize),
-    /// Nothing, where the rule doesn't fit.
+    /// Consumes nothing. Matches if the rule doesn't match.
     NotAhead(usize),
 }
 
-/// A word that is no name in its edition and later ones, unless it is raw.
+/// A keyword, and the first edition that has it. In that edition and later ones, an identifier with
+/// this text is a name only if it is raw.
 #[derive(Clone, Copy, Debug, Drop, PartialEq, Eq)]
 pub struct Keyword<'g> {
     pub text: &'g str,

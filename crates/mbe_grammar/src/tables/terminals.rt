@@ -1,34 +1,38 @@
-// What is asked of the trees at the front. Each kind of terminal has a function of its own, which isn't inlined, so that a rule's frame
-// on the stack is small: a call of `take` clears it.
+// Terminals: tests of the trees at the front. Each kind of terminal has a function of its own that
+// isn't inlined. This keeps the frame of `take` on the stack small, which each call of `take`
+// clears.
 ghost use Rattle.std.specs.Prelude.{◌≡◌, map};
 ghost use Rattle.std.specs.List.{list_any};
 ghost use Rattle.std.specs.Str.{bytes_eq};
 ghost use Rattle.mbe_tt.specs.Trees.Glue.{chars_of};
 ghost use Rattle.mbe_tt.specs.Trees.Tree.{is_same_kind};
 ghost use Rattle.mbe_tt.specs.Views.View.{trees};
-ghost use Rattle.mbe_tt.specs.Views.Shown.{ident_of, literal_of};
+ghost use Rattle.mbe_tt.specs.Views.LeafViews.{ident_of, literal_of};
 ghost use Rattle.mbe_grammar.specs.Tables.Terminals as spec;
-ghost use Rattle.mbe_grammar.specs.Tables.Terminals.{or_absent, after_one, after_operator, at_end, if_since};
-ghost use Rattle.mbe_grammar.specs.Tables.SingleTrees.{is_word, is_one_of, is_name, is_keyword, is_identifier, is_literal, is_pointed, has_point, is_any, is_punct, is_group};
-ghost use Rattle.mbe_grammar.specs.Tables.Steps.{seen};
+ghost use Rattle.mbe_grammar.specs.Tables.Terminals.{or_no_match, after_one, after_operator};
+ghost use Rattle.mbe_grammar.specs.Tables.Terminals.{at_end, if_since};
+ghost use Rattle.mbe_grammar.specs.Tables.SingleTrees.{is_word, is_one_of, is_name, is_keyword};
+ghost use Rattle.mbe_grammar.specs.Tables.SingleTrees.{is_identifier, is_literal, is_pointed};
+ghost use Rattle.mbe_grammar.specs.Tables.SingleTrees.{has_point, is_any, is_punct, is_group};
+ghost use Rattle.mbe_grammar.specs.Tables.ParseResult.{result_model};
 
 use crate::tables::node::Terminal;
-use crate::tables::step::{Miss, Step};
-use crate::tables::table::{RuleTable, is_since};
+use crate::tables::parse_result::{ParseFailure, ParseResult};
+use crate::tables::peg_table::{RuleTable, is_since};
 use mbe_tt::span::Edition;
 use mbe_tt::tt::{
     DelimiterKind, Ident, IdentIsRaw, Leaf, LitKind, Literal, Punct, TokenTreesView, TtElement,
 };
 use std::alloc::Allocator;
 
-/// The trees after what a terminal takes.
+/// The trees after those that a terminal consumes.
 #[inline(never)]
 pub fn terminal<'t, A: Allocator>(
     table: &RuleTable<'_>,
     what: Terminal<'_>,
     tokens: TokenTreesView<'t, A>,
-) -> Step<'t, A>
-    ensures { seen result ≡ spec.terminal table.now what.entry (trees tokens.entry) }
+) -> ParseResult<'t, A>
+    ensures { result_model result ≡ spec.terminal table.now what.entry (trees tokens.entry) }
 {
     match what {
         Terminal::Word(text) => word(tokens, &[text]),
@@ -47,16 +51,16 @@ pub fn terminal<'t, A: Allocator>(
     }
 }
 
-/// The trees after a word: an identifier of one of those texts that isn't raw.
+/// The trees after a word: an identifier with one of these texts that isn't raw.
 #[inline]
-pub fn word<'t, A: Allocator>(tokens: TokenTreesView<'t, A>, texts: &[&str]) -> Step<'t, A>
-    ensures { seen result ≡ or_absent
+pub fn word<'t, A: Allocator>(tokens: TokenTreesView<'t, A>, texts: &[&str]) -> ParseResult<'t, A>
+    ensures { result_model result ≡ or_no_match
         (after_one (is_one_of (map (λ t. t.now) texts.now)) (trees tokens.entry)) }
 {
     let mut iter = tokens.iter();
     match iter.expect_ident_or_underscore() {
         Ok(ident) if is_word(ident, texts) => Ok(iter.remaining()),
-        _ => Err(Miss::Absent),
+        _ => Err(ParseFailure::NoMatch),
     }
 }
 
@@ -69,7 +73,7 @@ fn is_word<A: Allocator>(ident: &Ident<A>, texts: &[&str]) -> bool
     }
 }
 
-/// Whether the text is one of those.
+/// Whether the text is one of these texts.
 pub fn is_text_of(text: &str, texts: &[&str]) -> bool
     ensures { result ≡ list_any (λ t. bytes_eq text.now t.now) texts.now }
 {
@@ -78,24 +82,28 @@ pub fn is_text_of(text: &str, texts: &[&str]) -> bool
 
 /// The trees after an identifier.
 #[inline]
-pub fn identifier<'t, A: Allocator>(tokens: TokenTreesView<'t, A>) -> Step<'t, A>
-    ensures { seen result ≡ or_absent (after_one is_identifier (trees tokens.entry)) }
+pub fn identifier<'t, A: Allocator>(tokens: TokenTreesView<'t, A>) -> ParseResult<'t, A>
+    ensures { result_model result ≡ or_no_match (after_one is_identifier (trees tokens.entry)) }
 {
     let mut iter = tokens.iter();
     match iter.expect_ident_or_underscore() {
         Ok(_ident) => Ok(iter.remaining()),
-        Err(()) => Err(Miss::Absent),
+        Err(()) => Err(ParseFailure::NoMatch),
     }
 }
 
 #[inline(never)]
-fn name<'t, A: Allocator>(table: &RuleTable<'_>, tokens: TokenTreesView<'t, A>) -> Step<'t, A>
-    ensures { seen result ≡ or_absent (after_one (is_name table.now) (trees tokens.entry)) }
+fn name<'t, A: Allocator>(
+    table: &RuleTable<'_>,
+    tokens: TokenTreesView<'t, A>,
+) -> ParseResult<'t, A>
+    ensures { result_model result
+        ≡ or_no_match (after_one (is_name table.now) (trees tokens.entry)) }
 {
     let mut iter = tokens.iter();
     match iter.expect_ident() {
         Ok(ident) if !is_keyword(table, ident) => Ok(iter.remaining()),
-        _ => Err(Miss::Absent),
+        _ => Err(ParseFailure::NoMatch),
     }
 }
 
@@ -112,24 +120,24 @@ fn is_keyword<A: Allocator>(table: &RuleTable<'_>, ident: &Ident<A>) -> bool
 
 /// The trees after a literal.
 #[inline]
-pub fn literal<'t, A: Allocator>(tokens: TokenTreesView<'t, A>) -> Step<'t, A>
-    ensures { seen result ≡ or_absent (after_one is_literal (trees tokens.entry)) }
+pub fn literal<'t, A: Allocator>(tokens: TokenTreesView<'t, A>) -> ParseResult<'t, A>
+    ensures { result_model result ≡ or_no_match (after_one is_literal (trees tokens.entry)) }
 {
     let mut iter = tokens.iter();
     match iter.next() {
         Some(TtElement::Leaf(Leaf::Literal(_))) => Ok(iter.remaining()),
-        _ => Err(Miss::Absent),
+        _ => Err(ParseFailure::NoMatch),
     }
 }
 
 #[inline(never)]
-fn pointed<'t, A: Allocator>(tokens: TokenTreesView<'t, A>) -> Step<'t, A>
-    ensures { seen result ≡ or_absent (after_one is_pointed (trees tokens.entry)) }
+fn pointed<'t, A: Allocator>(tokens: TokenTreesView<'t, A>) -> ParseResult<'t, A>
+    ensures { result_model result ≡ or_no_match (after_one is_pointed (trees tokens.entry)) }
 {
     let mut iter = tokens.iter();
     match iter.next() {
         Some(TtElement::Leaf(Leaf::Literal(it))) if has_point(it) => Ok(iter.remaining()),
-        _ => Err(Miss::Absent),
+        _ => Err(ParseFailure::NoMatch),
     }
 }
 
@@ -141,24 +149,24 @@ fn has_point<A: Allocator>(it: &Literal<A>) -> bool
 }
 
 #[inline(never)]
-fn any<'t, A: Allocator>(tokens: TokenTreesView<'t, A>) -> Step<'t, A>
-    ensures { seen result ≡ or_absent (after_one is_any (trees tokens.entry)) }
+fn any<'t, A: Allocator>(tokens: TokenTreesView<'t, A>) -> ParseResult<'t, A>
+    ensures { result_model result ≡ or_no_match (after_one is_any (trees tokens.entry)) }
 {
     let mut iter = tokens.iter();
     match iter.next() {
-        None => Err(Miss::Absent),
+        None => Err(ParseFailure::NoMatch),
         Some(_) => Ok(iter.remaining()),
     }
 }
 
 #[inline(never)]
-fn end<'t, A: Allocator>(tokens: TokenTreesView<'t, A>) -> Step<'t, A>
-    ensures { seen result ≡ at_end (trees tokens.entry) }
+fn end<'t, A: Allocator>(tokens: TokenTreesView<'t, A>) -> ParseResult<'t, A>
+    ensures { result_model result ≡ at_end (trees tokens.entry) }
 {
     if tokens.iter().is_empty() {
         Ok(tokens)
     } else {
-        Err(Miss::Absent)
+        Err(ParseFailure::NoMatch)
     }
 }
 
@@ -167,39 +175,40 @@ fn since<'t, A: Allocator>(
     table: &RuleTable<'_>,
     edition: Edition,
     tokens: TokenTreesView<'t, A>,
-) -> Step<'t, A>
-    ensures { seen result ≡ if_since table.now edition (trees tokens.entry) }
+) -> ParseResult<'t, A>
+    ensures { result_model result ≡ if_since table.now edition (trees tokens.entry) }
 {
     match tokens.iter().next_span() {
         Some(span) if is_since(table.edition_of(span.ctx), edition) => Ok(tokens),
-        _ => Err(Miss::Absent),
+        _ => Err(ParseFailure::NoMatch),
     }
 }
 
-/// The trees after a punct of that char, whatever would be taken together with it.
+/// The trees after a punct with this char, even if it is the first of an operator.
 #[inline]
-pub fn sign<'t, A: Allocator>(tokens: TokenTreesView<'t, A>, char: char) -> Step<'t, A>
-    ensures { seen result ≡ or_absent (after_one (is_punct char) (trees tokens.entry)) }
+pub fn sign<'t, A: Allocator>(tokens: TokenTreesView<'t, A>, char: char) -> ParseResult<'t, A>
+    ensures { result_model result ≡ or_no_match (after_one (is_punct char) (trees tokens.entry)) }
 {
     let mut iter = tokens.iter();
     match iter.expect_char(char) {
         Ok(()) => Ok(iter.remaining()),
-        Err(()) => Err(Miss::Absent),
+        Err(()) => Err(ParseFailure::NoMatch),
     }
 }
 
-/// The trees after a group of one of those kinds.
+/// The trees after a group of one of these kinds.
 #[inline]
 pub fn group<'t, A: Allocator>(
     tokens: TokenTreesView<'t, A>,
     kinds: &[DelimiterKind],
-) -> Step<'t, A>
-    ensures { seen result ≡ or_absent (after_one (is_group kinds.now) (trees tokens.entry)) }
+) -> ParseResult<'t, A>
+    ensures { result_model result
+        ≡ or_no_match (after_one (is_group kinds.now) (trees tokens.entry)) }
 {
     let mut iter = tokens.iter();
     match iter.expect_subtree() {
         Ok((subtree, _inside)) if is_kind_of(subtree.delimiter.kind, kinds) => Ok(iter.remaining()),
-        _ => Err(Miss::Absent),
+        _ => Err(ParseFailure::NoMatch),
     }
 }
 
@@ -210,17 +219,17 @@ fn is_kind_of(kind: DelimiterKind, kinds: &[DelimiterKind]) -> bool
 }
 
 #[inline(never)]
-fn operator<'t, A: Allocator>(tokens: TokenTreesView<'t, A>, texts: &[&str]) -> Step<'t, A>
-    ensures { seen result ≡ or_absent
+fn operator<'t, A: Allocator>(tokens: TokenTreesView<'t, A>, texts: &[&str]) -> ParseResult<'t, A>
+    ensures { result_model result ≡ or_no_match
         (after_operator (map (λ t. t.now) texts.now) (trees tokens.entry)) }
 {
     let mut iter = tokens.iter();
     let Some(TtElement::Leaf(Leaf::Punct(_))) = iter.peek() else {
-        return Err(Miss::Absent);
+        return Err(ParseFailure::NoMatch);
     };
     match iter.expect_glued_punct() {
         Ok(glued) if are_one_of(glued.as_slice(), texts) => Ok(iter.remaining()),
-        _ => Err(Miss::Absent),
+        _ => Err(ParseFailure::NoMatch),
     }
 }
 

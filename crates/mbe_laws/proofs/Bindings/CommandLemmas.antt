@@ -1,19 +1,26 @@
 -- What a log binds by the commands of a reading is what the reading binds: each round binds the same names, so no list
 -- is filled up with empty lists.
-use Rattle.std.specs.Prelude.{◌≡◌, ◌⊎◌, ◌≤◌, ℕ, zero, suc, Bool, true, false, if◌then◌else◌, List, [], ◌∷◌, ◌++◌, Option, Some, None, refl}
+use Rattle.std.specs.Prelude.{◌≡◌, ◌⊎◌, ◌≤◌, ℕ, zero, suc, Bool, true, false, if◌then◌else◌, List, [], ◌∷◌, ◌++◌}
+use Rattle.std.specs.Prelude.{Option, Some, None, refl}
 use Rattle.std.proofs.Common.{arith, ap, sym, subst, ◌∙◌, inl, inr}
 use Rattle.std.proofs.lemmas.Option.{none-some}
 use Rattle.std.specs.Str.{bytes_eq}
 use Rattle.std.proofs.lemmas.Slice.Eq.{bytes_eq-Decides}
-use Rattle.mbe_semantics.specs.declared.kinds.RepeatKind.{RepeatKind}
-use Rattle.mbe_semantics.specs.Syntax.Op.{Name, Separator, Op, token, group, variable, repetition, expression, Ops, no_ops, op, names_of, names_of_op}
-use Rattle.mbe_semantics.specs.Readings.Item.{Item, matched, bound, grouped, skipped, rounds, Items, no_items, item, Rounds, no_rounds, round}
+use Rattle.mbe_semantics.specs.declared.fragment_kinds.RepeatKind.{RepeatKind}
+use Rattle.mbe_semantics.specs.Syntax.Op.{Name, Separator, Op, token, group, variable, repetition, expression, Ops}
+use Rattle.mbe_semantics.specs.Syntax.Op.{no_ops, op, names_of, names_of_op}
+use Rattle.mbe_semantics.specs.Readings.Item.{Item, matched, bound, grouped, skipped, rounds, Items, no_items, item}
+use Rattle.mbe_semantics.specs.Readings.Item.{Rounds, no_rounds, round}
 use Rattle.mbe_semantics.specs.Readings.Input.{Input, input_of}
 use Rattle.mbe_semantics.specs.Readings.Reading.{Reads, ReadsFirst, ReadsRounds}
 use Rattle.mbe_semantics.specs.Matching.Lists.{In}
-use Rattle.mbe_semantics.specs.Bindings.Environment.{Value, fragment, list, empty, missing, Values, no_values, value, Environment, value_of, set_value, add_value, grown, add_round, skip_names, bind_item, bind, bind_rounds}
-use Rattle.mbe_semantics.specs.Writing.Rounds.{value_count}
-use Rattle.mbe_semantics.specs.Bindings.Account.{Command, Commands, no_commands, command, filled, grown_in, add_round_in, round_count, run, run_rounds, skip_commands, write, write_item, rounds_of_items}
+use Rattle.mbe_semantics.specs.Bindings.Environment.{Value, fragment, list, empty, missing, Values, no_values, value}
+use Rattle.mbe_semantics.specs.Bindings.Environment.{Environment, value_of, set_value, add_value, grown, add_round}
+use Rattle.mbe_semantics.specs.Bindings.Environment.{skip_names, bind_item, bind, bind_rounds}
+use Rattle.mbe_semantics.specs.Transcription.Rounds.{value_count}
+use Rattle.mbe_semantics.specs.Bindings.Account.{Command, Commands, no_commands, command, filled, grown_in}
+use Rattle.mbe_semantics.specs.Bindings.Account.{add_round_in, round_count, run, run_rounds, skip_commands, write}
+use Rattle.mbe_semantics.specs.Bindings.Account.{write_item, rounds_of_items}
 use Rattle.mbe_semantics.specs.Laws.Laws.{CommandsBindAlike}
 
 -- ---- look-ups

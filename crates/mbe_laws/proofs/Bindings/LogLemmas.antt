@@ -1,8 +1,14 @@
 -- Each live handle of an ordered log has an account.
 use Rattle.std.specs.Prelude.{◌≡◌, ◌<◌, ◌≤◌, ◌+◌, ℕ, zero, suc, List, [], ◌∷◌, ◌++◌, take, slice_get, Some, refl}
 use Rattle.std.proofs.Common.{arith}
-use Rattle.mbe_semantics.specs.declared.log.Part.{Part}
-use Rattle.mbe_semantics.specs.Bindings.Account.{Command, Commands, CommandRounds, no_commands, command, no_command_rounds, command_round, Entry, RoundEntry, Log, Order, Gives, GivesRounds, PartGives, PartGivesRounds, gives_nothing, gives_binding, gives_empty, gives_skip, gives_missing, gives_nested, gives_link, gives_no_rounds, gives_round, gives_linked_rounds, part_gives, part_gives_rounds, IsBelow, AreRoundsBelow, NamesLower, RoundNamesLower, IsOrdered}
+use Rattle.mbe_semantics.specs.declared.list_prefix.ListPrefix.{ListPrefix}
+use Rattle.mbe_semantics.specs.Bindings.Account.{Command, Commands, CommandRounds, no_commands, command}
+use Rattle.mbe_semantics.specs.Bindings.Account.{no_command_rounds, command_round, Entry, RoundEntry, Log, Order, Gives}
+use Rattle.mbe_semantics.specs.Bindings.Account.{GivesRounds, PartGives, PartGivesRounds, gives_nothing, gives_binding}
+use Rattle.mbe_semantics.specs.Bindings.Account.{gives_empty, gives_skip, gives_missing, gives_nested, gives_link}
+use Rattle.mbe_semantics.specs.Bindings.Account.{gives_no_rounds, gives_round, gives_linked_rounds, part_gives}
+use Rattle.mbe_semantics.specs.Bindings.Account.{part_gives_rounds, IsBelow, AreRoundsBelow, NamesLower}
+use Rattle.mbe_semantics.specs.Bindings.Account.{RoundNamesLower, IsOrdered}
 use Rattle.mbe_semantics.specs.Laws.Laws.{EntriesHaveAccounts, EntriesFollow}
 use Rattle.mbe_semantics.proofs.GivesLemmas.{follow, rounds_follow}
 
@@ -47,14 +53,14 @@ module _ (log : Log) (order : Order) where
   RoundsGive n = (es : List RoundEntry) → AreRoundsReady n es → (rs : CommandRounds)
       → (all : CommandRounds) × GivesRounds log rs es all
 
-  part_some : IsOrdered log order → (n k : ℕ) (part : Part) → k ≤ n → ListsGive n → IsBelow log order k part
+  part_some : IsOrdered log order → (n k : ℕ) (part : ListPrefix) → k ≤ n → ListsGive n → IsBelow log order k part
       → (cs : Commands) → (all : Commands) × PartGives log cs part all
   part_some o n k part h give b cs =
       let p = give (take part.first b.0.0) (ready_list n part.first (order.commands part.list) b.0.0
       (λ j l. let a = b.1 j l in omega (arith, h, a)) (λ j e x. o.commands part.list j b.0.0 e b.0.1 x)) cs in
       (p.0, part_gives cs part p.0 b.0.0 b.0.1 b.0.2 p.1)
 
-  rounds_part_some : IsOrdered log order → (n k : ℕ) (part : Part) → k ≤ n → RoundsGive n
+  rounds_part_some : IsOrdered log order → (n k : ℕ) (part : ListPrefix) → k ≤ n → RoundsGive n
       → AreRoundsBelow log order k part → (rs : CommandRounds) →
       (all : CommandRounds) × PartGivesRounds log rs part all
   rounds_part_some o n k part h give b rs =

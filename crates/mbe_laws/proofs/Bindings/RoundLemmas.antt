@@ -1,22 +1,27 @@
 -- In a kept round each name of the body leads to a value.
-use Rattle.std.specs.Prelude.{◌≡◌, ◌<◌, ◌⊎◌, ℕ, zero, suc, min, List, [], ◌∷◌, ◌++◌, Option, Some, None, option_map, option_and_then, filter_map, refl}
+use Rattle.std.specs.Prelude.{◌≡◌, ◌<◌, ◌⊎◌, ℕ, zero, suc, min, List, [], ◌∷◌, ◌++◌, Option, Some, None, option_map}
+use Rattle.std.specs.Prelude.{option_and_then, filter_map, refl}
 use Rattle.std.proofs.Common.{arith, ap, sym, ◌∙◌, subst}
 use Rattle.std.proofs.lemmas.Option.{none-some, same_Some}
 use Rattle.std.specs.List.{cons_option}
-use Rattle.mbe_semantics.specs.declared.kinds.RepeatKind.{RepeatKind}
-use Rattle.mbe_semantics.specs.declared.kinds.RepeatKind.TheVariants.{ZeroOrMore, OneOrMore, ZeroOrOne}
+use Rattle.mbe_semantics.specs.declared.fragment_kinds.RepeatKind.{RepeatKind}
+use Rattle.mbe_semantics.specs.declared.fragment_kinds.RepeatKind.TheVariants.{ZeroOrMore, OneOrMore, ZeroOrOne}
 use Rattle.mbe_semantics.specs.Syntax.Op.{Name, Use, used_name, uses_of}
-use Rattle.mbe_semantics.specs.Bindings.Environment.{Value, fragment, list, empty, missing, Values, no_values, value, Environment, value_of}
-use Rattle.mbe_semantics.specs.declared.rounds.Level.{Level}
-use Rattle.mbe_semantics.specs.Writing.Rounds.{Path, member, value_count, follow, reach, reached, Extent, finite, endless, extent_of, extent_under, lesser, least_extent, extent_over, kept}
+use Rattle.mbe_semantics.specs.Bindings.Environment.{Value, fragment, list, empty, missing, Values, no_values, value}
+use Rattle.mbe_semantics.specs.Bindings.Environment.{Environment, value_of}
+use Rattle.mbe_semantics.specs.declared.current_round.CurrentRound.{CurrentRound}
+use Rattle.mbe_semantics.specs.Transcription.Rounds.{Path, member, value_count, follow, reach, reached, Extent, finite}
+use Rattle.mbe_semantics.specs.Transcription.Rounds.{endless, extent_of, extent_under, lesser, least_extent}
+use Rattle.mbe_semantics.specs.Transcription.Rounds.{extent_over, kept}
 use Rattle.mbe_semantics.specs.Laws.Laws.{IsUsed, RoundsHaveValues}
 
 -- after a longer path the value stays, or it is one that each index reached
-Longer : Path → Level → Value → Value → Type 0
+Longer : Path → CurrentRound → Value → Value → Type 0
 Longer path l v w =
     (follow (path ++ l ∷ []) v ≡ Some w) ⊎ ((reach path v ≡ Some w) × (follow (path ++ l ∷ []) v ≡ follow (l ∷ []) w))
 
-under_member : (path : Path) (l : Level) (w : Value) → ((v w : Value) → follow path v ≡ Some w → Longer path l v w)
+under_member : (path : Path) (l : CurrentRound) (w : Value)
+    → ((v w : Value) → follow path v ≡ Some w → Longer path l v w)
     → (r : Option Value) →
     option_and_then (follow path) r ≡ Some w →
     (option_and_then (follow (path ++ l ∷ [])) r ≡ Some w)
@@ -25,7 +30,7 @@ unfolding Longer
 under_member path l w ih None e = absurd (none-some w e)
 under_member path l w ih (Some u) e = ih u w e
 
-follow_longer : (path : Path) (l : Level) (v w : Value) → follow path v ≡ Some w → Longer path l v w
+follow_longer : (path : Path) (l : CurrentRound) (v w : Value) → follow path v ≡ Some w → Longer path l v w
 unfolding Longer
 follow_longer [] l v w e = ◌⊎◌.inr (e, ap (follow (l ∷ [])) (same_Some v w e))
 follow_longer (k ∷ path) l (fragment x) w e = ◌⊎◌.inl e
@@ -90,14 +95,14 @@ member_below no_values i h = absurd (omega (arith, h))
 member_below (value v vs) zero h = (v, refl)
 member_below (value v vs) (suc i) h = member_below vs i (omega (arith, h))
 
-step_below : (l : Level) (u : Use) (w : Value) → Below l.index (extent_of u w)
+step_below : (l : CurrentRound) (u : Use) (w : Value) → Below l.index (extent_of u w)
     → (v : Value) × (follow (l ∷ []) w ≡ Some v)
 step_below l u (fragment x) h = (fragment x, refl)
 step_below l u empty h = absurd (omega (arith, h))
 step_below l u (missing kind) h = (missing kind, refl)
 step_below l u (list vs) h = let p = member_below vs l.index h in (p.0, ap (option_and_then (follow [])) p.1)
 
-has_value : (path : Path) (l : Level) (w : Value) (r : Option Value) → option_and_then (follow path) r ≡ Some w →
+has_value : (path : Path) (l : CurrentRound) (w : Value) (r : Option Value) → option_and_then (follow path) r ≡ Some w →
     (option_and_then (reach path) r ≡ Some w → (u : Use) × Below l.index (extent_of u w))
     → (v : Value) × (option_and_then (follow (path ++ l ∷ [])) r ≡ Some v)
 unfolding Longer

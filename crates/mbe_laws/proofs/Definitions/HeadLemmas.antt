@@ -1,5 +1,6 @@
 -- All trees are ops or have a fault, where each context has an edition: what comes after a head is shorter.
-use Rattle.std.specs.Prelude.{◌≡◌, ◌⊎◌, ◌<◌, ◌≤◌, ◌+◌, ◌==◌, ℕ, zero, suc, Bool, true, false, not, ◌&&◌, if◌then◌else◌, [], length, codes, option_map, Option, Some, None, Result, Ok, Err, refl}
+use Rattle.std.specs.Prelude.{◌≡◌, ◌⊎◌, ◌<◌, ◌≤◌, ◌+◌, ◌==◌, ℕ, zero, suc, Bool, true, false, not, ◌&&◌, if◌then◌else◌}
+use Rattle.std.specs.Prelude.{[], length, codes, option_map, Option, Some, None, Result, Ok, Err, refl}
 use Rattle.std.proofs.Common.{arith, ap, inl, inr}
 use Rattle.std.proofs.lemmas.Option.{none-some, same_Some}
 use Rattle.mbe_tt.specs.declared.span.Span.{Span}
@@ -9,14 +10,22 @@ use Rattle.mbe_tt.specs.declared.tt.Punct.{Punct}
 use Rattle.mbe_tt.specs.declared.tt.DelimiterKind.{DelimiterKind}
 use Rattle.mbe_tt.specs.declared.tt.DelimiterKind.TheVariants as delimiters
 use Rattle.mbe_tt.specs.Trees.Leaf.{Ident, literal, punct, ident, is_text, is_underscore}
-use Rattle.mbe_tt.specs.Trees.Tree.{Forest, none, leaf, group, append, flat_len, cut_trees, is_truth}
+use Rattle.mbe_tt.specs.Trees.Tree.{Forest, none, leaf, group, append, flat_len, cut_trees, is_bool_text}
 use Rattle.mbe_tt.specs.Trees.Glue.{glue, if_joint, joined}
-use Rattle.mbe_tt.proofs.Places.CutLemmas.{cut_trees-append, flat_len-append}
-use Rattle.mbe_semantics.specs.declared.kinds.MetaVarKind.{MetaVarKind}
-use Rattle.mbe_semantics.specs.declared.kinds.RepeatKind.{RepeatKind}
+use Rattle.mbe_tt.proofs.Offsets.CutLemmas.{cut_trees-append, flat_len-append}
+use Rattle.mbe_semantics.specs.declared.fragment_kinds.MetaVarKind.{MetaVarKind}
+use Rattle.mbe_semantics.specs.declared.fragment_kinds.RepeatKind.{RepeatKind}
 use Rattle.mbe_semantics.specs.Syntax.Op as ops
 use Rattle.mbe_semantics.specs.Syntax.Op.{Name, Separator, Expression, Op, Ops, no_ops, op}
-use Rattle.mbe_semantics.specs.Syntax.Template.{Mode, pattern, template, Fault, expected, Suffix, repeat_of, leaf_in_suffix, punct_in_suffix, suffix_of, separator_of, expression_of, Head, ended, one, typed, opens_group, opens_repetition, specifier_at, missing_specifier, variable_at, second_dollar, repetition_with, repetition_at, expression_at, group_after_dollar, after_dollar, puncts_at, head, dollar_crate, Specifies, dated_pat, dated_expr, undated, Template, nothing, token, variable, grouped, repeated, TemplateFault, here, in_group, in_repetition, after_token, after_variable, following_group, after_repetition}
+use Rattle.mbe_semantics.specs.Syntax.Template.{Mode, pattern, template, Fault, expected, Suffix, repeat_of}
+use Rattle.mbe_semantics.specs.Syntax.Template.{leaf_in_suffix, punct_in_suffix, suffix_of, separator_of, expression_of}
+use Rattle.mbe_semantics.specs.Syntax.Template.{Head, ended, one, typed, opens_group, opens_repetition, specifier_at}
+use Rattle.mbe_semantics.specs.Syntax.Template.{missing_specifier, variable_at, second_dollar, repetition_with}
+use Rattle.mbe_semantics.specs.Syntax.Template.{repetition_at, expression_at, group_after_dollar, after_dollar}
+use Rattle.mbe_semantics.specs.Syntax.Template.{puncts_at, head, dollar_crate, Specifies, dated_pat, dated_expr}
+use Rattle.mbe_semantics.specs.Syntax.Template.{undated, Template, nothing, token, variable, grouped, repeated}
+use Rattle.mbe_semantics.specs.Syntax.Template.{TemplateFault, here, in_group, in_repetition, after_token}
+use Rattle.mbe_semantics.specs.Syntax.Template.{after_variable, following_group, after_repetition}
 use Rattle.mbe_semantics.specs.Laws.Laws.{HasSomeEdition, HasOpsOrFault}
 use Rattle.mbe_semantics.proofs.MoveLemmas.{some_operator, leaf_moves}
 
@@ -109,7 +118,7 @@ dollar_shorter mode p n (leaf (ident i) rest) h = go (is_text i.sym (codes "crat
     go : (b : Bool) → Shorter n (if b then Ok (one (dollar_crate i) rest) else variable_at mode i.sym i.span rest)
     go true = omega (arith, h)
     go false = variable_shorter mode i.sym i.span n rest (omega (arith, h))
-dollar_shorter mode p n (leaf (literal l) rest) h = go (is_truth l.text_and_suffix)
+dollar_shorter mode p n (leaf (literal l) rest) h = go (is_bool_text l.text_and_suffix)
   where
     go : (b : Bool) → Shorter n (if b then variable_at mode l.text_and_suffix l.span rest else Err
         (expected (codes "expected ident")))

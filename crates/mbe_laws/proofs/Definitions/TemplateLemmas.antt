@@ -1,5 +1,6 @@
 -- Trees that are ops have no fault. With one edition a context, the ops are one, and so are a definition's rules.
-use Rattle.std.specs.Prelude.{◌≡◌, ◌⊎◌, Bool, true, false, List, [], ◌∷◌, ℕ, codes, Option, Some, None, Result, Ok, Err, refl}
+use Rattle.std.specs.Prelude.{◌≡◌, ◌⊎◌, Bool, true, false, List, [], ◌∷◌, ℕ, codes, Option, Some, None, Result, Ok, Err}
+use Rattle.std.specs.Prelude.{refl}
 use Rattle.std.proofs.Common.{sym, ap, subst, ◌∙◌, inl, inr}
 use Rattle.std.specs.Str.{bytes_eq}
 use Rattle.std.proofs.lemmas.Slice.Eq.{bytes_eq-Decides}
@@ -7,12 +8,18 @@ use Rattle.mbe_tt.specs.declared.span.SyntaxContext.{SyntaxContext}
 use Rattle.mbe_tt.specs.declared.span.Edition.{Edition}
 use Rattle.mbe_tt.specs.Trees.Leaf.{Ident}
 use Rattle.mbe_tt.specs.Trees.Tree.{Forest, none}
-use Rattle.mbe_semantics.specs.declared.kinds.MetaVarKind.{MetaVarKind}
+use Rattle.mbe_semantics.specs.declared.fragment_kinds.MetaVarKind.{MetaVarKind}
 use Rattle.mbe_semantics.specs.Syntax.Op as ops
 use Rattle.mbe_semantics.specs.Syntax.Op.{Op, Ops, no_ops, op}
-use Rattle.mbe_semantics.specs.Syntax.Template.{Mode, pattern, template, Fault, Head, ended, one, typed, opens_group, opens_repetition, head, pat_kind, expr_kind, Specifies, dated_pat, dated_expr, undated, Template, nothing, token, variable, grouped, repeated, TemplateFault, here, in_group, in_repetition, after_token, after_variable, following_group, after_repetition}
+use Rattle.mbe_semantics.specs.Syntax.Template.{Mode, pattern, template, Fault, Head, ended, one, typed, opens_group}
+use Rattle.mbe_semantics.specs.Syntax.Template.{opens_repetition, head, pat_kind, expr_kind, Specifies, dated_pat}
+use Rattle.mbe_semantics.specs.Syntax.Template.{dated_expr, undated, Template, nothing, token, variable, grouped}
+use Rattle.mbe_semantics.specs.Syntax.Template.{repeated, TemplateFault, here, in_group, in_repetition, after_token}
+use Rattle.mbe_semantics.specs.Syntax.Template.{after_variable, following_group, after_repetition}
 use Rattle.mbe_semantics.specs.Syntax.Definition as definition
-use Rattle.mbe_semantics.specs.Syntax.Definition.{Rule, RuleTrees, rule_trees_at, after_separator, AreParts, PartsFault, in_pattern, in_template, Rules, no_rule, faulty_rule, unseparated, separated, with_refusal, IsMacroOfArguments, one_rule, faulty}
+use Rattle.mbe_semantics.specs.Syntax.Definition.{Rule, RuleTrees, rule_trees_at, after_separator, AreParts, PartsFault}
+use Rattle.mbe_semantics.specs.Syntax.Definition.{in_pattern, in_template, Rules, no_rule, faulty_rule, unseparated}
+use Rattle.mbe_semantics.specs.Syntax.Definition.{separated, with_refusal, IsMacroOfArguments, one_rule, faulty}
 use Rattle.mbe_semantics.specs.Laws.Laws.{HasOneEdition, OpsOrFault, OneTemplate, OneDefinition}
 
 both : (b : Bool) → b ≡ true → b ≡ false → ⊥

@@ -6,19 +6,24 @@ use Rattle.mbe_tt.specs.declared.tt.Punct.{Punct}
 use Rattle.mbe_tt.specs.declared.tt.DelimiterKind.TheVariants.{Invisible}
 use Rattle.mbe_tt.specs.Trees.Leaf.{literal, punct, ident}
 use Rattle.mbe_tt.specs.Trees.Tree.{Forest, none, leaf, group, append, alone, strip_invisible}
-use Rattle.mbe_tt.specs.Fragments.Grammar.{Grammar}
+use Rattle.mbe_tt.specs.Grammars.Grammar.{Grammar}
 use Rattle.mbe_semantics.specs.declared.macro_call_style.MacroCallStyle.{MacroCallStyle}
 use Rattle.mbe_semantics.specs.Syntax.Op as ops
-use Rattle.mbe_semantics.specs.Syntax.Op.{Name, Token, Expression, ignore, count, index, len, concat, Op, Ops, no_ops, op}
+use Rattle.mbe_semantics.specs.Syntax.Op.{Name, Token, Expression, ignore, count, index, len, concat, Op, Ops, no_ops}
+use Rattle.mbe_semantics.specs.Syntax.Op.{op}
 use Rattle.mbe_semantics.specs.Syntax.Definition.{Rule}
 use Rattle.mbe_semantics.specs.Fragments.Kinds.{Style, plain, stripped, as_expression, as_path}
 use Rattle.mbe_semantics.specs.Bindings.Missing.{default_trees}
 use Rattle.mbe_semantics.specs.Readings.Ambiguity.{Fits}
-use Rattle.mbe_semantics.specs.Bindings.Environment.{Value, fragment, list, empty, missing, Environment, value_of, environment_of}
-use Rattle.mbe_semantics.specs.Writing.Rounds.{Path, Extent, finite, endless, kept_rounds, followed, level}
-use Rattle.mbe_semantics.specs.Writing.Concat.{concat_text}
-use Rattle.mbe_semantics.specs.Writing.Written.{needs_parentheses, in_parentheses, IsParenthesized, IsWrittenAs}
-use Rattle.mbe_semantics.specs.Writing.Substitution.{rawness, separator_trees, AreRounds, AreKeptRounds, AreMarkedPuncts, IsMarked, IsVariable, IsConcat, IsExpression, Writes, Substitutes, IsSubstitution}
+use Rattle.mbe_semantics.specs.Bindings.Environment.{Value, fragment, list, empty, missing, Environment, value_of}
+use Rattle.mbe_semantics.specs.Bindings.Environment.{environment_of}
+use Rattle.mbe_semantics.specs.Transcription.Rounds.{Path, Extent, finite, endless, kept_rounds, followed, level}
+use Rattle.mbe_semantics.specs.Transcription.Concat.{concat_text}
+use Rattle.mbe_semantics.specs.Transcription.FragmentTrees.{needs_parentheses, in_parentheses, IsParenthesized}
+use Rattle.mbe_semantics.specs.Transcription.FragmentTrees.{IsFragmentOutput}
+use Rattle.mbe_semantics.specs.Transcription.Substitution.{rawness, separator_trees, AreRounds, AreKeptRounds}
+use Rattle.mbe_semantics.specs.Transcription.Substitution.{AreMarkedPuncts, IsMarked, IsVariable, IsConcat}
+use Rattle.mbe_semantics.specs.Transcription.Substitution.{IsExpression, Writes, Substitutes, IsSubstitution}
 use Rattle.mbe_semantics.specs.Expansion.Expansion.{Applies, FirstThatApplies, this_one, a_later_one}
 use Rattle.mbe_semantics.specs.Laws.Laws.{HasOneAnswer, OneExpansion}
 
@@ -29,8 +34,9 @@ module _ (g : Grammar) (Marks : Span → Span → Type 0) (call_site : Span) (fn
   parenthesized_same true span f out other (s, m, d) (t, n, e) =
       d ∙ ap (λ x. in_parentheses x f) (fn span s t m n) ∙ sym e
 
-  written_same : (style : Style) (span : Span) (f out other : Forest) → IsWrittenAs Marks call_site style span f out
-      → IsWrittenAs Marks call_site style span f other → out ≡ other
+  written_same : (style : Style) (span : Span) (f out other : Forest)
+      → IsFragmentOutput Marks call_site style span f out
+      → IsFragmentOutput Marks call_site style span f other → out ≡ other
   written_same plain span f out other d e = d ∙ sym e
   written_same stripped span f out other d e = d ∙ sym e
   written_same as_path span f out other d e = d ∙ sym e

@@ -1,15 +1,19 @@
 -- A beginning of a reading ends in the argument.
 use Rattle.std.specs.Prelude.{◌≡◌, ◌≤◌, ◌<◌, ◌+◌, ℕ, zero, suc, true, Option, Some, None, List, [], ◌∷◌, refl}
 use Rattle.std.proofs.Common.{arith}
-use Rattle.mbe_semantics.specs.declared.kinds.MetaVarKind.{MetaVarKind}
-use Rattle.mbe_semantics.specs.declared.kinds.RepeatKind.{RepeatKind}
+use Rattle.mbe_semantics.specs.declared.fragment_kinds.MetaVarKind.{MetaVarKind}
+use Rattle.mbe_semantics.specs.declared.fragment_kinds.RepeatKind.{RepeatKind}
 use Rattle.mbe_tt.specs.declared.tt.DelimiterKind.{DelimiterKind}
 use Rattle.mbe_tt.specs.Trees.Tree.{flat_len}
-use Rattle.mbe_semantics.specs.Syntax.Op.{Token, Separator, Op, token, group, variable, repetition, expression, Ops, no_ops, op}
-use Rattle.mbe_semantics.specs.Readings.Item.{Fragment, Item, matched, bound, grouped, skipped, rounds, Items, no_items, item, Rounds, no_rounds, round, item_width, items_width, rounds_width}
+use Rattle.mbe_semantics.specs.Syntax.Op.{Token, Separator, Op, token, group, variable, repetition, expression, Ops}
+use Rattle.mbe_semantics.specs.Syntax.Op.{no_ops, op}
+use Rattle.mbe_semantics.specs.Readings.Item.{Fragment, Item, matched, bound, grouped, skipped, rounds, Items, no_items}
+use Rattle.mbe_semantics.specs.Readings.Item.{item, Rounds, no_rounds, round, item_width, items_width, rounds_width}
 use Rattle.mbe_semantics.specs.Readings.Input.{Input}
-use Rattle.mbe_semantics.specs.Readings.Reading.{Reads, ReadsFirst, ReadsRounds, Between, Frame, inside, within, Beginning, dot, body_of, start_of, place, Within, Begins}
-use Rattle.mbe_semantics.specs.Laws.Laws.{BeginningsEndInside}
+use Rattle.mbe_semantics.specs.Readings.Reading.{Reads, ReadsFirst, ReadsRounds, Between, Frame, inside, within}
+use Rattle.mbe_semantics.specs.Readings.Reading.{PartialReading, partial, body_of, start_of, offset, AreOpen}
+use Rattle.mbe_semantics.specs.Readings.Reading.{IsPartialReading}
+use Rattle.mbe_semantics.specs.Laws.Laws.{PartialReadingsEndInside}
 use Rattle.mbe_semantics.proofs.InputLemmas as inputs
 
 module _ (i : Input) (n : ℕ)
@@ -72,7 +76,7 @@ module _ (i : Input) (n : ℕ)
         let d = between_ends s (p + rounds_width rs + items_width is) w b c in
         omega (arith, d)
 
-  start_ends : (pat : Ops) (up : List Frame) → Within i pat up → start_of up ≤ n
+  start_ends : (pat : Ops) (up : List Frame) → AreOpen i pat up → start_of up ≤ n
   start_ends pat [] v = omega arith
   start_ends pat (inside d b rest is ∷ up) (v, r, o) = let k =
       opens_end d.kind (start_of up + items_width is) o in omega (arith, k)
@@ -81,11 +85,11 @@ module _ (i : Input) (n : ℕ)
       let c = items_end is (body_of pat up) (start_of up) (op (repetition b s k) rest) r a in
       rounds_end rs b s k (start_of up + items_width is) q c
 
-  pub ends : (pat : Ops) (y : Beginning) → Begins i pat y → place y ≤ n
-  ends pat (dot rest is up) (v, r) = items_end is (body_of pat up) (start_of up) rest r (start_ends pat up v)
+  pub ends : (pat : Ops) (y : PartialReading) → IsPartialReading i pat y → offset y ≤ n
+  ends pat (partial rest is up) (v, r) = items_end is (body_of pat up) (start_of up) rest r (start_ends pat up v)
 
-pub beginnings_end_inside : BeginningsEndInside
-beginnings_end_inside g pattern argument y b =
+pub partial_readings_end_inside : PartialReadingsEndInside
+partial_readings_end_inside g pattern argument y b =
     ends _ (flat_len argument) (inputs.token_end g argument) (inputs.fragment_end g argument)
     (inputs.separator_end g argument)
     (inputs.opens_end g argument) (inputs.closes_end g argument) pattern y b

@@ -1,5 +1,6 @@
 -- A list of trees has no key twice, and holds all that idle steps lead to. Speaks of no pattern.
-use Rattle.std.proofs.Common.{ℕ, zero, suc, ◌+◌, ◌≡◌, ◌⊎◌, ◌<◌, ◌≤◌, inl, inr, Bool, true, false, List, [], ◌∷◌, ◌++◌, refl, sym, ◌∙◌, ap, subst, arith, eq-or-lt_of_le}
+use Rattle.std.proofs.Common.{ℕ, zero, suc, ◌+◌, ◌≡◌, ◌⊎◌, ◌<◌, ◌≤◌, inl, inr, Bool, true, false, List, [], ◌∷◌, ◌++◌}
+use Rattle.std.proofs.Common.{refl, sym, ◌∙◌, ap, subst, arith, eq-or-lt_of_le}
 use Rattle.std.specs.List.{flat_map}
 use Rattle.mbe_semantics.specs.Readings.Steps.{tree}
 use Rattle.mbe_semantics.specs.Matching.Lists.{In, Distinct, NoneAt}

@@ -1,19 +1,26 @@
 -- A number that falls at each idle step.
-use Rattle.std.proofs.Common.{ℕ, zero, suc, ◌+◌, ◌-◌, ◌≡◌, ◌<◌, inl, inr, Option, Some, None, Bool, true, false, ◌&&◌, List, [], ◌∷◌, ◌++◌, refl, sym, ◌∙◌, ap, subst, arith}
+use Rattle.std.proofs.Common.{ℕ, zero, suc, ◌+◌, ◌-◌, ◌≡◌, ◌<◌, inl, inr, Option, Some, None, Bool, true, false, ◌&&◌}
+use Rattle.std.proofs.Common.{List, [], ◌∷◌, ◌++◌, refl, sym, ◌∙◌, ap, subst, arith}
 use Rattle.std.proofs.lemmas.Bool.{or_parts}
-use Rattle.mbe_semantics.specs.declared.kinds.RepeatKind.{RepeatKind}
-use Rattle.mbe_semantics.specs.declared.kinds.RepeatKind.TheVariants.{ZeroOrMore, OneOrMore, ZeroOrOne}
-use Rattle.mbe_semantics.specs.Syntax.Op.{Separator, Op, token, group, variable, repetition, expression, Ops, no_ops, op}
-use Rattle.mbe_semantics.specs.Readings.Item.{Item, matched, bound, grouped, skipped, rounds, Items, no_items, item, Rounds, item_width, items_width, rounds_width}
+use Rattle.mbe_semantics.specs.declared.fragment_kinds.RepeatKind.{RepeatKind}
+use Rattle.mbe_semantics.specs.declared.fragment_kinds.RepeatKind.TheVariants.{ZeroOrMore, OneOrMore, ZeroOrOne}
+use Rattle.mbe_semantics.specs.Syntax.Op.{Separator, Op, token, group, variable, repetition, expression, Ops, no_ops}
+use Rattle.mbe_semantics.specs.Syntax.Op.{op}
+use Rattle.mbe_semantics.specs.Readings.Item.{Item, matched, bound, grouped, skipped, rounds, Items, no_items, item}
+use Rattle.mbe_semantics.specs.Readings.Item.{Rounds, item_width, items_width, rounds_width}
 use Rattle.mbe_semantics.specs.Readings.Input.{Input}
-use Rattle.mbe_semantics.specs.Readings.Reading.{MaySkip, Reads, ReadsFirst, Frame, inside, within, Beginning, dot, body_of, start_of, Within, At}
-use Rattle.mbe_semantics.specs.Readings.Steps.{matched_by, bound_as, skip_of, again_of, if_none, empty_of, idle, tree}
+use Rattle.mbe_semantics.specs.Readings.Reading.{MaySkip, Reads, ReadsFirst, Frame, inside, within, PartialReading}
+use Rattle.mbe_semantics.specs.Readings.Reading.{partial, body_of, start_of, AreOpen, EndsAt}
+use Rattle.mbe_semantics.specs.Readings.Steps.{matched_item, bound_item, skip_of, another_round, if_none, empty_item}
+use Rattle.mbe_semantics.specs.Readings.Steps.{epsilons, tree}
 use Rattle.mbe_semantics.specs.Matching.Lists.{In}
-use Rattle.mbe_semantics.specs.Syntax.Nullable.{may_skip, is_nullable_op, is_nullable, is_unseparated, is_refused_op, is_refused, Checked}
+use Rattle.mbe_semantics.specs.Syntax.Nullable.{may_skip, is_nullable_op, is_nullable, is_unseparated, is_refused_op}
+use Rattle.mbe_semantics.specs.Syntax.Nullable.{is_refused, Checked}
 use Rattle.mbe_semantics.specs.Laws.Lawful.{Lawful}
-use Rattle.mbe_semantics.specs.Matching.Held.{whole, held}
-use Rattle.mbe_semantics.specs.Matching.Outline.{edges_of, ops_size, spare, edges_rank, rank}
-use Rattle.mbe_semantics.specs.Readings.Steps.{matched_by, bound_as, skip_of, again_of, if_none, empty_of, idle, tree}
+use Rattle.mbe_semantics.specs.Matching.Closure.{whole, closure}
+use Rattle.mbe_semantics.specs.Matching.ThreadModel.{frames_of, ops_size, spare, frames_rank, rank}
+use Rattle.mbe_semantics.specs.Readings.Steps.{matched_item, bound_item, skip_of, another_round, if_none, empty_item}
+use Rattle.mbe_semantics.specs.Readings.Steps.{epsilons, tree}
 use Rattle.std.specs.List.{flat_map}
 use Rattle.mbe_laws.proofs.Matching.Forest.{tree-steady}
 use Rattle.mbe_laws.proofs.Matching.Sound.{idle-sound}
@@ -33,7 +40,7 @@ checked_op : (is : Items) (i : Input) (os : Ops) (p : ℕ) (o : Op) (rest : Ops)
 checked_op is i os p o rest h c =
     (or_parts (is_refused_op o) (is_refused rest) (checked_rest is i os p (op o rest) h c)).0
 
-checked_body : (i : Input) (pat : Ops) (up : List Frame) → Within i pat up → Checked pat → Checked (body_of pat up)
+checked_body : (i : Input) (pat : Ops) (up : List Frame) → AreOpen i pat up → Checked pat → Checked (body_of pat up)
 checked_body i pat [] h c = c
 checked_body i pat (inside d b rest js ∷ up) h c =
     checked_op js i (body_of pat up) (start_of up) (group d b) rest h.1 (checked_body i pat up h.0 c)
@@ -43,7 +50,7 @@ checked_body i pat (within b s k rest js rs ∷ up) h c =
 
 checked_frame : (i : Input) (pat : Ops) (b : Ops) (s : Option Separator) (k : RepeatKind) (rest : Ops) (js : Items)
     (rs : Rounds) (up : List Frame) →
-    Within i pat (within b s k rest js rs ∷ up) → Checked pat → s ≡ None → is_nullable b ≡ false
+    AreOpen i pat (within b s k rest js rs ∷ up) → Checked pat → s ≡ None → is_nullable b ≡ false
 checked_frame i pat b s k rest js rs up h c e =
     and_false (is_unseparated s) (is_nullable b)
     (or_parts (is_unseparated s && is_nullable b) (is_refused b)
@@ -90,47 +97,49 @@ spare_positive (suc u) n h = refl
 spare_none : (u n : ℕ) → u ≡ 0 → spare u n ≡ 0
 spare_none u n e = ap (λ v. spare v n) e
 
-AllBelow : ℕ → ℕ → List Beginning → Type 0
-AllBelow q n ys = (y : Beginning) → In y ys → rank q y < n
+AllBelow : ℕ → ℕ → List PartialReading → Type 0
+AllBelow q n ys = (y : PartialReading) → In y ys → rank q y < n
 
-below_one : (q n : ℕ) (x : Beginning) → rank q x < n → AllBelow q n (x ∷ [])
+below_one : (q n : ℕ) (x : PartialReading) → rank q x < n → AllBelow q n (x ∷ [])
 unfolding AllBelow
 below_one q n x a y (inl e) = subst (λ v. rank q v < n) (sym e) a
 below_one q n x a y (inr h) = absurd h
 
-below_two : (q n : ℕ) (x z : Beginning) → rank q x < n → rank q z < n → AllBelow q n (x ∷ z ∷ [])
+below_two : (q n : ℕ) (x z : PartialReading) → rank q x < n → rank q z < n → AllBelow q n (x ∷ z ∷ [])
 unfolding AllBelow
 below_two q n x z a b y (inl e) = subst (λ v. rank q v < n) (sym e) a
 below_two q n x z a b y (inr h) = below_one q n z b y h
 
 below_empty : (q n : ℕ) (w : Option Item) (rest : Ops) (is : Items) (up : List Frame)
-    → ops_size rest + edges_rank q (edges_of up) < n → AllBelow q n (empty_of w rest is up)
+    → ops_size rest + frames_rank q (frames_of up) < n → AllBelow q n (empty_item w rest is up)
 unfolding AllBelow
 below_empty q n None rest is up a = λ y h. absurd h
 below_empty q n (Some x) rest is up a = go (item_width x)
   where
-    go : (m : ℕ) → AllBelow q n (if_none m (dot rest (item is x) up))
-    go zero = below_one q n (dot rest (item is x) up) a
+    go : (m : ℕ) → AllBelow q n (if_none m (partial rest (item is x) up))
+    go zero = below_one q n (partial rest (item is x) up) a
     go (suc m) = λ y h. absurd h
 
-below_skip : (q n : ℕ) (k : RepeatKind) (x z : Beginning) → rank q x < n → rank q z < n → AllBelow q n (x ∷ skip_of k z)
+below_skip : (q n : ℕ) (k : RepeatKind) (x z : PartialReading) → rank q x < n → rank q z < n
+    → AllBelow q n (x ∷ skip_of k z)
 below_skip q n ZeroOrMore x z a b = below_two q n x z a b
 below_skip q n OneOrMore x z a b = below_one q n x a
 below_skip q n ZeroOrOne x z a b = below_two q n x z a b
 
-below_again : (q n : ℕ) (s : Option Separator) (k : RepeatKind) (x z : Beginning) → (s ≡ None → rank q x < n)
-    → rank q z < n → AllBelow q n (again_of s k x ++ (z ∷ []))
+below_again : (q n : ℕ) (s : Option Separator) (k : RepeatKind) (x z : PartialReading) → (s ≡ None → rank q x < n)
+    → rank q z < n → AllBelow q n (another_round s k x ++ (z ∷ []))
 below_again q n (Some c) k x z a b = below_one q n z b
 below_again q n None ZeroOrMore x z a b = below_two q n x z (a refl) b
 below_again q n None OneOrMore x z a b = below_two q n x z (a refl) b
 below_again q n None ZeroOrOne x z a b = below_one q n z b
 
-idle_below : (i : Input) (pat : Ops) (q : ℕ) (x : Beginning) → {len : ℕ} → Lawful i len → Checked pat → At i pat q x
-    → AllBelow q (rank q x) (idle i q x)
+epsilon_below : (i : Input) (pat : Ops) (q : ℕ) (x : PartialReading) → {len : ℕ} → Lawful i len → Checked pat
+    → EndsAt i pat q x
+    → AllBelow q (rank q x) (epsilons i q x)
 unfolding AllBelow
-idle_below i pat q (dot no_ops is []) w c h = λ y m. absurd m
-idle_below i pat q (dot no_ops is (inside d b rest js ∷ up)) w c h = λ y m. absurd m
-idle_below i pat q (dot no_ops is (within b s k rest js rs ∷ up)) w c h =
+epsilon_below i pat q (partial no_ops is []) w c h = λ y m. absurd m
+epsilon_below i pat q (partial no_ops is (inside d b rest js ∷ up)) w c h = λ y m. absurd m
+epsilon_below i pat q (partial no_ops is (within b s k rest js rs ∷ up)) w c h =
     below_again q _ s k _ _
     (λ e.
     let read : items_width is ≡ 0 → ⊥ = λ z.
@@ -147,34 +156,34 @@ idle_below i pat q (dot no_ops is (within b s k rest js rs ∷ up)) w c h =
     (omega arith) in
     omega arith)
     (omega arith)
-idle_below i pat q (dot (op (token t) rest) is up) w c h =
-    below_empty q _ (matched_by (i.token_at t q)) rest is up (omega arith)
-idle_below i pat q (dot (op (variable name kind span) rest) is up) w c h =
-    below_empty q _ (bound_as name (i.fragment_at kind q)) rest is up (omega arith)
-idle_below i pat q (dot (op (expression e) rest) is up) w c h = λ y m. absurd m
-idle_below i pat q (dot (op (group d b) rest) is up) w c h = λ y m. absurd m
-idle_below i pat q (dot (op (repetition b s k) rest) is up) w c h =
+epsilon_below i pat q (partial (op (token t) rest) is up) w c h =
+    below_empty q _ (matched_item (i.token_at t q)) rest is up (omega arith)
+epsilon_below i pat q (partial (op (variable name kind span) rest) is up) w c h =
+    below_empty q _ (bound_item name (i.fragment_at kind q)) rest is up (omega arith)
+epsilon_below i pat q (partial (op (expression e) rest) is up) w c h = λ y m. absurd m
+epsilon_below i pat q (partial (op (group d b) rest) is up) w c h = λ y m. absurd m
+epsilon_below i pat q (partial (op (repetition b s k) rest) is up) w c h =
     let p : start_of up + items_width is ≡ q = h.1 in
     let new : spare (q - (start_of up + items_width is + 0)) (ops_size b) ≡ 0 =
     spare_none (q - (start_of up + items_width is + 0)) (ops_size b) (omega arith) in
     below_skip q _ k _ _ (omega arith) (omega arith)
 
-pub idle-falls : (i : Input) (pat : Ops) (q : ℕ) → {len : ℕ} → Lawful i len → Checked pat → (x y : Beginning)
-    → At i pat q x → In y (idle i q x) → At i pat q y × (rank q y < rank q x)
+pub idle-falls : (i : Input) (pat : Ops) (q : ℕ) → {len : ℕ} → Lawful i len → Checked pat → (x y : PartialReading)
+    → EndsAt i pat q x → In y (epsilons i q x) → EndsAt i pat q y × (rank q y < rank q x)
 unfolding AllBelow
-idle-falls i pat q w c x y h m = (idle-sound i pat q x h y m, idle_below i pat q x w c h y m)
+idle-falls i pat q w c x y h m = (idle-sound i pat q x h y m, epsilon_below i pat q x w c h y m)
 
 -- what is held from one position, by one step
-pub whole-step : (i : Input) (pat : Ops) (q : ℕ) → {len : ℕ} → Lawful i len → Checked pat → (x : Beginning)
-    → At i pat q x → whole i q x ≡ x ∷ held i q (idle i q x)
+pub whole-step : (i : Input) (pat : Ops) (q : ℕ) → {len : ℕ} → Lawful i len → Checked pat → (x : PartialReading)
+    → EndsAt i pat q x → whole i q x ≡ x ∷ closure i q (epsilons i q x)
 unfolding tree
-whole-step i pat q w c x h = ap (λ v. x ∷ v) (same (idle i q x) (λ y m. idle-falls i pat q w c x y h m))
+whole-step i pat q w c x h = ap (λ v. x ∷ v) (same (epsilons i q x) (λ y m. idle-falls i pat q w c x y h m))
   where
-    same : (ys : List Beginning) → ((y : Beginning) → In y ys → At i pat q y × (rank q y < rank q x))
-        → flat_map (tree (idle i q) (rank q x)) ys ≡ held i q ys
+    same : (ys : List PartialReading) → ((y : PartialReading) → In y ys → EndsAt i pat q y × (rank q y < rank q x))
+        → flat_map (tree (epsilons i q) (rank q x)) ys ≡ closure i q ys
     same [] f = refl
     same (y ∷ ys) f =
-        let e : tree (idle i q) (rank q x) y ≡ whole i q y =
-        tree-steady (idle i q) (At i pat q) (rank q) (idle-falls i pat q w c) (rank q x) (suc (rank q y)) y
+        let e : tree (epsilons i q) (rank q x) y ≡ whole i q y =
+        tree-steady (epsilons i q) (EndsAt i pat q) (rank q) (idle-falls i pat q w c) (rank q x) (suc (rank q y)) y
         (f y (inl refl)).0 (f y (inl refl)).1 (omega arith) in
         rw (e, same ys (λ z m. f z (inr m))) refl

@@ -1,31 +1,32 @@
 -- The two examples of reports that differ, computed.
 use Rattle.std.specs.Prelude.{refl, ◌≡◌, Some, None, [], ◌∷◌, codes}
-use Rattle.mbe_tt.specs.Fragments.Grammar.{Grammar}
+use Rattle.mbe_tt.specs.Grammars.Grammar.{Grammar}
 use Rattle.mbe_semantics.specs.Readings.Input.{input_of}
 use Rattle.mbe_semantics.specs.Readings.Reading.{start}
-use Rattle.mbe_semantics.specs.Matching.Held.{held}
+use Rattle.mbe_semantics.specs.Matching.Closure.{closure}
 use Rattle.mbe_semantics.specs.Syntax.Op.{ident}
 use Rattle.mbe_semantics.specs.Examples.Sample.{at, ident_of}
 use Rattle.mbe_semantics.specs.Readings.Steps.{tree}
 use Rattle.mbe_semantics.specs.Bindings.Environment.{empty, list, value, no_values}
 use Rattle.mbe_semantics.specs.Readings.Verdict.{stuck}
-use Rattle.mbe_semantics.specs.Matching.Dots.{dots}
-use Rattle.mbe_laws.specs.Bounded.TwoEach.{held_two_each, walk}
-use Rattle.mbe_laws.specs.Reports.Ends.{first_that, last_that, turned}
-use Rattle.mbe_laws.specs.Orders.Order.{verdict_turned, verdict_in, run_in}
-use Rattle.mbe_laws.specs.Orders.DropExample.{DropExample, three_ways, comma, fails, bound_in, DropFirst, many_ways, one_c, waits_for}
+use Rattle.mbe_semantics.specs.Matching.States.{state_count}
+use Rattle.mbe_laws.specs.Bounded.ClosureTwoEach.{closure_two_each, walk}
+use Rattle.mbe_laws.specs.Reports.Ends.{first_that, last_that, reversed_targets}
+use Rattle.mbe_laws.specs.Orders.Order.{verdict_reversed, verdict_in, run_in}
+use Rattle.mbe_laws.specs.Orders.DropExample.{DropExample, three_partial, comma, fails, bound_in, DropFirstExample}
+use Rattle.mbe_laws.specs.Orders.DropExample.{many_partial, one_c, waits_for}
 
-drop_verdict : (g : Grammar) → verdict_turned g three_ways comma ≡ stuck 0
+drop_verdict : (g : Grammar) → verdict_reversed g three_partial comma ≡ stuck 0
 unfolding verdict_in run_in walk
 drop_verdict g = refl
 
 drop_all : (g : Grammar) → bound_in (last_that (fails (input_of g comma) 0)
-    (held (input_of g comma) 0 (start three_ways ∷ []))) ≡ Some ((codes "x", empty) ∷ [])
+    (closure (input_of g comma) 0 (start three_partial ∷ []))) ≡ Some ((codes "x", empty) ∷ [])
 unfolding tree
 drop_all g = refl
 
 drop_two : (g : Grammar) → bound_in (last_that (fails (input_of g comma) 0)
-    (held_two_each (input_of g comma) (dots three_ways) 0 (start three_ways ∷ [])))
+    (closure_two_each (input_of g comma) (state_count three_partial) 0 (start three_partial ∷ [])))
     ≡ Some ((codes "x", list (value empty no_values)) ∷ [])
 unfolding walk
 drop_two g = refl
@@ -33,31 +34,34 @@ drop_two g = refl
 pub drop_example : DropExample
 drop_example = record { checked = refl; verdict = drop_verdict; all = drop_all; two = drop_two }
 
-first_verdict : (g : Grammar) → verdict_turned g many_ways one_c ≡ stuck 1
+first_verdict : (g : Grammar) → verdict_reversed g many_partial one_c ≡ stuck 1
 unfolding verdict_in run_in walk
 first_verdict g = refl
 
-first_none : (g : Grammar) → first_that (fails (input_of g one_c) 0) (held (input_of g one_c) 0 (start many_ways ∷ []))
+first_none : (g : Grammar) → first_that (fails (input_of g one_c) 0) (closure (input_of g one_c) 0 (start many_partial
+    ∷ []))
     ≡ None
 unfolding tree
 first_none g = refl
 
 first_all : (g : Grammar) → waits_for (first_that (fails (input_of g one_c) 1)
-    (held (input_of g one_c) 1 (turned (input_of g one_c) 0 (held (input_of g one_c) 0 (start many_ways ∷ [])))))
+    (closure (input_of g one_c) 1 (reversed_targets (input_of g one_c) 0
+    (closure (input_of g one_c) 0 (start many_partial ∷ [])))))
     ≡ Some (ident (ident_of (codes "b") (at 0 0 1)))
 unfolding tree
 first_all g = refl
 
 first_two : (g : Grammar) →
     waits_for (first_that (fails (input_of g one_c) 1)
-    (held_two_each (input_of g one_c) (dots many_ways) 1
-    (turned (input_of g one_c) 0 (held_two_each (input_of g one_c) (dots many_ways) 0 (start many_ways ∷ [])))))
+    (closure_two_each (input_of g one_c) (state_count many_partial) 1
+    (reversed_targets (input_of g one_c) 0
+    (closure_two_each (input_of g one_c) (state_count many_partial) 0 (start many_partial ∷ [])))))
     ≡ Some (ident (ident_of (codes "c") (at 0 0 1)))
 unfolding walk
 first_two g = refl
 
-pub drop_first : DropFirst
-drop_first = record {
+pub drop_first_example : DropFirstExample
+drop_first_example = record {
   checked = refl;
   verdict = first_verdict;
   none_fails = first_none;

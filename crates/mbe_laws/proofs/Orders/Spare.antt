@@ -1,15 +1,16 @@
 -- What a sifted list leaves out, and lists with the same members.
-use Rattle.std.proofs.Common.{ℕ, suc, ◌≡◌, ◌⊎◌, ◌<◌, ◌≤◌, inl, inr, Bool, true, false, not, List, [], ◌∷◌, map, reverse, length, refl, sym, ◌∙◌, ap, subst, arith, ◌-◌}
+use Rattle.std.proofs.Common.{ℕ, suc, ◌≡◌, ◌⊎◌, ◌<◌, ◌≤◌, inl, inr, Bool, true, false, not, List, [], ◌∷◌, map, reverse}
+use Rattle.std.proofs.Common.{length, refl, sym, ◌∙◌, ap, subst, arith, ◌-◌}
 use Rattle.std.specs.Prelude.{nat_lt}
 use Rattle.std.proofs.lemmas.Bool.{ltb-true}
 use Rattle.std.proofs.lemmas.List.{reverse-append}
 use Rattle.mbe_semantics.specs.Matching.Lists.{In, Distinct}
-use Rattle.mbe_semantics.specs.Readings.Reading.{Beginning}
-use Rattle.mbe_semantics.specs.Matching.Story.{story}
+use Rattle.mbe_semantics.specs.Readings.Reading.{PartialReading}
+use Rattle.mbe_semantics.specs.Matching.Trace.{trace}
 use Rattle.mbe_laws.proofs.Matching.Forest.{distinct_append}
-use Rattle.mbe_laws.specs.Bounded.TwoEach.{times, cons_if, sift}
-use Rattle.mbe_laws.specs.Orders.Order.{Orders, turn_round}
-use Rattle.mbe_laws.proofs.Dots.Sift.{times_same, times_grow, some_time, from_sift, times_other, equal_or_not}
+use Rattle.mbe_laws.specs.Bounded.ClosureTwoEach.{times, cons_if, first_of_each_key}
+use Rattle.mbe_laws.specs.Orders.Order.{Orders, reversed_order}
+use Rattle.mbe_laws.proofs.States.Sift.{times_same, times_grow, some_time, from_sift, times_other, equal_or_not}
 use Rattle.mbe_laws.proofs.Reports.EndLemmas.{in_reverse, from_reverse}
 
 module _ {A : Type 0} (key : A → ℕ) (k : ℕ) where
@@ -28,14 +29,15 @@ module _ {A : Type 0} (key : A → ℕ) (k : ℕ) where
   from_spare s (x ∷ xs) y h = from_cons (not (nat_lt (times (key x) s) k)) x y (spare (key x ∷ s) xs) xs
       (from_spare (key x ∷ s) xs y) h
 
-  pub in_part : (s : List ℕ) (xs : List A) (y : A) → In y xs → In y (sift key k s xs) ⊎ In y (spare s xs)
+  pub in_part : (s : List ℕ) (xs : List A) (y : A) → In y xs → In y (first_of_each_key key k s xs) ⊎ In y (spare s xs)
   unfolding spare
   in_part s [] y h = absurd h
   in_part s (x ∷ xs) y h = go (nat_lt (times (key x) s) k) h (λ m. in_part (key x ∷ s) xs y m)
     where
-      go : (b : Bool) → ((y ≡ x) ⊎ In y xs) → (In y xs → In y (sift key k (key x ∷ s) xs) ⊎ In y (spare (key x ∷ s) xs))
+      go : (b : Bool) → ((y ≡ x) ⊎ In y xs)
+          → (In y xs → In y (first_of_each_key key k (key x ∷ s) xs) ⊎ In y (spare (key x ∷ s) xs))
           →
-          In y (cons_if b x (sift key k (key x ∷ s) xs)) ⊎ In y (cons_if (not b) x (spare (key x ∷ s) xs))
+          In y (cons_if b x (first_of_each_key key k (key x ∷ s) xs)) ⊎ In y (cons_if (not b) x (spare (key x ∷ s) xs))
       go true (inl e) f = inl (inl e)
       go false (inl e) f = inr (inl e)
       go true (inr m) f = elim (f m) [ inl a ↦ inl (inr a) | inr a ↦ inr a ]
@@ -51,16 +53,16 @@ module _ {A : Type 0} (key : A → ℕ) (k : ℕ) where
         go true r = ((λ y h. d.0 y (from_spare (key x ∷ s) xs y h)), r)
         go false r = r
 
-    pub parts_differ : (s : List ℕ) (xs : List A) → Distinct name xs → (u v : A) → In u (sift key k s xs)
+    pub parts_differ : (s : List ℕ) (xs : List A) → Distinct name xs → (u v : A) → In u (first_of_each_key key k s xs)
         → In v (spare s xs) → name u ≡ name v → ⊥
     unfolding spare
     parts_differ s [] d u v a b e = absurd a
     parts_differ s (x ∷ xs) d u v a b e =
         go (nat_lt (times (key x) s) k) a b (λ m n. parts_differ (key x ∷ s) xs d.1 u v m n e)
       where
-        go : (b : Bool) → In u (cons_if b x (sift key k (key x ∷ s) xs))
+        go : (b : Bool) → In u (cons_if b x (first_of_each_key key k (key x ∷ s) xs))
             → In v (cons_if (not b) x (spare (key x ∷ s) xs)) →
-            (In u (sift key k (key x ∷ s) xs) → In v (spare (key x ∷ s) xs) → ⊥) → ⊥
+            (In u (first_of_each_key key k (key x ∷ s) xs) → In v (spare (key x ∷ s) xs) → ⊥) → ⊥
         go true (inl c) n f = d.0 v (from_spare (key x ∷ s) xs v n) (sym (ap name c) ∙ e)
         go true (inr m) n f = f m n
         go false m (inl c) f = d.0 u (from_sift key k (key x ∷ s) xs u m) (sym (ap name c) ∙ sym e)
@@ -134,26 +136,26 @@ module _ {A K : Type 0} (key : A → ℕ) (name : A → K) where
       omega (arith, h, i)
 
   -- of each key no more are left than may be
-  pub sift_few : (k n : ℕ) (s : List ℕ) (xs : List A) → times n (map key (sift key k s xs)) ≤ k - times n s
+  pub sift_few : (k n : ℕ) (s : List ℕ) (xs : List A) → times n (map key (first_of_each_key key k s xs)) ≤ k - times n s
   sift_few k n s [] = omega arith
   sift_few k n s (x ∷ xs) = go (equal_or_not n (key x)) (nat_lt (times (key x) s) k) refl (sift_few k n (key x ∷ s) xs)
     where
       go : ((n ≡ key x) ⊎ (n ≡ key x → ⊥)) → (b : Bool) → nat_lt (times (key x) s) k ≡ b
-          → times n (map key (sift key k (key x ∷ s) xs)) ≤ k - times n (key x ∷ s) →
-          times n (map key (cons_if b x (sift key k (key x ∷ s) xs))) ≤ k - times n s
+          → times n (map key (first_of_each_key key k (key x ∷ s) xs)) ≤ k - times n (key x ∷ s) →
+          times n (map key (cons_if b x (first_of_each_key key k (key x ∷ s) xs))) ≤ k - times n s
       go (inl c) true e l =
-          let a : times n (key x ∷ map key (sift key k (key x ∷ s) xs))
-          ≡ suc (times n (map key (sift key k (key x ∷ s) xs))) =
-          times_same n (key x) (map key (sift key k (key x ∷ s) xs)) c in
+          let a : times n (key x ∷ map key (first_of_each_key key k (key x ∷ s) xs))
+          ≡ suc (times n (map key (first_of_each_key key k (key x ∷ s) xs))) =
+          times_same n (key x) (map key (first_of_each_key key k (key x ∷ s) xs)) c in
           let d : times n (key x ∷ s) ≡ suc (times n s) = times_same n (key x) s c in
           let f : times n s < k = subst (λ v. times v s < k) (sym c) (ltb-true (times (key x) s) k e) in
           omega (arith, a, d, f, l)
       go (inl c) false e l = let d : times n (key x ∷ s) ≡ suc (times n s) =
           times_same n (key x) s c in omega (arith, d, l)
       go (inr c) true e l =
-          let a : times n (key x ∷ map key (sift key k (key x ∷ s) xs))
-          ≡ times n (map key (sift key k (key x ∷ s) xs)) =
-          times_other n (key x) (map key (sift key k (key x ∷ s) xs)) c in
+          let a : times n (key x ∷ map key (first_of_each_key key k (key x ∷ s) xs))
+          ≡ times n (map key (first_of_each_key key k (key x ∷ s) xs)) =
+          times_other n (key x) (map key (first_of_each_key key k (key x ∷ s) xs)) c in
           let d : times n (key x ∷ s) ≡ times n s = times_other n (key x) s c in
           omega (arith, a, d, l)
       go (inr c) false e l = let d : times n (key x ∷ s) ≡ times n s = times_other n (key x) s c in omega (arith, d, l)
@@ -172,17 +174,17 @@ no_longer name (x ∷ xs) ys d f =
 
 -- ---- turned
 
-distinct_reverse : (xs : List Beginning) → Distinct story xs → Distinct story (reverse xs)
+distinct_reverse : (xs : List PartialReading) → Distinct trace xs → Distinct trace (reverse xs)
 distinct_reverse [] d = tt
 distinct_reverse (x ∷ xs) d =
-    subst (Distinct story) (sym (reverse-append (x ∷ []) xs))
-    (distinct_append story (reverse xs) (x ∷ []) (distinct_reverse xs d.1) ((λ y h. absurd h), tt) across)
+    subst (Distinct trace) (sym (reverse-append (x ∷ []) xs))
+    (distinct_append trace (reverse xs) (x ∷ []) (distinct_reverse xs d.1) ((λ y h. absurd h), tt) across)
   where
-    across : (u v : Beginning) → In u (reverse xs) → In v (x ∷ []) → story u ≡ story v → ⊥
-    across u v m (inl e) f = d.0 u (from_reverse u xs m) (sym (f ∙ ap story e))
+    across : (u v : PartialReading) → In u (reverse xs) → In v (x ∷ []) → trace u ≡ trace v → ⊥
+    across u v m (inl e) f = d.0 u (from_reverse u xs m) (sym (f ∙ ap trace e))
     across u v m (inr h) f = absurd h
 
-pub turning : Orders turn_round
+pub turning : Orders reversed_order
 turning q ys d = record {
   only = λ x h. from_reverse x ys h;
   every = λ x h. in_reverse x ys h;

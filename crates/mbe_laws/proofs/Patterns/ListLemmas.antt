@@ -1,21 +1,28 @@
 -- A pattern that is one repetition: inside it, beginnings follow one another in one row.
-use Rattle.std.proofs.Common.{ℕ, zero, suc, ◌+◌, ◌≡◌, ◌⊎◌, ◌<◌, ◌≤◌, inl, inr, Option, Some, None, Bool, true, false, List, [], ◌∷◌, ◌++◌, refl, sym, ◌∙◌, ap, subst, arith}
+use Rattle.std.proofs.Common.{ℕ, zero, suc, ◌+◌, ◌≡◌, ◌⊎◌, ◌<◌, ◌≤◌, inl, inr, Option, Some, None, Bool, true, false}
+use Rattle.std.proofs.Common.{List, [], ◌∷◌, ◌++◌, refl, sym, ◌∙◌, ap, subst, arith}
 use Rattle.std.specs.Prelude.{IsTrue}
 use Rattle.std.proofs.lemmas.Option.{none-some}
-use Rattle.mbe_semantics.specs.declared.kinds.RepeatKind.{RepeatKind}
-use Rattle.mbe_semantics.specs.declared.kinds.RepeatKind.TheVariants.{ZeroOrMore, OneOrMore, ZeroOrOne}
+use Rattle.mbe_semantics.specs.declared.fragment_kinds.RepeatKind.{RepeatKind}
+use Rattle.mbe_semantics.specs.declared.fragment_kinds.RepeatKind.TheVariants.{ZeroOrMore, OneOrMore, ZeroOrOne}
 use Rattle.mbe_tt.specs.Trees.Tree.{Forest, rest_at}
-use Rattle.mbe_tt.specs.Fragments.Grammar.{Grammar}
-use Rattle.mbe_tt.proofs.Places.CutLemmas.{no_true}
+use Rattle.mbe_tt.specs.Grammars.Grammar.{Grammar}
+use Rattle.mbe_tt.proofs.Offsets.CutLemmas.{no_true}
 use Rattle.mbe_semantics.specs.Readings.Fit.{separator_front}
-use Rattle.mbe_semantics.specs.Syntax.Op.{Separator, Op, token, group, variable, repetition, expression, Ops, no_ops, op, has_no_repetition, names_of}
-use Rattle.mbe_semantics.specs.Readings.Item.{Item, matched, bound, grouped, skipped, rounds, Items, no_items, item, Rounds, no_rounds, round, item_width, items_width, rounds_width}
+use Rattle.mbe_semantics.specs.Syntax.Op.{Separator, Op, token, group, variable, repetition, expression, Ops, no_ops}
+use Rattle.mbe_semantics.specs.Syntax.Op.{op, has_no_repetition, names_of}
+use Rattle.mbe_semantics.specs.Readings.Item.{Item, matched, bound, grouped, skipped, rounds, Items, no_items, item}
+use Rattle.mbe_semantics.specs.Readings.Item.{Rounds, no_rounds, round, item_width, items_width, rounds_width}
 use Rattle.mbe_semantics.specs.Readings.Input.{Input, input_of}
-use Rattle.mbe_semantics.specs.Readings.Reading.{ReadsFirst, Frame, inside, within, Beginning, dot, body_of, start_of, place, Within, Begins, At, start, Reads, ReadsRounds}
-use Rattle.mbe_semantics.specs.Readings.Steps.{matched_by, bound_as, skip_of, again_of, if_none, empty_of, idle, Move, move, if_some, over_of, when, round_move, separator_move, next}
+use Rattle.mbe_semantics.specs.Readings.Reading.{ReadsFirst, Frame, inside, within, PartialReading, partial, body_of}
+use Rattle.mbe_semantics.specs.Readings.Reading.{start_of, offset, AreOpen, IsPartialReading, EndsAt, start, Reads}
+use Rattle.mbe_semantics.specs.Readings.Reading.{ReadsRounds}
+use Rattle.mbe_semantics.specs.Readings.Steps.{matched_item, bound_item, skip_of, another_round, if_none, empty_item}
+use Rattle.mbe_semantics.specs.Readings.Steps.{epsilons, Move, move, if_some, over_of, when, round_move, separator_move}
+use Rattle.mbe_semantics.specs.Readings.Steps.{next}
 use Rattle.mbe_semantics.specs.Matching.Lists.{In}
-use Rattle.mbe_semantics.specs.Matching.Story.{story, steps}
-use Rattle.mbe_semantics.specs.Readings.Ambiguity.{Ambiguous, GoesOn}
+use Rattle.mbe_semantics.specs.Matching.Trace.{trace, steps}
+use Rattle.mbe_semantics.specs.Readings.Ambiguity.{Ambiguous, StepsOver}
 use Rattle.mbe_semantics.specs.Laws.Laws.{one_repetition, ListsFitOnce}
 use Rattle.mbe_semantics.proofs.Parents.{From, parents}
 use Rattle.mbe_semantics.proofs.PlainLemmas.{plain_op, empty_same, empty_over, Steps, steps_one, same_move}
@@ -37,9 +44,9 @@ is_repetition (op (repetition b s k) rest) = true
 is_repetition _ = false
 
 -- it is inside the repetition
-abbrev Main : Beginning → Type 0
-Main (dot rest is []) = ⊥
-Main (dot rest is (f ∷ up)) = Unit {0}
+abbrev Main : PartialReading → Type 0
+Main (partial rest is []) = ⊥
+Main (partial rest is (f ∷ up)) = Unit {0}
 
 -- the number of complete rounds
 abbrev round_number : Rounds → ℕ
@@ -53,11 +60,11 @@ outer (within b s k rest js rs ∷ []) = round_number rs
 outer (inside d b rest js ∷ g ∷ up) = outer (g ∷ up)
 outer (within b s k rest js rs ∷ g ∷ up) = outer (g ∷ up)
 
-abbrev count : Beginning → ℕ
-count (dot rest is up) = outer up
+abbrev count : PartialReading → ℕ
+count (partial rest is up) = outer up
 
-again_only : (s : Option Separator) (k : RepeatKind) (u : Beginning) (rest : Ops) (is : Items) (y : Beginning)
-    → In y (again_of s k u ++ (dot rest is [] ∷ [])) → Main y → y ≡ u
+again_only : (s : Option Separator) (k : RepeatKind) (u : PartialReading) (rest : Ops) (is : Items) (y : PartialReading)
+    → In y (another_round s k u ++ (partial rest is [] ∷ [])) → Main y → y ≡ u
 again_only (Some c) k u rest is y (inl e) m = absurd (subst (λ v. Main v) e m)
 again_only (Some c) k u rest is y (inr e) m = absurd e
 again_only None ZeroOrOne u rest is y (inl e) m = absurd (subst (λ v. Main v) e m)
@@ -69,8 +76,8 @@ again_only None OneOrMore u rest is y (inl e) m = e
 again_only None OneOrMore u rest is y (inr (inl e)) m = absurd (subst (λ v. Main v) e m)
 again_only None OneOrMore u rest is y (inr (inr e)) m = absurd e
 
-enter_only : (k : RepeatKind) (u : Beginning) (rest : Ops) (is : Items) (y : Beginning)
-    → In y (u ∷ skip_of k (dot rest is [])) → Main y → y ≡ u
+enter_only : (k : RepeatKind) (u : PartialReading) (rest : Ops) (is : Items) (y : PartialReading)
+    → In y (u ∷ skip_of k (partial rest is [])) → Main y → y ≡ u
 enter_only k u rest is y (inl e) m = e
 enter_only ZeroOrMore u rest is y (inr (inl e)) m = absurd (subst (λ v. Main v) e m)
 enter_only ZeroOrMore u rest is y (inr (inr e)) m = absurd e
@@ -78,19 +85,21 @@ enter_only OneOrMore u rest is y (inr e) m = absurd e
 enter_only ZeroOrOne u rest is y (inr (inl e)) m = absurd (subst (λ v. Main v) e m)
 enter_only ZeroOrOne u rest is y (inr (inr e)) m = absurd e
 
-again_move : {A : Type 0} (i : Input) (q : ℕ) (s : Option Separator) (k : RepeatKind) (u : Beginning) (rest : Ops)
-    (is : Items) (y : Beginning) (b : Ops) (js last : Items) (rs : Rounds) (mv : Move) →
-    In y (again_of s k u ++ (dot rest is [] ∷ [])) → Main y → separator_move i q s k b rest js rs [] last ≡ Some mv → A
+again_move : {A : Type 0} (i : Input) (q : ℕ) (s : Option Separator) (k : RepeatKind) (u : PartialReading) (rest : Ops)
+    (is : Items) (y : PartialReading) (b : Ops) (js last : Items) (rs : Rounds) (mv : Move) →
+    In y (another_round s k u ++ (partial rest is [] ∷ [])) → Main y → separator_move i q s k b rest js rs [] last
+    ≡ Some mv → A
 again_move i q None k u rest is y b js last rs mv a m e = absurd (none-some mv e)
 again_move i q (Some c) k u rest is y b js last rs mv (inl a) m e = absurd (subst (λ v. Main v) a m)
 again_move i q (Some c) k u rest is y b js last rs mv (inr a) m e = absurd a
 
-empty_up : (w : Option Item) (rest : Ops) (is : Items) (up : List Frame) (y : Beginning) → In y (empty_of w rest is up)
+empty_up : (w : Option Item) (rest : Ops) (is : Items) (up : List Frame) (y : PartialReading)
+    → In y (empty_item w rest is up)
     → count y ≡ outer up
 empty_up None rest is up y a = absurd a
 empty_up (Some x) rest is up y a = go (item_width x) a
   where
-    go : (n : ℕ) → In y (if_none n (dot rest (item is x) up)) → count y ≡ outer up
+    go : (n : ℕ) → In y (if_none n (partial rest (item is x) up)) → count y ≡ outer up
     go zero (inl e) = ap (λ v. count v) e
     go zero (inr e) = absurd e
     go (suc n) e = absurd e
@@ -100,7 +109,7 @@ Fine : ℕ → Option Move → Type 0
 Fine c None = Unit {0}
 Fine c (Some (move n f y)) = (0 < n) × (c ≤ count y)
 
-when_fine : (c : ℕ) (b : Bool) (y : Beginning) → c ≤ count y → Fine c (when b (move 1 false y))
+when_fine : (c : ℕ) (b : Bool) (y : PartialReading) → c ≤ count y → Fine c (when b (move 1 false y))
 unfolding Fine
 when_fine c true y h = (omega arith, h)
 when_fine c false y h = tt
@@ -111,7 +120,7 @@ unfolding Fine
 over_fine f None rest is up = tt
 over_fine f (Some x) rest is up = go (item_width x)
   where
-    go : (n : ℕ) → Fine (outer up) (if_some f n (dot rest (item is x) up))
+    go : (n : ℕ) → Fine (outer up) (if_some f n (partial rest (item is x) up))
     go zero = tt
     go (suc n) = (omega arith, omega arith)
 
@@ -124,7 +133,7 @@ round_fine ZeroOrMore (Some n) b s rest js rs is h = (h n refl, omega arith)
 round_fine OneOrMore (Some n) b s rest js rs is h = (h n refl, omega arith)
 round_fine ZeroOrOne (Some n) b s rest js rs is h = tt
 
-fine_move : (c : ℕ) (m : Option Move) (n : ℕ) (f : Bool) (y : Beginning) → m ≡ Some (move n f y) → Fine c m
+fine_move : (c : ℕ) (m : Option Move) (n : ℕ) (f : Bool) (y : PartialReading) → m ≡ Some (move n f y) → Fine c m
     → (0 < n) × (c ≤ count y)
 unfolding Fine
 fine_move c m n f y e h = let P : Option Move → Type 0 = λ v. Fine c v in subst P e h
@@ -150,14 +159,14 @@ separator_counted i q (Some c) k b rest js rs is = go k (i.separator_at c q)
     go OneOrMore (Some n) = refl
     go ZeroOrOne (Some n) = tt
 
-counted_move : (c : ℕ) (m : Option Move) (n : ℕ) (f : Bool) (y : Beginning) → m ≡ Some (move n f y) → Counted c m
+counted_move : (c : ℕ) (m : Option Move) (n : ℕ) (f : Bool) (y : PartialReading) → m ≡ Some (move n f y) → Counted c m
     → count y ≡ c
 unfolding Counted
 counted_move c m n f y e h = let P : Option Move → Type 0 = λ v. Counted c v in subst P e h
 
 -- the rounds of a beginning whose open item is a repetition
-abbrev rounds_here : Beginning → Item
-rounds_here (dot rest is (within b s k after js rs ∷ up)) = rounds rs is
+abbrev rounds_here : PartialReading → Item
+rounds_here (partial rest is (within b s k after js rs ∷ up)) = rounds rs is
 rounds_here _ = matched 0
 
 same_body : (body b : Ops) (s s' : Option Separator) (k k' : RepeatKind) (rest : Ops)
@@ -178,10 +187,10 @@ module _ (i : Input) (body : Ops) (s : Option Separator) (k : RepeatKind) (plain
   none_before (item is x) p o rest h = let e : suc (suc (op_count rest)) ≤ 1 =
       fewer is i pat p (op h.0 (op o rest)) h.1 in absurd (omega (arith, e))
 
-  no_outer_group : {A : Type 0} (d : _) (b rest : Ops) (js : Items) → Within i pat (inside d b rest js ∷ []) → A
+  no_outer_group : {A : Type 0} (d : _) (b rest : Ops) (js : Items) → AreOpen i pat (inside d b rest js ∷ []) → A
   no_outer_group d b rest js h = no_true (sym (ap is_repetition (none_before js 0 (group d b) rest h.1).1))
 
-  plain_inside : (up : List Frame) (f : Frame) → Within i pat (f ∷ up)
+  plain_inside : (up : List Frame) (f : Frame) → AreOpen i pat (f ∷ up)
       → IsTrue (has_no_repetition (body_of pat (f ∷ up)))
   plain_inside [] (inside d b rest js) h = no_outer_group d b rest js h
   plain_inside [] (within b s' k' rest js rs) h =
@@ -194,46 +203,50 @@ module _ (i : Input) (body : Ops) (s : Option Separator) (k : RepeatKind) (plain
       (plain_inside up g h.0))
 
   no_deep : {A : Type 0} (b : Ops) (s' : Option Separator) (k' : RepeatKind) (rest : Ops) (js : Items) (rs : Rounds)
-      (g : Frame) (up : List Frame) → Within i pat (within b s' k' rest js rs ∷ g ∷ up) → A
+      (g : Frame) (up : List Frame) → AreOpen i pat (within b s' k' rest js rs ∷ g ∷ up) → A
   no_deep b s' k' rest js rs g up h = no_true
       (plain_op js i (body_of pat (g ∷ up)) (start_of (g ∷ up)) (repetition b s' k') rest h.1 (plain_inside up g h.0))
 
   no_inner : {A : Type 0} (b : Ops) (s' : Option Separator) (k' : RepeatKind) (rest : Ops) (is : Items) (f : Frame)
-      (up : List Frame) → Begins i pat (dot (op (repetition b s' k') rest) is (f ∷ up)) → A
+      (up : List Frame) → IsPartialReading i pat (partial (op (repetition b s' k') rest) is (f ∷ up)) → A
   no_inner b s' k' rest is f up h = no_true
       (plain_op is i (body_of pat (f ∷ up)) (start_of (f ∷ up)) (repetition b s' k') rest h.1 (plain_inside up f h.0))
 
-  idle_once : (q : ℕ) (x y z : Beginning) → Begins i pat x → Main x → In y (idle i q x) → Main y → In z (idle i q x)
+  epsilon_once : (q : ℕ) (x y z : PartialReading) → IsPartialReading i pat x → Main x → In y (epsilons i q x) → Main y
+      → In z (epsilons i q x)
       → Main z → y ≡ z
-  idle_once q (dot rest is []) y z h m a c b d = absurd m
-  idle_once q (dot no_ops is (inside _ b' rest js ∷ up)) y z h m a c b d = absurd a
-  idle_once q (dot no_ops is (within b' s' k' rest js rs ∷ [])) y z h m a c b d =
+  epsilon_once q (partial rest is []) y z h m a c b d = absurd m
+  epsilon_once q (partial no_ops is (inside _ b' rest js ∷ up)) y z h m a c b d = absurd a
+  epsilon_once q (partial no_ops is (within b' s' k' rest js rs ∷ [])) y z h m a c b d =
       again_only s' k' _ rest _ y a c ∙ sym (again_only s' k' _ rest _ z b d)
-  idle_once q (dot no_ops is (within b' s' k' rest js rs ∷ g ∷ up)) y z h m a c b d =
+  epsilon_once q (partial no_ops is (within b' s' k' rest js rs ∷ g ∷ up)) y z h m a c b d =
       no_deep b' s' k' rest js rs g up h.0
-  idle_once q (dot (op (token t) rest) is (f ∷ up)) y z h m a c b d =
-      empty_same (matched_by (i.token_at t q)) rest is (f ∷ up) y z a b
-  idle_once q (dot (op (variable name kind span) rest) is (f ∷ up)) y z h m a c b d =
-      empty_same (bound_as name (i.fragment_at kind q)) rest is (f ∷ up) y z a b
-  idle_once q (dot (op (group _ b') rest) is (f ∷ up)) y z h m a c b d = absurd a
-  idle_once q (dot (op (repetition b' s' k') rest) is (f ∷ up)) y z h m a c b d = no_inner b' s' k' rest is f up h
-  idle_once q (dot (op (expression e) rest) is (f ∷ up)) y z h m a c b d = absurd a
+  epsilon_once q (partial (op (token t) rest) is (f ∷ up)) y z h m a c b d =
+      empty_same (matched_item (i.token_at t q)) rest is (f ∷ up) y z a b
+  epsilon_once q (partial (op (variable name kind span) rest) is (f ∷ up)) y z h m a c b d =
+      empty_same (bound_item name (i.fragment_at kind q)) rest is (f ∷ up) y z a b
+  epsilon_once q (partial (op (group _ b') rest) is (f ∷ up)) y z h m a c b d = absurd a
+  epsilon_once q (partial (op (repetition b' s' k') rest) is (f ∷ up)) y z h m a c b d =
+      no_inner b' s' k' rest is f up h
+  epsilon_once q (partial (op (expression e) rest) is (f ∷ up)) y z h m a c b d = absurd a
 
-  idle_or_next : {A : Type 0} (q : ℕ) (x y : Beginning) (mv : Move) → Begins i pat x → Main x → In y (idle i q x)
+  epsilon_or_next : {A : Type 0} (q : ℕ) (x y : PartialReading) (mv : Move) → IsPartialReading i pat x → Main x
+      → In y (epsilons i q x)
       → Main y → next i q x ≡ Some mv → A
-  idle_or_next q (dot rest is []) y mv h m a c e = absurd m
-  idle_or_next q (dot no_ops is (inside _ b' rest js ∷ up)) y mv h m a c e = absurd a
-  idle_or_next q (dot no_ops is (within b' s' k' rest js rs ∷ [])) y mv h m a c e =
+  epsilon_or_next q (partial rest is []) y mv h m a c e = absurd m
+  epsilon_or_next q (partial no_ops is (inside _ b' rest js ∷ up)) y mv h m a c e = absurd a
+  epsilon_or_next q (partial no_ops is (within b' s' k' rest js rs ∷ [])) y mv h m a c e =
       again_move i q s' k' _ rest _ y b' js is rs mv a c e
-  idle_or_next q (dot no_ops is (within b' s' k' rest js rs ∷ g ∷ up)) y mv h m a c e =
+  epsilon_or_next q (partial no_ops is (within b' s' k' rest js rs ∷ g ∷ up)) y mv h m a c e =
       no_deep b' s' k' rest js rs g up h.0
-  idle_or_next q (dot (op (token t) rest) is (f ∷ up)) y mv h m a c e =
-      empty_over false (matched_by (i.token_at t q)) rest is (f ∷ up) y mv a e
-  idle_or_next q (dot (op (variable name kind span) rest) is (f ∷ up)) y mv h m a c e =
-      empty_over true (bound_as name (i.fragment_at kind q)) rest is (f ∷ up) y mv a e
-  idle_or_next q (dot (op (group _ b') rest) is (f ∷ up)) y mv h m a c e = absurd a
-  idle_or_next q (dot (op (repetition b' s' k') rest) is (f ∷ up)) y mv h m a c e = no_inner b' s' k' rest is f up h
-  idle_or_next q (dot (op (expression _) rest) is (f ∷ up)) y mv h m a c e = absurd a
+  epsilon_or_next q (partial (op (token t) rest) is (f ∷ up)) y mv h m a c e =
+      empty_over false (matched_item (i.token_at t q)) rest is (f ∷ up) y mv a e
+  epsilon_or_next q (partial (op (variable name kind span) rest) is (f ∷ up)) y mv h m a c e =
+      empty_over true (bound_item name (i.fragment_at kind q)) rest is (f ∷ up) y mv a e
+  epsilon_or_next q (partial (op (group _ b') rest) is (f ∷ up)) y mv h m a c e = absurd a
+  epsilon_or_next q (partial (op (repetition b' s' k') rest) is (f ∷ up)) y mv h m a c e =
+      no_inner b' s' k' rest is f up h
+  epsilon_or_next q (partial (op (expression _) rest) is (f ∷ up)) y mv h m a c e = absurd a
 
   separator_fine : (q : ℕ) (s' : Option Separator) (k' : RepeatKind) (b rest : Ops) (js : Items) (rs : Rounds)
       (is : Items) → Fine (round_number rs) (separator_move i q s' k' b rest js rs [] is)
@@ -242,64 +255,70 @@ module _ (i : Input) (body : Ops) (s : Option Separator) (k : RepeatKind) (plain
   separator_fine q (Some c) k' b rest js rs is =
       round_fine k' (i.separator_at c q) b (Some c) rest js rs is (λ n e. some c q n e)
 
-  next_fine : (q : ℕ) (x : Beginning) → Begins i pat x → Main x → Fine (count x) (next i q x)
+  next_fine : (q : ℕ) (x : PartialReading) → IsPartialReading i pat x → Main x → Fine (count x) (next i q x)
   unfolding Fine
-  next_fine q (dot rest is []) h m = absurd m
-  next_fine q (dot no_ops is (inside d b rest js ∷ [])) h m = no_outer_group d b rest js h.0
-  next_fine q (dot no_ops is (inside d b rest js ∷ g ∷ up)) h m =
+  next_fine q (partial rest is []) h m = absurd m
+  next_fine q (partial no_ops is (inside d b rest js ∷ [])) h m = no_outer_group d b rest js h.0
+  next_fine q (partial no_ops is (inside d b rest js ∷ g ∷ up)) h m =
       when_fine (outer (g ∷ up)) (i.closes_at q) _ (omega arith)
-  next_fine q (dot no_ops is (within b s' k' rest js rs ∷ [])) h m = separator_fine q s' k' b rest js rs is
-  next_fine q (dot no_ops is (within b s' k' rest js rs ∷ g ∷ up)) h m = no_deep b s' k' rest js rs g up h.0
-  next_fine q (dot (op (token t) rest) is (f ∷ up)) h m = over_fine false (matched_by (i.token_at t q)) rest is (f ∷ up)
-  next_fine q (dot (op (variable name kind span) rest) is (f ∷ up)) h m =
-      over_fine true (bound_as name (i.fragment_at kind q)) rest is (f ∷ up)
-  next_fine q (dot (op (group d b) rest) is (f ∷ up)) h m =
+  next_fine q (partial no_ops is (within b s' k' rest js rs ∷ [])) h m = separator_fine q s' k' b rest js rs is
+  next_fine q (partial no_ops is (within b s' k' rest js rs ∷ g ∷ up)) h m = no_deep b s' k' rest js rs g up h.0
+  next_fine q (partial (op (token t) rest) is (f ∷ up)) h m =
+      over_fine false (matched_item (i.token_at t q)) rest is (f ∷ up)
+  next_fine q (partial (op (variable name kind span) rest) is (f ∷ up)) h m =
+      over_fine true (bound_item name (i.fragment_at kind q)) rest is (f ∷ up)
+  next_fine q (partial (op (group d b) rest) is (f ∷ up)) h m =
       when_fine (outer (f ∷ up)) (i.opens_at d.kind q) _ (omega arith)
-  next_fine q (dot (op (repetition b s' k') rest) is (f ∷ up)) h m = tt
-  next_fine q (dot (op (expression e) rest) is (f ∷ up)) h m = tt
+  next_fine q (partial (op (repetition b s' k') rest) is (f ∷ up)) h m = tt
+  next_fine q (partial (op (expression e) rest) is (f ∷ up)) h m = tt
 
   again_count : (s' : Option Separator) (k' : RepeatKind) (b rest : Ops) (js is last : Items) (rs : Rounds)
-      (y : Beginning) →
-      In y (again_of s' k' (dot b no_items (within b s' k' rest js (round rs last 0) ∷ [])) ++ (dot rest is [] ∷ []))
+      (y : PartialReading) →
+      In y (another_round s' k' (partial b no_items (within b s' k' rest js (round rs last 0) ∷ []))
+      ++ (partial rest is [] ∷ []))
       → Main y → round_number rs ≤ count y
   again_count s' k' b rest js is last rs y a m =
       let e : count y ≡ suc (round_number rs) =
-      ap (λ v. count v) (again_only s' k' (dot b no_items (within b s' k' rest js (round rs last 0) ∷ [])) rest is y
+      ap (λ v. count v) (again_only s' k' (partial b no_items (within b s' k' rest js (round rs last 0) ∷ [])) rest is y
       a m) in
       omega (arith, e)
 
-  idle_count : (q : ℕ) (x y : Beginning) → Begins i pat x → Main x → In y (idle i q x) → Main y → count x ≤ count y
-  idle_count q (dot rest is []) y h m a c = absurd m
-  idle_count q (dot no_ops is (inside _ b' rest js ∷ up)) y h m a c = absurd a
-  idle_count q (dot no_ops is (within b' s' k' rest js rs ∷ [])) y h m a c = again_count s' k' b' rest js _ is rs y a c
-  idle_count q (dot no_ops is (within b' s' k' rest js rs ∷ g ∷ up)) y h m a c = no_deep b' s' k' rest js rs g up h.0
-  idle_count q (dot (op (token t) rest) is (f ∷ up)) y h m a c = let e =
-      empty_up (matched_by (i.token_at t q)) rest is (f ∷ up) y a in omega (arith, e)
-  idle_count q (dot (op (variable name kind span) rest) is (f ∷ up)) y h m a c = let e =
-      empty_up (bound_as name (i.fragment_at kind q)) rest is (f ∷ up) y a in omega (arith, e)
-  idle_count q (dot (op (group _ b') rest) is (f ∷ up)) y h m a c = absurd a
-  idle_count q (dot (op (repetition b' s' k') rest) is (f ∷ up)) y h m a c = no_inner b' s' k' rest is f up h
-  idle_count q (dot (op (expression e) rest) is (f ∷ up)) y h m a c = absurd a
+  epsilon_count : (q : ℕ) (x y : PartialReading) → IsPartialReading i pat x → Main x → In y (epsilons i q x) → Main y
+      → count x ≤ count y
+  epsilon_count q (partial rest is []) y h m a c = absurd m
+  epsilon_count q (partial no_ops is (inside _ b' rest js ∷ up)) y h m a c = absurd a
+  epsilon_count q (partial no_ops is (within b' s' k' rest js rs ∷ [])) y h m a c =
+      again_count s' k' b' rest js _ is rs y a c
+  epsilon_count q (partial no_ops is (within b' s' k' rest js rs ∷ g ∷ up)) y h m a c =
+      no_deep b' s' k' rest js rs g up h.0
+  epsilon_count q (partial (op (token t) rest) is (f ∷ up)) y h m a c = let e =
+      empty_up (matched_item (i.token_at t q)) rest is (f ∷ up) y a in omega (arith, e)
+  epsilon_count q (partial (op (variable name kind span) rest) is (f ∷ up)) y h m a c = let e =
+      empty_up (bound_item name (i.fragment_at kind q)) rest is (f ∷ up) y a in omega (arith, e)
+  epsilon_count q (partial (op (group _ b') rest) is (f ∷ up)) y h m a c = absurd a
+  epsilon_count q (partial (op (repetition b' s' k') rest) is (f ∷ up)) y h m a c = no_inner b' s' k' rest is f up h
+  epsilon_count q (partial (op (expression e) rest) is (f ∷ up)) y h m a c = absurd a
 
-  abbrev entered : Beginning
-  entered = dot body no_items (within body s k no_ops no_items no_rounds ∷ [])
+  abbrev entered : PartialReading
+  entered = partial body no_items (within body s k no_ops no_items no_rounds ∷ [])
 
-  start_step : (y : Beginning) → Steps i (start pat) y → Main y → y ≡ entered
+  start_step : (y : PartialReading) → Steps i (start pat) y → Main y → y ≡ entered
   start_step y (inl a) m = enter_only k entered no_ops (item no_items (skipped (names_of body))) y a.0 m
   start_step y (inr a) m = absurd (none-some (move a.0 a.1 y) a.2)
 
-  from_root : (x y : Beginning) → Begins i pat x → Steps i x y → Main y → Main x ⊎ (y ≡ entered)
-  from_root (dot rest is (f ∷ up)) y h t m = inl tt
-  from_root (dot no_ops is []) y h (inl a) m = absurd a.0
-  from_root (dot no_ops is []) y h (inr a) m = absurd (none-some (move a.0 a.1 y) a.2)
-  from_root (dot (op o rest) is []) y h t m =
+  from_root : (x y : PartialReading) → IsPartialReading i pat x → Steps i x y → Main y → Main x ⊎ (y ≡ entered)
+  from_root (partial rest is (f ∷ up)) y h t m = inl tt
+  from_root (partial no_ops is []) y h (inl a) m = absurd a.0
+  from_root (partial no_ops is []) y h (inr a) m = absurd (none-some (move a.0 a.1 y) a.2)
+  from_root (partial (op o rest) is []) y h t m =
       let e = none_before is 0 o rest h.1 in
-      inr (start_step y (subst (λ v. Steps i v y) (ap (λ v. dot v is []) (sym e.1) ∙ ap (λ v. dot pat v []) e.0) t) m)
+      inr (start_step y (subst (λ v. Steps i v y) (ap (λ v. partial v is []) (sym e.1)
+      ∙ ap (λ v. partial pat v []) e.0) t) m)
 
-  abbrev Parent : Beginning → Type 0
-  Parent y = (y ≡ entered) ⊎ ((x : Beginning) × Begins i pat x × Main x × Steps i x y)
+  abbrev Parent : PartialReading → Type 0
+  Parent y = (y ≡ entered) ⊎ ((x : PartialReading) × IsPartialReading i pat x × Main x × Steps i x y)
 
-  main_parent : (y : Beginning) → Begins i pat y → Main y → Parent y
+  main_parent : (y : PartialReading) → IsPartialReading i pat y → Main y → Parent y
   main_parent y h m = turn (parents i pat y h)
     where
       turn : (y ≡ start pat) ⊎ From i pat y → Parent y
@@ -310,30 +329,33 @@ module _ (i : Input) (body : Ops) (s : Option Separator) (k : RepeatKind) (plain
           go (inl n) = inr (x, g, n, t)
           go (inr e) = inl e
 
-  entered_steps : (y : Beginning) → y ≡ entered → steps (story y) ≡ 1
-  entered_steps y e = ap (λ v. steps (story v)) e
+  entered_steps : (y : PartialReading) → y ≡ entered → steps (trace y) ≡ 1
+  entered_steps y e = ap (λ v. steps (trace v)) e
 
-  main_some : (y : Beginning) → Begins i pat y → Main y → 0 < steps (story y)
+  main_some : (y : PartialReading) → IsPartialReading i pat y → Main y → 0 < steps (trace y)
   main_some y h m = turn (main_parent y h m)
     where
-      turn : Parent y → 0 < steps (story y)
+      turn : Parent y → 0 < steps (trace y)
       turn (inl e) = let u = entered_steps y e in omega (arith, u)
       turn (inr (x, g, n, t)) = let u = steps_one i x y t in omega (arith, u)
 
-  one_step : (x y z : Beginning) → Begins i pat x → Main x → Steps i x y → Main y → Steps i x z → Main z → y ≡ z
-  one_step x y z h m (inl a) c (inl b) d = idle_once (place x) x y z h m a.0 c b.0 d
-  one_step x y z h m (inl a) c (inr b) d = idle_or_next (place x) x y (move b.0 b.1 z) h m a.0 c b.2
-  one_step x y z h m (inr a) c (inl b) d = idle_or_next (place x) x z (move a.0 a.1 y) h m b.0 d a.2
+  one_step : (x y z : PartialReading) → IsPartialReading i pat x → Main x → Steps i x y → Main y → Steps i x z → Main z
+      → y ≡ z
+  one_step x y z h m (inl a) c (inl b) d = epsilon_once (offset x) x y z h m a.0 c b.0 d
+  one_step x y z h m (inl a) c (inr b) d = epsilon_or_next (offset x) x y (move b.0 b.1 z) h m a.0 c b.2
+  one_step x y z h m (inr a) c (inl b) d = epsilon_or_next (offset x) x z (move a.0 a.1 y) h m b.0 d a.2
   one_step x y z h m (inr a) c (inr b) d = same_move a.0 b.0 a.1 b.1 y z (sym a.2 ∙ b.2)
 
-  unique : (n : ℕ) (y z : Beginning) → Begins i pat y → Main y → Begins i pat z → Main z → steps (story y) ≡ n
-      → steps (story z) ≡ n → y ≡ z
+  unique : (n : ℕ) (y z : PartialReading) → IsPartialReading i pat y → Main y → IsPartialReading i pat z → Main z
+      → steps (trace y) ≡ n
+      → steps (trace z) ≡ n → y ≡ z
   unique zero y z a c b d e f = let u = main_some y a c in absurd (omega (arith, u, e))
   unique (suc n) y z a c b d e f = turn (λ u v g m h l p q. unique n u v g m h l p q) (main_parent y a c)
       (main_parent z b d)
     where
-      turn : ((u v : Beginning) → Begins i pat u → Main u → Begins i pat v → Main v → steps (story u) ≡ n
-          → steps (story v) ≡ n → u ≡ v) → Parent y → Parent z → y ≡ z
+      turn : ((u v : PartialReading) → IsPartialReading i pat u → Main u → IsPartialReading i pat v → Main v
+          → steps (trace u) ≡ n
+          → steps (trace v) ≡ n → u ≡ v) → Parent y → Parent z → y ≡ z
       turn ih (inl u) (inl v) = u ∙ sym v
       turn ih (inl u) (inr (x, h, m, t)) =
           let p = entered_steps y u in let r = main_some x h m in let w =
@@ -347,34 +369,37 @@ module _ (i : Input) (body : Ops) (s : Option Separator) (k : RepeatKind) (plain
           let o : x ≡ w = ih x w h m g l (omega (arith, p, e)) (omega (arith, r, f)) in
           one_step w y z g l (subst (λ r. Steps i r y) o t) c v d
 
-  no_back : (x y : Beginning) → Steps i x y → Begins i pat x → Main x → Main y
-      → (place x ≤ place y) × (count x ≤ count y)
-  no_back x y (inl a) h m c = let e : place y ≡ place x = a.1 in (omega (arith, e), idle_count (place x) x y h m a.0 c)
+  no_back : (x y : PartialReading) → Steps i x y → IsPartialReading i pat x → Main x → Main y
+      → (offset x ≤ offset y) × (count x ≤ count y)
+  no_back x y (inl a) h m c = let e : offset y ≡ offset x =
+      a.1 in (omega (arith, e), epsilon_count (offset x) x y h m a.0 c)
   no_back x y (inr a) h m c =
-      let e : place y ≡ place x + a.0 = a.3 in
-      (omega (arith, e), (fine_move (count x) (next i (place x) x) a.0 a.1 y a.2 (next_fine (place x) x h m)).1)
+      let e : offset y ≡ offset x + a.0 = a.3 in
+      (omega (arith, e), (fine_move (count x) (next i (offset x) x) a.0 a.1 y a.2 (next_fine (offset x) x h m)).1)
 
-  abbrev Later : Beginning → Beginning → Type 0
-  Later x y = (z : Beginning) × Steps i x z × Main z × (place z ≤ place y) × (count z ≤ count y)
+  abbrev Later : PartialReading → PartialReading → Type 0
+  Later x y = (z : PartialReading) × Steps i x z × Main z × (offset z ≤ offset y) × (count z ≤ count y)
 
   -- after more steps, the step from x was one of them
-  later : (n : ℕ) (x y : Beginning) → Begins i pat x → Main x → Begins i pat y → Main y → steps (story y) ≡ n
-      → steps (story x) < n → Later x y
+  later : (n : ℕ) (x y : PartialReading) → IsPartialReading i pat x → Main x → IsPartialReading i pat y → Main y
+      → steps (trace y) ≡ n
+      → steps (trace x) < n → Later x y
   later zero x y a c b d e l = absurd (omega (arith, l))
   later (suc n) x y a c b d e l = turn (λ v g m o r. later n x v a c g m o r) (main_parent y b d)
     where
       split : (m : ℕ) → m < suc n → (m ≡ n) ⊎ (m < n)
       split m j = grind (arith, j)
 
-      turn : ((v : Beginning) → Begins i pat v → Main v → steps (story v) ≡ n → steps (story x) < n → Later x v)
+      turn : ((v : PartialReading) → IsPartialReading i pat v → Main v → steps (trace v) ≡ n → steps (trace x) < n
+          → Later x v)
           → Parent y → Later x y
       turn ih (inl u) = let p = entered_steps y u in let r = main_some x a c in absurd (omega (arith, p, r, e, l))
-      turn ih (inr (p, h, m, u)) = go (split (steps (story x)) l)
+      turn ih (inr (p, h, m, u)) = go (split (steps (trace x)) l)
         where
-          t : steps (story p) ≡ n
+          t : steps (trace p) ≡ n
           t = let r = steps_one i p y u in omega (arith, r, e)
 
-          go : (steps (story x) ≡ n) ⊎ (steps (story x) < n) → Later x y
+          go : (steps (trace x) ≡ n) ⊎ (steps (trace x) < n) → Later x y
           go (inl j) = (y, subst (λ r. Steps i r y) (sym (unique n x p a c h m j t)) u, d, omega arith, omega arith)
           go (inr j) =
               let r : Later x p = ih p h m t j in
@@ -385,53 +410,55 @@ module _ (i : Input) (body : Ops) (s : Option Separator) (k : RepeatKind) (plain
               let o1 = o.1 in
               (r.0, r.1, r.2, omega (arith, r3, o0), omega (arith, r4, o1))
 
-  past : {A : Type 0} (q n : ℕ) (f : Bool) (x y : Beginning) → At i pat q x → Main x → At i pat q y → Main y
-      → GoesOn i q n f x → steps (story x) < steps (story y) → A
-  past {A} q n f x y a c b d g l = turn (later (steps (story y)) x y a.0 c b.0 d refl l)
+  past : {A : Type 0} (q n : ℕ) (f : Bool) (x y : PartialReading) → EndsAt i pat q x → Main x → EndsAt i pat q y
+      → Main y
+      → StepsOver i q n f x → steps (trace x) < steps (trace y) → A
+  past {A} q n f x y a c b d g l = turn (later (steps (trace y)) x y a.0 c b.0 d refl l)
     where
-      here : next i (place x) x ≡ Some (move n f g.0)
+      here : next i (offset x) x ≡ Some (move n f g.0)
       here = subst (λ p. next i p x ≡ Some (move n f g.0)) (sym a.1) g.1
 
       turn : Later x y → A
-      turn (z, inl t, m, o, r) = idle_or_next (place x) x z (move n f g.0) a.0 c t.0 m here
+      turn (z, inl t, m, o, r) = epsilon_or_next (offset x) x z (move n f g.0) a.0 c t.0 m here
       turn (z, inr t, m, o, r) =
-          let e : place z ≡ place x + t.0 = t.3 in
-          let j : 0 < t.0 = (fine_move (count x) (next i (place x) x) t.0 t.1 z t.2 (next_fine (place x) x a.0 c)).0 in
-          let u : place x ≡ q = a.1 in
-          let v : place y ≡ q = b.1 in
+          let e : offset z ≡ offset x + t.0 = t.3 in
+          let j : 0 < t.0 =
+          (fine_move (count x) (next i (offset x) x) t.0 t.1 z t.2 (next_fine (offset x) x a.0 c)).0 in
+          let u : offset x ≡ q = a.1 in
+          let v : offset y ≡ q = b.1 in
           absurd (omega (arith, e, j, u, v, o))
 
   -- what goes on is inside the repetition
-  goes_inside : (q n : ℕ) (f : Bool) (x : Beginning) → Begins i pat x → GoesOn i q n f x → Main x
-  goes_inside q n f (dot rest is (g ∷ up)) h e = tt
-  goes_inside q n f (dot no_ops is []) h e = absurd (none-some (move n f e.0) e.1)
-  goes_inside q n f (dot (op o rest) is []) h e =
+  goes_inside : (q n : ℕ) (f : Bool) (x : PartialReading) → IsPartialReading i pat x → StepsOver i q n f x → Main x
+  goes_inside q n f (partial rest is (g ∷ up)) h e = tt
+  goes_inside q n f (partial no_ops is []) h e = absurd (none-some (move n f e.0) e.1)
+  goes_inside q n f (partial (op o rest) is []) h e =
       let c = none_before is 0 o rest h.1 in
       absurd (none-some (move n f e.0) (subst (λ v. next i q v ≡ Some (move n f e.0))
-      (ap (λ v. dot v is []) (sym c.1) ∙ ap (λ v. dot pat v []) c.0) e.1))
+      (ap (λ v. partial v is []) (sym c.1) ∙ ap (λ v. partial pat v []) c.0) e.1))
 
-  pub lists_calm : (q : ℕ) → Ambiguous i pat q → ⊥
-  lists_calm q w = turn (three (steps (story w.one)) (steps (story w.other)))
+  pub lists_clear : (q : ℕ) → Ambiguous i pat q → ⊥
+  lists_clear q w = turn (three (steps (trace w.one)) (steps (trace w.other)))
     where
       c : Main w.one
-      c = goes_inside q w.n w.f w.one w.one_at.0 w.one_goes
+      c = goes_inside q w.n w.f w.one w.one_at.0 w.one_steps
 
       d : Main w.other
-      d = goes_inside q w.m w.g w.other w.other_at.0 w.other_goes
+      d = goes_inside q w.m w.g w.other w.other_at.0 w.other_steps
 
-      turn : (steps (story w.one) ≡ steps (story w.other))
-          ⊎ ((steps (story w.one) < steps (story w.other)) ⊎ (steps (story w.other) < steps (story w.one))) → ⊥
-      turn (inl e) = w.differ (unique (steps (story w.other)) w.one w.other w.one_at.0 c w.other_at.0 d e refl)
-      turn (inr (inl l)) = past q w.n w.f w.one w.other w.one_at c w.other_at d w.one_goes l
-      turn (inr (inr l)) = past q w.m w.g w.other w.one w.other_at d w.one_at c w.other_goes l
+      turn : (steps (trace w.one) ≡ steps (trace w.other))
+          ⊎ ((steps (trace w.one) < steps (trace w.other)) ⊎ (steps (trace w.other) < steps (trace w.one))) → ⊥
+      turn (inl e) = w.differ (unique (steps (trace w.other)) w.one w.other w.one_at.0 c w.other_at.0 d e refl)
+      turn (inr (inl l)) = past q w.n w.f w.one w.other w.one_at c w.other_at d w.one_steps l
+      turn (inr (inr l)) = past q w.m w.g w.other w.one w.other_at d w.one_at c w.other_steps l
 
   -- ---- rounds to the end
 
-  abbrev end_of : Rounds → Items → Beginning
-  end_of rs last = dot no_ops last (within body s k no_ops no_items rs ∷ [])
+  abbrev end_of : Rounds → Items → PartialReading
+  end_of rs last = partial no_ops last (within body s k no_ops no_items rs ∷ [])
 
-  abbrev begin_of : Rounds → Beginning
-  begin_of rs = dot body no_items (within body s k no_ops no_items rs ∷ [])
+  abbrev begin_of : Rounds → PartialReading
+  begin_of rs = partial body no_items (within body s k no_ops no_items rs ∷ [])
 
   -- the items are all rounds
   abbrev AreRounds : Item → Type 0
@@ -456,76 +483,77 @@ module _ (i : Input) (body : Ops) (s : Option Separator) (k : RepeatKind) (plain
       let r : Reads x i h.0 0 = subst (λ v. Reads x i h.0 (0 + items_width v)) e.0 h.2 in
       (x, ap (λ v. item v x) e.0, item_shape x (subst (λ v. Reads x i v 0) (sym (same_op h.0 e.1)) r))
 
-  end_step : (rs : Rounds) (last : Items) (z : Beginning) → Steps i (end_of rs last) z → Main z
+  end_step : (rs : Rounds) (last : Items) (z : PartialReading) → Steps i (end_of rs last) z → Main z
       → count z ≡ suc (round_number rs)
   end_step rs last z (inl a) m = ap (λ v. count v)
-      (again_only s k (dot body no_items (within body s k no_ops no_items (round rs last 0) ∷ [])) no_ops
+      (again_only s k (partial body no_items (within body s k no_ops no_items (round rs last 0) ∷ [])) no_ops
       (item no_items (rounds rs last)) z a.0 m)
   end_step rs last z (inr a) m = counted_move (suc (round_number rs)) _ a.0 a.1 z a.2
-      (separator_counted i (place (end_of rs last)) s k body no_ops no_items rs last)
+      (separator_counted i (offset (end_of rs last)) s k body no_ops no_items rs last)
 
   module _ (moves : (p : ℕ) (is : Items) → ReadsFirst is i body p no_ops → 0 < items_width is) where
-    shorter : {A : Type 0} (rs qs : Rounds) (last final : Items) → Begins i pat (end_of rs last)
-        → Begins i pat (end_of qs final) →
-        place (end_of rs last) ≡ place (end_of qs final)
-        → steps (story (end_of rs last)) < steps (story (end_of qs final)) → A
-    shorter {A} rs qs last final a b e l = turn (three (steps (story x)) (steps (story y)))
+    shorter : {A : Type 0} (rs qs : Rounds) (last final : Items) → IsPartialReading i pat (end_of rs last)
+        → IsPartialReading i pat (end_of qs final) →
+        offset (end_of rs last) ≡ offset (end_of qs final)
+        → steps (trace (end_of rs last)) < steps (trace (end_of qs final)) → A
+    shorter {A} rs qs last final a b e l = turn (three (steps (trace x)) (steps (trace y)))
       where
-        x : Beginning
+        x : PartialReading
         x = end_of rs last
 
-        y : Beginning
+        y : PartialReading
         y = begin_of qs
 
-        c : Begins i pat (begin_of qs)
+        c : IsPartialReading i pat (begin_of qs)
         c = (b.0, refl)
 
         wide : 0 < items_width final
         wide = moves (0 + rounds_width qs) final b.1
 
-        below : place (begin_of qs) < place (end_of rs last)
+        below : offset (begin_of qs) < offset (end_of rs last)
         below = let w = wide in omega (arith, w, e)
 
         more : round_number rs < round_number qs
         more =
             let r : Later (end_of rs last) (end_of qs final) =
-            later (steps (story (end_of qs final))) (end_of rs last) (end_of qs final) a tt b tt refl l in
+            later (steps (trace (end_of qs final))) (end_of rs last) (end_of qs final) a tt b tt refl l in
             let n = end_step rs last r.0 r.1 r.2 in
             let r4 = r.4 in
             omega (arith, n, r4)
 
-        turn : (steps (story x) ≡ steps (story y))
-            ⊎ ((steps (story x) < steps (story y)) ⊎ (steps (story y) < steps (story x))) → A
+        turn : (steps (trace x) ≡ steps (trace y))
+            ⊎ ((steps (trace x) < steps (trace y)) ⊎ (steps (trace y) < steps (trace x))) → A
         turn (inl f) =
-            let o : place (end_of rs last) ≡ place (begin_of qs) =
-            ap (λ v. place v) (unique (steps (story (begin_of qs))) (end_of rs last) (begin_of qs) a tt c tt f
+            let o : offset (end_of rs last) ≡ offset (begin_of qs) =
+            ap (λ v. offset v) (unique (steps (trace (begin_of qs))) (end_of rs last) (begin_of qs) a tt c tt f
             refl) in
             let w = below in
             absurd (omega (arith, o, w))
         turn (inr (inl f)) =
             let r : Later (end_of rs last) (begin_of qs) =
-            later (steps (story (begin_of qs))) (end_of rs last) (begin_of qs) a tt c tt refl f in
+            later (steps (trace (begin_of qs))) (end_of rs last) (begin_of qs) a tt c tt refl f in
             let o = (no_back (end_of rs last) r.0 r.1 a tt r.2).0 in
             let r3 = r.3 in
             let w = below in
             absurd (omega (arith, o, r3, w))
         turn (inr (inr f)) =
             let r : Later (begin_of qs) (end_of rs last) =
-            later (steps (story (end_of rs last))) (begin_of qs) (end_of rs last) c tt a tt refl f in
+            later (steps (trace (end_of rs last))) (begin_of qs) (end_of rs last) c tt a tt refl f in
             let o = (no_back (begin_of qs) r.0 r.1 c tt r.2).1 in
             let r4 = r.4 in
             let w = more in
             absurd (omega (arith, o, r4, w))
 
-    same_rounds : (rs qs : Rounds) (last final : Items) → Begins i pat (end_of rs last) → Begins i pat (end_of qs final)
+    same_rounds : (rs qs : Rounds) (last final : Items) → IsPartialReading i pat (end_of rs last)
+        → IsPartialReading i pat (end_of qs final)
         →
-        place (end_of rs last) ≡ place (end_of qs final) → rounds rs last ≡ rounds qs final
-    same_rounds rs qs last final a b e = turn (three (steps (story (end_of rs last))) (steps (story (end_of qs final))))
+        offset (end_of rs last) ≡ offset (end_of qs final) → rounds rs last ≡ rounds qs final
+    same_rounds rs qs last final a b e = turn (three (steps (trace (end_of rs last))) (steps (trace (end_of qs final))))
       where
-        turn : (steps (story (end_of rs last)) ≡ steps (story (end_of qs final)))
-            ⊎ ((steps (story (end_of rs last)) < steps (story (end_of qs final)))
-            ⊎ (steps (story (end_of qs final)) < steps (story (end_of rs last)))) → rounds rs last ≡ rounds qs final
-        turn (inl f) = ap rounds_here (unique (steps (story (end_of qs final))) (end_of rs last) (end_of qs final) a tt
+        turn : (steps (trace (end_of rs last)) ≡ steps (trace (end_of qs final)))
+            ⊎ ((steps (trace (end_of rs last)) < steps (trace (end_of qs final)))
+            ⊎ (steps (trace (end_of qs final)) < steps (trace (end_of rs last)))) → rounds rs last ≡ rounds qs final
+        turn (inl f) = ap rounds_here (unique (steps (trace (end_of qs final))) (end_of rs last) (end_of qs final) a tt
             b tt f refl)
         turn (inr (inl f)) = shorter rs qs last final a b e f
         turn (inr (inr f)) = shorter qs rs final last b a (sym e) f
@@ -567,7 +595,7 @@ separators_move g argument c p w e =
 
 pub lists_fit_once : ListsFitOnce
 lists_fit_once = record {
-  unambiguous = λ g body s repeat argument q h w. lists_calm (input_of g argument) body s repeat h
+  unambiguous = λ g body s repeat argument q h w. lists_clear (input_of g argument) body s repeat h
       (separators_move g argument) q w;
   only = λ g body s repeat argument is others h m a b.
       one_list (input_of g argument) body s repeat h (separators_move g argument) m is others a.0 b.0 (a.1 ∙ sym b.1);

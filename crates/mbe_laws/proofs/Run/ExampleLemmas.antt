@@ -1,9 +1,9 @@
 -- The pattern with very many readings, computed.
 use Rattle.std.specs.Prelude.{refl, ◌≡◌}
-use Rattle.mbe_tt.specs.Fragments.Grammar.{Grammar}
+use Rattle.mbe_tt.specs.Grammars.Grammar.{Grammar}
 use Rattle.mbe_semantics.specs.Readings.Verdict.{many_readings}
 use Rattle.mbe_laws.specs.Bounded.Run.{verdict_bounded, run_bounded}
-use Rattle.mbe_laws.specs.Bounded.TwoEach.{walk}
+use Rattle.mbe_laws.specs.Bounded.ClosureTwoEach.{walk}
 use Rattle.mbe_laws.specs.Bounded.DeepExample.{DeepExample, deep, semicolons}
 
 deep_many : (g : Grammar) → verdict_bounded g deep (semicolons 15) ≡ many_readings

@@ -3,10 +3,15 @@ use Rattle.std.specs.Prelude.{◌≡◌, ◌<◌, ℕ, zero, suc, Bool, true, fa
 use Rattle.std.proofs.Common.{arith, ap, sym, ◌∙◌, subst}
 use Rattle.std.proofs.lemmas.Bool.{lt-leb}
 use Rattle.std.proofs.lemmas.Option.{same_Some}
-use Rattle.mbe_semantics.specs.declared.kinds.RepeatKind.TheVariants.{ZeroOrMore}
-use Rattle.mbe_semantics.specs.Writing.Rounds.{finite, level}
-use Rattle.mbe_semantics.specs.Writing.Substitution.{faults, extent_faults, any_below, any_round, separator_trees, AreKeptRounds, Substitutes}
-use Rattle.mbe_semantics.specs.Bindings.Account.{Command, Commands, CommandRounds, command, command_round, Entry, RoundEntry, Log, Gives, GivesRounds, PartGives, PartGivesRounds, gives_nothing, gives_binding, gives_empty, gives_skip, gives_missing, gives_nested, gives_link, gives_no_rounds, gives_round, gives_linked_rounds, part_gives, part_gives_rounds}
+use Rattle.mbe_semantics.specs.declared.fragment_kinds.RepeatKind.TheVariants.{ZeroOrMore}
+use Rattle.mbe_semantics.specs.Transcription.Rounds.{finite, level}
+use Rattle.mbe_semantics.specs.Transcription.Substitution.{faults, extent_faults, any_below, any_round, separator_trees}
+use Rattle.mbe_semantics.specs.Transcription.Substitution.{AreKeptRounds, Substitutes}
+use Rattle.mbe_semantics.specs.Bindings.Account.{Command, Commands, CommandRounds, command, command_round, Entry}
+use Rattle.mbe_semantics.specs.Bindings.Account.{RoundEntry, Log, Gives, GivesRounds, PartGives, PartGivesRounds}
+use Rattle.mbe_semantics.specs.Bindings.Account.{gives_nothing, gives_binding, gives_empty, gives_skip, gives_missing}
+use Rattle.mbe_semantics.specs.Bindings.Account.{gives_nested, gives_link, gives_no_rounds, gives_round}
+use Rattle.mbe_semantics.specs.Bindings.Account.{gives_linked_rounds, part_gives, part_gives_rounds}
 use Rattle.mbe_semantics.specs.Laws.Laws.{WritesAllRounds, OneAccount}
 
 none_below : (test : ℕ → Bool) (n : ℕ) → ((i : ℕ) → i < n → IsFalse (test i)) → IsFalse (any_below test n)

@@ -1,16 +1,21 @@
 -- What each fragment of a reading has, each value has that the reading binds, and each that a path leads to.
-use Rattle.std.specs.Prelude.{◌≡◌, ℕ, zero, suc, Bool, true, false, if◌then◌else◌, List, [], ◌∷◌, Option, Some, None, option_and_then, refl}
+use Rattle.std.specs.Prelude.{◌≡◌, ℕ, zero, suc, Bool, true, false, if◌then◌else◌, List, [], ◌∷◌, Option, Some, None}
+use Rattle.std.specs.Prelude.{option_and_then, refl}
 use Rattle.std.proofs.Common.{subst}
 use Rattle.std.proofs.lemmas.Option.{none-some, same_Some}
 use Rattle.std.specs.Str.{bytes_eq}
-use Rattle.mbe_semantics.specs.declared.kinds.MetaVarKind.{MetaVarKind}
-use Rattle.mbe_semantics.specs.declared.kinds.RepeatKind.{RepeatKind}
-use Rattle.mbe_semantics.specs.Syntax.Op.{Name, Separator, Op, token, group, variable, repetition, expression, Ops, no_ops, op}
-use Rattle.mbe_semantics.specs.Readings.Item.{Fragment, Item, matched, bound, grouped, skipped, rounds, Items, no_items, item, Rounds, no_rounds, round}
+use Rattle.mbe_semantics.specs.declared.fragment_kinds.MetaVarKind.{MetaVarKind}
+use Rattle.mbe_semantics.specs.declared.fragment_kinds.RepeatKind.{RepeatKind}
+use Rattle.mbe_semantics.specs.Syntax.Op.{Name, Separator, Op, token, group, variable, repetition, expression, Ops}
+use Rattle.mbe_semantics.specs.Syntax.Op.{no_ops, op}
+use Rattle.mbe_semantics.specs.Readings.Item.{Fragment, Item, matched, bound, grouped, skipped, rounds, Items, no_items}
+use Rattle.mbe_semantics.specs.Readings.Item.{item, Rounds, no_rounds, round}
 use Rattle.mbe_semantics.specs.Readings.Input.{Input}
 use Rattle.mbe_semantics.specs.Readings.Reading.{Reads, ReadsFirst, ReadsRounds}
-use Rattle.mbe_semantics.specs.Bindings.Environment.{Value, fragment, list, empty, missing, Values, no_values, value, Environment, value_of, set_value, add_value, grown, add_round, skip_names, bind_item, bind, bind_rounds}
-use Rattle.mbe_semantics.specs.Writing.Rounds.{Path, member, follow, followed}
+use Rattle.mbe_semantics.specs.Bindings.Environment.{Value, fragment, list, empty, missing, Values, no_values, value}
+use Rattle.mbe_semantics.specs.Bindings.Environment.{Environment, value_of, set_value, add_value, grown, add_round}
+use Rattle.mbe_semantics.specs.Bindings.Environment.{skip_names, bind_item, bind, bind_rounds}
+use Rattle.mbe_semantics.specs.Transcription.Rounds.{Path, member, follow, followed}
 
 module _ (P : Fragment → Type 0) where
   abbrev mutual

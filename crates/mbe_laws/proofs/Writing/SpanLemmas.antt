@@ -1,5 +1,6 @@
 -- Where the spans of an expansion come from.
-use Rattle.std.specs.Prelude.{◌≡◌, ◌⊎◌, ◌==◌, ℕ, zero, suc, Bool, true, false, if◌then◌else◌, nat_le, ◌-◌, List, [], ◌∷◌, ◌++◌, Option, Some, None, option_and_then, refl, map}
+use Rattle.std.specs.Prelude.{◌≡◌, ◌⊎◌, ◌==◌, ℕ, zero, suc, Bool, true, false, if◌then◌else◌, nat_le, ◌-◌, List, []}
+use Rattle.std.specs.Prelude.{◌∷◌, ◌++◌, Option, Some, None, option_and_then, refl, map}
 use Rattle.std.proofs.Common.{subst, sym, ap, ◌∙◌, inl, inr}
 use Rattle.std.proofs.lemmas.Option.{none-some}
 use Rattle.mbe_tt.specs.declared.span.Span.{Span}
@@ -7,24 +8,33 @@ use Rattle.mbe_tt.specs.declared.tt.DelimiterKind.{DelimiterKind}
 use Rattle.mbe_tt.specs.declared.tt.DelimiterKind.TheVariants.{Invisible, Parenthesis, Brace, Bracket}
 use Rattle.mbe_tt.specs.declared.tt.Punct.{Punct}
 use Rattle.mbe_tt.specs.Trees.Leaf.{Leaf, literal, punct, ident, span_of}
-use Rattle.mbe_tt.specs.Trees.Tree.{Forest, none, leaf, group, append, rest_at, flat_len, Cut, alone, alone_leaf, strip_group, strip_invisible, spans_of}
-use Rattle.mbe_tt.specs.Fragments.Grammar.{Grammar}
-use Rattle.mbe_semantics.specs.declared.kinds.MetaVarKind.{MetaVarKind}
-use Rattle.mbe_semantics.specs.declared.kinds.Missing.{Missing}
-use Rattle.mbe_semantics.specs.declared.kinds.Missing.TheVariants as defaults
+use Rattle.mbe_tt.specs.Trees.Tree.{Forest, none, leaf, group, append, rest_at, flat_len, Cut, alone, alone_leaf}
+use Rattle.mbe_tt.specs.Trees.Tree.{strip_group, strip_invisible, spans_of}
+use Rattle.mbe_tt.specs.Grammars.Grammar.{Grammar}
+use Rattle.mbe_semantics.specs.declared.fragment_kinds.MetaVarKind.{MetaVarKind}
+use Rattle.mbe_semantics.specs.declared.fragment_kinds.Missing.{Missing}
+use Rattle.mbe_semantics.specs.declared.fragment_kinds.Missing.TheVariants as defaults
 use Rattle.mbe_semantics.specs.Syntax.Op as ops
-use Rattle.mbe_semantics.specs.Syntax.Op.{Name, Token, Separator, Expression, ignore, count, index, len, concat, Op, Ops, no_ops, op}
+use Rattle.mbe_semantics.specs.Syntax.Op.{Name, Token, Separator, Expression, ignore, count, index, len, concat, Op}
+use Rattle.mbe_semantics.specs.Syntax.Op.{Ops, no_ops, op}
 use Rattle.mbe_semantics.specs.Fragments.Kinds.{facts, Style, plain, stripped, as_expression, as_path}
 use Rattle.mbe_semantics.specs.Readings.Item.{Fragment}
 use Rattle.mbe_semantics.specs.Readings.Input.{input_of}
 use Rattle.mbe_semantics.specs.Bindings.Missing.{missing_trees, default_trees}
-use Rattle.mbe_semantics.specs.Fragments.Takes.{takes}
-use Rattle.mbe_semantics.specs.Bindings.Environment.{Value, fragment, list, empty, missing, Environment, value_of, environment_of}
-use Rattle.mbe_semantics.specs.Writing.Rounds.{Path, Extent, finite, endless, kept_rounds, follow, followed, level}
-use Rattle.mbe_semantics.specs.Writing.Concat.{concat_text}
-use Rattle.mbe_semantics.specs.Writing.Written.{needs_parentheses, path_trees, double_colon, IsParenthesized, IsWrittenAs}
-use Rattle.mbe_semantics.specs.Writing.Substitution.{separator_trees, AreRounds, AreKeptRounds, AreMarkedPuncts, IsMarked, IsVariable, IsConcat, IsExpression, Writes, Substitutes}
-use Rattle.mbe_semantics.specs.Laws.Laws.{IsSpanIn, WrittenInPlace, unbound_span, kept_spans_of_op, kept_spans, spans_of_token, spans_of_expression, marked_spans_of_op, marked_spans, SpansHaveSources}
+use Rattle.mbe_semantics.specs.Fragments.FragmentFront.{fragment_front}
+use Rattle.mbe_semantics.specs.Bindings.Environment.{Value, fragment, list, empty, missing, Environment, value_of}
+use Rattle.mbe_semantics.specs.Bindings.Environment.{environment_of}
+use Rattle.mbe_semantics.specs.Transcription.Rounds.{Path, Extent, finite, endless, kept_rounds, follow, followed}
+use Rattle.mbe_semantics.specs.Transcription.Rounds.{level}
+use Rattle.mbe_semantics.specs.Transcription.Concat.{concat_text}
+use Rattle.mbe_semantics.specs.Transcription.FragmentTrees.{needs_parentheses, path_trees, double_colon}
+use Rattle.mbe_semantics.specs.Transcription.FragmentTrees.{IsParenthesized, IsFragmentOutput}
+use Rattle.mbe_semantics.specs.Transcription.Substitution.{separator_trees, AreRounds, AreKeptRounds, AreMarkedPuncts}
+use Rattle.mbe_semantics.specs.Transcription.Substitution.{IsMarked, IsVariable, IsConcat, IsExpression, Writes}
+use Rattle.mbe_semantics.specs.Transcription.Substitution.{Substitutes}
+use Rattle.mbe_semantics.specs.Laws.Laws.{IsSpanIn, WrittenInPlace, unbound_span, kept_spans_of_op, kept_spans}
+use Rattle.mbe_semantics.specs.Laws.Laws.{spans_of_token, spans_of_expression, marked_spans_of_op, marked_spans}
+use Rattle.mbe_semantics.specs.Laws.Laws.{SpansHaveSources}
 use Rattle.mbe_semantics.proofs.FrontLemmas.{takes_cut}
 use Rattle.mbe_semantics.proofs.InputLemmas.{fragment_from}
 use Rattle.mbe_laws.proofs.Writing.SourceLemmas as sources
@@ -168,11 +178,11 @@ module _ (Q : Span → Type 0) where
 InPlace : Forest → Fragment → Type 0
 InPlace argument x = (p : ℕ) × (back : Forest) × (rest_at argument p ≡ append x.trees back)
 
-in_place : (g : Grammar) (argument : Forest) (kind : Option MetaVarKind) (p : ℕ) (x : Fragment)
+in_offset : (g : Grammar) (argument : Forest) (kind : Option MetaVarKind) (p : ℕ) (x : Fragment)
     → (input_of g argument).fragment_at kind p ≡ Some x → InPlace argument x
 unfolding InPlace
-in_place g argument kind p x e =
-    let r = fragment_from kind (takes g kind (rest_at argument p)) x e in
+in_offset g argument kind p x e =
+    let r = fragment_from kind (fragment_front g kind (rest_at argument p)) x e in
     let c : Cut = r.0 in
     (p, c.back, sym (takes_cut g kind (rest_at argument p) c r.1) ∙ ap (λ t. append t c.back) r.2)
 
@@ -180,7 +190,7 @@ pub written_in_place : (Marks : Span → Span → Type 0) → WrittenInPlace Mar
 unfolding InPlace
 written_in_place Marks g call_site pattern argument is path name kind span x out r f s w =
     let h : InPlace argument x = sources.followed_has (InPlace argument) (environment_of is) path name (fragment x)
-    (sources.reading_has (InPlace argument) (input_of g argument) (in_place g argument) is pattern r.0) f in
+    (sources.reading_has (InPlace argument) (input_of g argument) (in_offset g argument) is pattern r.0) f in
     let o : out ≡ alone (strip_invisible x.trees) = written (value_of (environment_of is) name) f w in
     (h.0, h.1, h.2, o, ap spans_of o ∙ same_alone (strip_invisible x.trees))
   where
@@ -189,7 +199,7 @@ written_in_place Marks g call_site pattern argument is path name kind span x out
         → out ≡ alone (strip_invisible x.trees)
     written None e k = absurd (none-some (fragment x) e)
     written (Some v) e k =
-        subst (λ y. IsWrittenAs Marks call_site y span x.trees out) s
+        subst (λ y. IsFragmentOutput Marks call_site y span x.trees out) s
         (subst (λ u. IsVariable g Marks call_site (environment_of is) name span (Some v) u out) e k)
 
 -- ---- what a template writes
@@ -221,7 +231,7 @@ module _ (g : Grammar) (Marks : Span → Span → Type 0) (call_site : Span) (en
       marks span marked own m in subst (Each Q) (sym e) (q, h, q, tt)
 
   written_each : (style : Style) (span : Span) (f out : Forest) → T span → Each Q f
-      → IsWrittenAs Marks call_site style span f out → Each Q out
+      → IsFragmentOutput Marks call_site style span f out → Each Q out
   written_each plain span f out own h e = subst (Each Q) (sym e) (each_alone Q f h)
   written_each stripped span f out own h e =
       subst (Each Q) (sym e) (each_alone Q (strip_invisible f) (each_strip Q f h))
@@ -332,7 +342,7 @@ spans_have_sources Marks g style argument call_site rs n out (r, a, first, (insi
 
     taken : (kind : Option MetaVarKind) (p : ℕ) (x : Fragment) → (input_of g argument).fragment_at kind p ≡ Some x
         → Each Q x.trees
-    taken kind p x f = let h = in_place g argument kind p x f in
+    taken kind p x f = let h = in_offset g argument kind p x f in
         each_front Q x.trees h.1 (subst (Each Q) h.2 (each_rest Q argument h.0 argument_each))
 
     has : sources.EnvironmentHas (λ x. Each Q x.trees) env

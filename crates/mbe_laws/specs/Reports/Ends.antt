@@ -1,66 +1,71 @@
--- The first and the last of each dot, for what a match that doesn't fit reports.
+-- The first and the last partial reading of each state. A match that fails reports by them.
 use Rattle.std.specs.Prelude.{◌≡◌, ℕ, Bool, true, false, Option, Some, None, List, [], ◌∷◌, reverse}
 use Rattle.mbe_tt.specs.Trees.Tree.{Forest}
-use Rattle.mbe_tt.specs.Fragments.Grammar.{Grammar, IsLawful}
+use Rattle.mbe_tt.specs.Grammars.Grammar.{Grammar, IsLawful}
 use Rattle.mbe_semantics.specs.Syntax.Op.{Ops}
 use Rattle.mbe_semantics.specs.Readings.Input.{Input, input_of}
-use Rattle.mbe_semantics.specs.Readings.Reading.{Beginning, Begins, At}
+use Rattle.mbe_semantics.specs.Readings.Reading.{PartialReading, IsPartialReading, EndsAt}
 use Rattle.mbe_semantics.specs.Syntax.Nullable.{Checked}
 use Rattle.mbe_semantics.specs.Matching.Lists.{In}
-use Rattle.mbe_semantics.specs.Matching.Held.{held, moves_of, targets}
-use Rattle.mbe_semantics.specs.Matching.Dots.{number_of}
-use Rattle.mbe_laws.specs.Bounded.Dots.{dot_of}
-use Rattle.mbe_laws.specs.Bounded.TwoEach.{sift}
+use Rattle.mbe_semantics.specs.Matching.Closure.{closure, moves_of, targets}
+use Rattle.mbe_semantics.specs.Matching.States.{state_number}
+use Rattle.mbe_laws.specs.Bounded.States.{state_of}
+use Rattle.mbe_laws.specs.Bounded.ClosureTwoEach.{first_of_each_key}
 
--- the first of each dot
-abbrev pub firsts : List Beginning → List Beginning
-firsts xs = sift number_of 1 [] xs
+-- the first of each state
+abbrev pub firsts : List PartialReading → List PartialReading
+firsts xs = first_of_each_key state_number 1 [] xs
 
--- the last of each dot
-abbrev pub lasts : List Beginning → List Beginning
+-- the last of each state
+abbrev pub lasts : List PartialReading → List PartialReading
 lasts xs = reverse (firsts (reverse xs))
 
-abbrev pub first_if : Bool → Beginning → Option Beginning → Option Beginning
+abbrev pub first_if : Bool → PartialReading → Option PartialReading → Option PartialReading
 first_if true x o = Some x
 first_if false x o = o
 
 -- the first that passes the test
-abbrev pub first_that : (Beginning → Bool) → List Beginning → Option Beginning
+abbrev pub first_that : (PartialReading → Bool) → List PartialReading → Option PartialReading
 first_that p [] = None
 first_that p (x ∷ xs) = first_if (p x) x (first_that p xs)
 
--- the last that does
-abbrev pub last_that : (Beginning → Bool) → List Beginning → Option Beginning
+-- the last that passes the test
+abbrev pub last_that : (PartialReading → Bool) → List PartialReading → Option PartialReading
 last_that p xs = first_that p (reverse xs)
 
--- what comes to the next place, where what waits there comes back in the order in which it began to wait, and the last
--- is looked at first
-abbrev pub turned : Input → ℕ → List Beginning → List Beginning
-turned i q ys = reverse (targets (moves_of i q ys))
+-- The partial readings that arrive at the next offset. Those that waited arrive in the order in
+-- which they began to wait, and the last is visited first.
+abbrev pub reversed_targets : Input → ℕ → List PartialReading → List PartialReading
+reversed_targets i q ys = reverse (targets (moves_of i q ys))
 
--- Among beginnings of a pattern, a test that asks for the dot alone finds the same first among the first of each dot,
--- and the same last among
--- the last.
-pub record EndsAreKept : Type 0 where
-  pub first : (i : Input) (pattern : Ops) (p : Beginning → Bool) (xs : List Beginning)
-      → ((x : Beginning) → In x xs → Begins i pattern x) →
-      ((x y : Beginning) → dot_of x ≡ dot_of y → p x ≡ p y) → first_that p (firsts xs) ≡ first_that p xs
-  pub last : (i : Input) (pattern : Ops) (p : Beginning → Bool) (xs : List Beginning)
-      → ((x : Beginning) → In x xs → Begins i pattern x) →
-      ((x y : Beginning) → dot_of x ≡ dot_of y → p x ≡ p y) → last_that p (lasts xs) ≡ last_that p xs
+-- Among partial readings of a pattern, a test that depends on the state alone finds the same first
+-- among the first of each state, and the same last among the last of each state.
+pub record EndsPreserved : Type 0 where
+  pub first : (i : Input) (pattern : Ops) (p : PartialReading → Bool) (xs : List PartialReading)
+      → ((x : PartialReading) → In x xs → IsPartialReading i pattern x) →
+      ((x y : PartialReading) → state_of x ≡ state_of y → p x ≡ p y) → first_that p (firsts xs)
+      ≡ first_that p xs
+  pub last : (i : Input) (pattern : Ops) (p : PartialReading → Bool) (xs : List PartialReading)
+      → ((x : PartialReading) → In x xs → IsPartialReading i pattern x) →
+      ((x y : PartialReading) → state_of x ≡ state_of y → p x ≡ p y) → last_that p (lasts xs)
+      ≡ last_that p xs
 
--- The first at the next place come from the last here, and the last there from the first here.
-pub record EndsGoOn (g : Grammar) (pattern : Ops) (argument : Forest) (q m : ℕ) (ys : List Beginning) : Type 0 where
-  pub first : firsts (held (input_of g argument) m (turned (input_of g argument) q (lasts ys)))
-      ≡ firsts (held (input_of g argument) m (turned (input_of g argument) q ys))
-  pub last : lasts (held (input_of g argument) m (turned (input_of g argument) q (firsts ys)))
-      ≡ lasts (held (input_of g argument) m (turned (input_of g argument) q ys))
+-- The first of each state at the next offset come from the last here, and the last there from the
+-- first here.
+pub record EndsAtNext (g : Grammar) (pattern : Ops) (argument : Forest) (q m : ℕ)
+    (ys : List PartialReading) : Type 0 where
+  pub first : firsts (closure (input_of g argument) m
+      (reversed_targets (input_of g argument) q (lasts ys)))
+      ≡ firsts (closure (input_of g argument) m (reversed_targets (input_of g argument) q ys))
+  pub last : lasts (closure (input_of g argument) m
+      (reversed_targets (input_of g argument) q (firsts ys)))
+      ≡ lasts (closure (input_of g argument) m (reversed_targets (input_of g argument) q ys))
 
--- for beginnings that end here, and go on to m
+-- for partial readings that end here, and step to m
 abbrev pub EndsLaw : Type 0
 EndsLaw = (g : Grammar) (pattern : Ops) (argument : Forest) → IsLawful g → Checked pattern
-    → (q m : ℕ) (ys : List Beginning) →
-    ((y : Beginning) → In y ys → At (input_of g argument) pattern q y)
-    → ((z : Beginning) → In z (targets (moves_of (input_of g argument) q ys))
-    → At (input_of g argument) pattern m z) →
-    EndsGoOn g pattern argument q m ys
+    → (q m : ℕ) (ys : List PartialReading) →
+    ((y : PartialReading) → In y ys → EndsAt (input_of g argument) pattern q y)
+    → ((z : PartialReading) → In z (targets (moves_of (input_of g argument) q ys))
+    → EndsAt (input_of g argument) pattern m z) →
+    EndsAtNext g pattern argument q m ys

@@ -1,4 +1,5 @@
-// The steps of a match as edges between nodes. A node is a dot of the pattern at a place of the argument, as a number.
+// The steps of a match as edges between nodes. A node is a number: it stands for a state of the
+// pattern at an offset of the argument.
 
 #[derive(Clone, Copy)]
 pub(crate) struct Edge {
@@ -6,10 +7,10 @@ pub(crate) struct Edge {
     pub(crate) target: usize,
 }
 
-// The steps from a node: two at most.
+// The steps from a node to other nodes: two at most. `offset` is the node's offset.
 #[derive(Clone, Copy)]
-pub(crate) struct Step {
-    pub(crate) place: usize,
+pub(crate) struct NodeSteps {
+    pub(crate) offset: usize,
     pub(crate) source: usize,
     pub(crate) one: Option<usize>,
     pub(crate) other: Option<usize>,

@@ -1,13 +1,13 @@
-// The graph of a pattern and an argument: dots at places are nodes, and steps are edges.
+// The graph of a pattern and an argument. A node is a state at an offset, and an edge is a step.
 ghost use Rattle.std.specs.Prelude.{◌≡◌, IfOk};
-ghost use Rattle.mbe_matcher.specs.Readings.Going.{IsGraph};
+ghost use Rattle.mbe_matcher.specs.Readings.Continuation.{IsGraph};
 
-use crate::readings::edges::{Edge, Step};
-use crate::readings::marks::{edges_in, flipped, reached_from};
-use crate::readings::spot::Spot;
-use crate::readings::spots::spots_of;
-use crate::readings::steps::all_steps;
-use crate::readings::ways::node;
+use crate::readings::edges::{Edge, NodeSteps};
+use crate::readings::reachability::{edges_in, flipped, reached_from};
+use crate::readings::state::PatternState;
+use crate::readings::states::states_of_pattern;
+use crate::readings::step_table::all_steps;
+use crate::readings::transitions::node;
 use mbe_ops::ops::MetaTemplate;
 use mbe_tt::grammar::FragmentGrammar;
 use mbe_tt::tt::TokenTreesView;
@@ -18,16 +18,16 @@ use std::alloc::{AllocError, Allocator, Global};
 pub(crate) struct Graph<'a, A: Allocator = Global> {
     pub(crate) pattern: &'a MetaTemplate<A>,
     pub(crate) argument: TokenTreesView<'a, A>,
-    pub(crate) spots: Vec<Spot<'a, A>, A>,
-    pub(crate) steps: Vec<Step, A>,
+    pub(crate) states: Vec<PatternState<'a, A>, A>,
+    pub(crate) steps: Vec<NodeSteps, A>,
     pub(crate) edges: Vec<Edge, A>,
-    // To which edges lead from the start.
+    // Whether each node is reachable from the start.
     pub(crate) reached: Vec<bool, A>,
-    // From which edges lead to the end.
+    // Whether the end is reachable from each node.
     pub(crate) live: Vec<bool, A>,
-    // The node of the end.
+    // The node of the pattern's end at the argument's end.
     pub(crate) end: usize,
-    // How many nodes there are, at most.
+    // An upper bound of the number of nodes.
     pub(crate) count: usize,
 }
 
@@ -41,9 +41,9 @@ pub(crate) fn graph_of<'a, A: Allocator + Copy, G: FragmentGrammar>(
     ensures argument { IfOk result (λ x. x.argument ≡ argument.entry) }
     ensures graph { IfOk result (λ x. IsGraph (G.grammar grammar.now) x) }
 {
-    let spots = spots_of(alloc, pattern)?;
-    let steps = all_steps(alloc, grammar, &spots, argument)?;
-    let size = spots.len();
+    let states = states_of_pattern(alloc, pattern)?;
+    let steps = all_steps(alloc, grammar, &states, argument)?;
+    let size = states.len();
     let length = argument.flat_len();
     let end = node(size, length, 1).ok_or(AllocError)?;
     let most = node(size, length, size).ok_or(AllocError)?;
@@ -55,7 +55,7 @@ pub(crate) fn graph_of<'a, A: Allocator + Copy, G: FragmentGrammar>(
     Ok(Graph {
         pattern,
         argument,
-        spots,
+        states,
         steps,
         edges,
         reached,

@@ -1,7 +1,7 @@
-// Laws about partings. They run nothing.
-ghost use Rattle.mbe_matcher.specs.Readings.Parting.{ReadingsPart};
+// Laws of divergence. They run nothing.
+ghost use Rattle.mbe_matcher.specs.Readings.Divergence.{ReadingsDiverge};
 
-/// Two different readings part somewhere.
-pub fn readings_part()
-    ensures { ReadingsPart }
+/// Two different readings diverge at some offset.
+pub fn readings_diverge()
+    ensures { ReadingsDiverge }
 {}

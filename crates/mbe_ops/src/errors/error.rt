@@ -1,10 +1,12 @@
-// Errors of definitions and of expansions.
+// Errors of definitions (`ParseError`) and of expansions (`ExpandError`). `SyntaxFault` is a fault
+// of a definition without a text: it takes no memory, and `ParseError` is made of it at the end.
 ghost use Rattle.std.specs.Prelude.{◌≡◌, Some, IfOk};
 ghost use Rattle.mbe_semantics.specs.Syntax.Template.{expected as expected_fault};
 ghost use Rattle.mbe_semantics.specs.Syntax.Template.{unexpected_token as unexpected_fault};
 ghost use Rattle.mbe_semantics.specs.Expansion.Error.{text_of_fault, text_of_kind};
 ghost use Rattle.mbe_ops.specs.Errors.ErrorViews.{fault_of};
-ghost use Rattle.mbe_ops.specs.Errors.ErrorViews.{parse_error_of, kind_of, error_of, count_error_text};
+ghost use Rattle.mbe_ops.specs.Errors.ErrorViews.{parse_error_of, kind_of, error_of};
+ghost use Rattle.mbe_ops.specs.Errors.ErrorViews.{count_error_text};
 
 use mbe_tt::span::Span;
 use std::alloc::{AllocError, AllocFailed, Allocator, Global};
@@ -12,54 +14,56 @@ use std::error::Error;
 use std::fmt;
 use std::rc::Rc;
 
-/// Why a definition, or the part of it after the rules that were kept, wasn't read (as in rust-analyzer).
+/// Why a definition is refused, or the part of it after the rules that were kept (as in
+/// rust-analyzer).
 #[derive(Drop)]
 #[derive_where(Debug, PartialEq, Eq)]
 pub enum ParseError<A: Allocator = Global> {
-    /// What is there isn't allowed there, or lacks its specifier; the text says which.
+    /// A token isn't allowed here, or a variable has no specifier. The text says which.
     UnexpectedToken(String<A>),
-    /// Something else is expected there; the text says what.
+    /// Something else is expected here. The text says what.
     Expected(String<A>),
-    /// The suffix of a repetition isn't one.
+    /// A repetition isn't followed by a separator and one of `*`, `+`, `?`.
     InvalidRepeat,
-    /// A repetition without separator whose body can read nothing.
+    /// A repetition has no separator, and its body can match no token.
     RepetitionEmptyTokenTree,
 }
 
-/// Why an expansion isn't the one that the definition says, and where (as in rust-analyzer). A clone shares it.
+/// The error of an expansion, with its span (as in rust-analyzer). A clone shares the memory.
 #[derive(Drop)]
 #[derive_where(Clone, Debug, PartialEq, Eq, Hash)]
 pub struct ExpandError<A: Allocator = Global> {
-    /// Where, and what.
+    /// The span and the kind.
     pub inner: Rc<(Span, ExpandErrorKind<A>), A>,
 }
 
-/// What went wrong in an expansion (as in rust-analyzer).
+/// The kind of an expansion's error (as in rust-analyzer).
 #[derive(Drop)]
 #[derive_where(Debug, PartialEq, Eq, Hash)]
 pub enum ExpandErrorKind<A: Allocator = Global> {
-    /// A variable is bound to what can't be written there; the text says to what.
+    /// A variable's binding can't be written here, or a fragment is expected here. The text says
+    /// which.
     BindingError(String<A>),
-    /// A variable of a metavariable expression is bound to nothing; the text is its name.
+    /// A metavariable expression names a variable that isn't bound. The text is the name.
     UnresolvedBinding(String<A>),
-    /// The argument goes on where the pattern can't.
+    /// The argument has more tokens than the pattern matches.
     LeftoverTokens,
     /// A repetition has no end, or 65536 rounds or more; or a number doesn't fit 64 bits.
     LimitExceeded,
-    /// No rule fits.
+    /// No rule matches.
     NoMatchingRule,
-    /// A token of the argument isn't that of the pattern.
+    /// A token of the argument isn't the one that the pattern has.
     UnexpectedToken,
 }
 
-/// Faults of `${count(..)}` (as in rust-analyzer). No call makes one.
+/// Errors of `${count(..)}` (as in rust-analyzer). No call returns one.
 #[derive(Clone, Copy, Debug, Drop, PartialEq, Eq, Hash)]
 pub enum CountError {
     OutOfBounds,
     Misplaced,
 }
 
-/// The first fault of a definition, before memory is asked for its text.
+/// The first fault of a definition, without a text. It takes no memory.
 #[derive(Clone, Copy, Debug, PartialEq, Eq)]
 pub enum SyntaxFault {
     ExpectedSubtree,
@@ -77,7 +81,7 @@ pub enum SyntaxFault {
     InvalidRepeat,
 }
 
-/// Why reading stopped.
+/// Why parsing stopped: out of memory, or a fault.
 #[derive(Clone, Copy, Debug, PartialEq, Eq)]
 pub enum ReadError {
     Memory,
@@ -87,7 +91,7 @@ pub enum ReadError {
 impl ReadError {
     ghost use Rattle.mbe_ops.specs.declared.errors.error.ReadError.TheVariants as variants;
 
-    /// The fault. `AllocError` if memory was the reason.
+    /// Returns the fault. `AllocError` if parsing was out of memory.
     pub fn fault(self) -> Result<SyntaxFault, AllocError>
         ensures { IfOk result (λ fault. self ≡ variants.Fault fault) }
     {
@@ -132,7 +136,7 @@ impl<T: Drop> From<AllocFailed<T>> for ReadError {
 }
 
 impl<A: Allocator + Copy> ParseError<A> {
-    /// An equal copy. `AllocError` if out of memory.
+    /// Returns an equal copy. `AllocError` if out of memory.
     pub fn try_clone(&self, alloc: A) -> Result<ParseError<A>, AllocError>
         ensures { IfOk result (λ copy. parse_error_of copy ≡ parse_error_of self.now) }
     {
@@ -160,8 +164,9 @@ impl<A: Allocator + Copy> ParseError<A> {
         Ok(ParseError::UnexpectedToken(String::from_str(alloc, text)?))
     }
 
-    /// The error that reports a fault, with its text in memory of `alloc`. `AllocError` if out of memory.
-    pub fn of_fault(alloc: A, fault: SyntaxFault) -> Result<ParseError<A>, AllocError>
+    /// Makes the error that reports a fault, with a text in memory of `alloc`. `AllocError` if out
+    /// of memory.
+    pub fn from_fault(alloc: A, fault: SyntaxFault) -> Result<ParseError<A>, AllocError>
         ensures { IfOk result (λ e. parse_error_of e ≡ fault_of fault) }
     {
         match fault {
@@ -212,7 +217,7 @@ impl<A: Allocator> fmt::Display for ParseError<A> {
 }
 
 impl<A: Allocator + Copy> ExpandErrorKind<A> {
-    /// An equal copy. `AllocError` if out of memory.
+    /// Returns an equal copy. `AllocError` if out of memory.
     pub fn try_clone(&self, alloc: A) -> Result<ExpandErrorKind<A>, AllocError>
         ensures { IfOk result (λ copy. kind_of copy ≡ kind_of self.now) }
     {
@@ -232,7 +237,8 @@ impl<A: Allocator + Copy> ExpandErrorKind<A> {
 }
 
 impl<A: Allocator> ExpandError<A> {
-    /// The error of that kind at that span, in memory of `alloc`. `AllocError` if out of memory.
+    /// Makes an error of this kind at this span, in memory of `alloc`. `AllocError` if out of
+    /// memory.
     pub fn new(alloc: A, span: Span, kind: ExpandErrorKind<A>) -> Result<ExpandError<A>, AllocError>
         ensures { IfOk result (λ e. error_of e ≡ record { span = span; kind = kind_of kind }) }
     {

@@ -9,13 +9,13 @@ use mbe_tt::span::Span;
 use std::alloc::Allocator;
 use std::hash::Hash;
 
-/// Errors of definitions are equal exactly where they say the same.
+/// Two errors of definitions are equal exactly if they have the same kind and text.
 pub fn parse_errors_agree<A: Allocator>()
     ensures { (x y : _) → IsTrue (⟦<ParseError<A> as PartialEq>⟧.eq x y)
         ↔ (parse_error_of x ≡ parse_error_of y) }
 {}
 
-/// Kinds of errors are equal exactly where they say the same, and equal ones are hashed alike.
+/// Two kinds of errors are equal exactly if they have the same text. Equal kinds have equal hashes.
 pub fn expand_error_kinds_agree<A: Allocator>()
     ensures equal { (x y : _) → IsTrue (⟦<ExpandErrorKind<A> as PartialEq>⟧.eq x y)
         ↔ (kind_of x ≡ kind_of y) }
@@ -24,7 +24,7 @@ pub fn expand_error_kinds_agree<A: Allocator>()
         ≡ ⟦<ExpandErrorKind<A> as Hash>⟧.hash_input y }
 {}
 
-/// Errors of expansions are equal exactly where they say the same, and equal ones are hashed alike.
+/// Two errors of expansions are equal exactly if span and kind are. Equal errors have equal hashes.
 pub fn expand_errors_agree<A: Allocator>()
     ensures equal { (x y : _) → IsTrue (⟦<ExpandError<A> as PartialEq>⟧.eq x y)
         ↔ (error_of x ≡ error_of y) }
@@ -35,25 +35,25 @@ pub fn expand_errors_agree<A: Allocator>()
     expand_error_kinds_agree::<A>();
 }
 
-// Spans are equal exactly where all their numbers are.
+// Two spans are equal exactly if all their numbers are.
 fn spans_agree()
     ensures { (x y : _) → IsTrue (⟦<Span as PartialEq>⟧.eq x y) ↔ (x ≡ y) }
 {}
 
-/// Errors of counts are equal exactly where they are the same, and equal ones are hashed alike.
+/// Two errors of counts are equal exactly if they are the same. Equal errors have equal hashes.
 pub fn count_errors_agree()
     ensures equal { (x y : _) → IsTrue (⟦<CountError as PartialEq>⟧.eq x y) ↔ (x ≡ y) }
     ensures hashed { (x y : _) → x ≡ y
         → ⟦<CountError as Hash>⟧.hash_input x ≡ ⟦<CountError as Hash>⟧.hash_input y }
 {}
 
-/// Results are equal exactly where their values are, and their errors are or neither has one.
+/// Two results are equal exactly if their values are, and both have equal errors or both have none.
 pub fn results_agree<T: PartialEq, E: PartialEq>()
     ensures { (x y : _) → IsTrue (⟦<ValueResult<T, E> as PartialEq>⟧.eq x y)
         ↔ (IsTrue (T.eq x.value y.value) × IsTrue (option_eq E.eq x.err y.err)) }
 {}
 
-/// Where `==` of values and of errors is an equivalence, so is that of results.
+/// If `==` of values and `==` of errors are equivalences, then `==` of results is one.
 pub fn equal_results<T: Eq, E: Eq>()
     ensures reflexive { (x : _) → IsTrue (⟦<ValueResult<T, E> as PartialEq>⟧.eq x x) }
     ensures symmetric { (x y : _) → IsTrue (⟦<ValueResult<T, E> as PartialEq>⟧.eq x y)

@@ -1,4 +1,5 @@
-// A value beside an error.
+// A value beside an error. An expansion with an error still returns a tree, which an editor can
+// show.
 ghost use Rattle.std.specs.Prelude.{◌≡◌, ◌↔◌, Some, None, IsSome, IsErr, IfOk, MatchOption};
 ghost use Rattle.std.specs.Prelude.{IsSomeAnd};
 ghost use Rattle.std.specs.Option.{ForSome};
@@ -6,22 +7,22 @@ ghost use Rattle.std.specs.Option.{ForSome};
 use crate::errors::error::ExpandError;
 use std::alloc::{AllocError, Global};
 
-/// A value, and the error that was met on the way to it, if there was one (as in rust-analyzer).
+/// A value, and the first error on the way to it, if there was one (as in rust-analyzer).
 #[derive(Debug, Drop, PartialEq, Eq)]
 pub struct ValueResult<T, E> {
     pub value: T,
     pub err: Option<E>,
 }
 
-/// What an expansion returns: a value that may be of use beside an error too.
+/// The result of an expansion. The value may be useful even beside an error.
 pub type ExpandResult<T, A = Global> = ValueResult<T, ExpandError<A>>;
 
-/// The index, among all rules of the definition, of the rule that expanded the call; `None` without a rule, or if the
-/// index doesn't fit 32 bits.
+/// The index of the rule that expanded the call, among all rules of the definition, from 0. `None`
+/// if no rule did, or if the index doesn't fit 32 bits.
 pub type MatchedArmIndex = Option<u32>;
 
 impl<T, E> ValueResult<T, E> {
-    /// That value beside that error.
+    /// Makes a result of this value and this error.
     pub fn new(value: T, err: E) -> ValueResult<T, E>
         ensures { result ≡ record { value = value; err = Some err } }
     {
@@ -31,14 +32,14 @@ impl<T, E> ValueResult<T, E> {
         }
     }
 
-    /// That value, without an error.
+    /// Makes a result of this value, without an error.
     pub fn ok(value: T) -> ValueResult<T, E>
         ensures { result ≡ record { value = value; err = None } }
     {
         ValueResult { value, err: None }
     }
 
-    /// The default value beside that error.
+    /// Makes a result of the default value and this error.
     pub fn only_err(err: E) -> ValueResult<T, E>
     where
         T: Default,
@@ -51,7 +52,7 @@ impl<T, E> ValueResult<T, E> {
         }
     }
 
-    /// The value paired with another one, beside the same error.
+    /// Pairs the value with `other`. The error stays the same.
     pub fn zip_val<U>(self, other: U) -> ValueResult<(T, U), E>
         ensures { result ≡ record { value = (self.value, other); err = self.err } }
     {
@@ -61,7 +62,7 @@ impl<T, E> ValueResult<T, E> {
         }
     }
 
-    /// What `f` returns of the value, beside the same error.
+    /// Applies `f` to the value. The error stays the same.
     pub fn map<U, F: FnOnce(T) -> U>(self, f: F) -> ValueResult<U, E>
         requires { F.pre f self.value }
         ensures value { F.post f self.value result.value }
@@ -74,7 +75,7 @@ impl<T, E> ValueResult<T, E> {
         }
     }
 
-    /// The same value, beside what `f` returns of the error if there is one.
+    /// Applies `f` to the error, if there is one. The value stays the same.
     pub fn map_err<D, F: FnOnce(E) -> D>(self, f: F) -> ValueResult<T, D>
     where
         F: Drop,
@@ -93,7 +94,8 @@ impl<T, E> ValueResult<T, E> {
         }
     }
 
-    /// The value by reference, beside a copy of the error. `AllocError` if the copy is out of memory.
+    /// Returns a reference to the value and a copy of the error. `AllocError` if the copy is out of
+    /// memory.
     pub fn as_ref(&self) -> Result<ValueResult<&T, E>, AllocError>
     where
         E: Clone,
@@ -108,7 +110,7 @@ impl<T, E> ValueResult<T, E> {
         }
     }
 
-    /// An equal copy. `AllocError` if out of memory.
+    /// Returns an equal copy. `AllocError` if out of memory.
     pub fn try_clone(&self) -> Result<ValueResult<T, E>, AllocError>
     where
         T: Clone + Drop,
@@ -124,7 +126,7 @@ impl<T, E> ValueResult<T, E> {
         }
     }
 
-    /// The value; or the error alone, where there is one.
+    /// Returns the error if there is one, and else the value.
     pub fn result(self) -> Result<T, E>
     where
         T: Drop,

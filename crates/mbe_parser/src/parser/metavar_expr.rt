@@ -1,11 +1,15 @@
-// Reads metavariable expressions, which are what is between the braces of `${..}`.
-ghost use Rattle.std.specs.Prelude.{◌≡◌, ◌≢◌, ◌<◌, map, option_map, Some, None, IfOk, IfErr, OnOk, MatchOption, if◌then◌else◌};
-ghost use Rattle.mbe_tt.specs.Trees.Literals.{is_plain, decimal_value, literal_text};
-ghost use Rattle.mbe_tt.specs.Views.Shown.{ident_of, literal_of};
+// The parser of metavariable expressions: the trees between the braces of `${..}`.
+ghost use Rattle.std.specs.Prelude.{◌≡◌, ◌≢◌, ◌<◌, map, option_map, Some, None, IfOk, IfErr, OnOk};
+ghost use Rattle.std.specs.Prelude.{MatchOption, if◌then◌else◌};
+ghost use Rattle.mbe_tt.specs.Trees.Literals.{has_no_suffix, decimal_value, literal_text};
+ghost use Rattle.mbe_tt.specs.Views.LeafViews.{ident_of, literal_of};
 ghost use Rattle.mbe_tt.specs.Trees.Tree.{none, flat_len};
 ghost use Rattle.mbe_semantics.specs.Syntax.Op.{expression};
-ghost use Rattle.mbe_parser.specs.Reader.{NotExpression};
-ghost use Rattle.mbe_semantics.specs.Syntax.Template.{expression_of, arguments_of, ignore_of, count_of, concat_of, dollar_name, depth_of, depth_after_comma, elements_of, elements_after_comma, element_before};
+ghost use Rattle.mbe_parser.specs.ParserResults.{NotExpression};
+ghost use Rattle.mbe_semantics.specs.Syntax.Template.{expression_of, arguments_of, ignore_of};
+ghost use Rattle.mbe_semantics.specs.Syntax.Template.{count_of, concat_of, dollar_name, depth_of};
+ghost use Rattle.mbe_semantics.specs.Syntax.Template.{depth_after_comma, elements_of};
+ghost use Rattle.mbe_semantics.specs.Syntax.Template.{elements_after_comma, element_before};
 ghost use Rattle.mbe_ops.specs.Expressions.{element_seen, expression_seen};
 ghost use Rattle.mbe_ops.specs.Views.{op_of};
 
@@ -16,12 +20,13 @@ use mbe_tt::span::Span;
 use mbe_tt::tt::{DelimiterKind, Ident, Leaf, Literal, TtElement, TtIter};
 use std::alloc::Allocator;
 
-/// Reads what is between the braces of `${..}`: `ignore($x)`, `index(d)`, `len(d)`,
-/// `count($x)`, `count($x, d)` or `concat(e, e, ..)`. What follows the arguments isn't looked at.
+/// Parses the trees between the braces of `${..}`. The forms are `ignore($x)`, `index(d)`,
+/// `len(d)`, `count($x)`, `count($x, d)` and `concat(e, e, ..)`. Trees after the arguments are
+/// ignored.
 ///
-/// `Err` is `SyntaxFault::InvalidExpression` where the trees are none of these, or `Memory` if out of
-/// memory. The forms are those of the unstable features `macro_metavar_expr` and
-/// `macro_metavar_expr_concat`, as rust-analyzer reads them.
+/// Returns `SyntaxFault::InvalidExpression` if the trees have none of these forms, and `Memory` if
+/// out of memory. The forms are those of the unstable features `macro_metavar_expr` and
+/// `macro_metavar_expr_concat`, as rust-analyzer parses them.
 #[tactic(auto, using(mbe_ops::proofs::OpViews::views))]
 pub fn parse_metavar_expr<A: Allocator + Copy>(
     alloc: A,
@@ -35,7 +40,7 @@ pub fn parse_metavar_expr<A: Allocator + Copy>(
     Ok(Op::Expression(parse_args(alloc, func, args)?))
 }
 
-// The name of the function, and the arguments, which are in parentheses.
+// Returns the name of the function and the arguments, which have to be in parentheses.
 fn func_and_args<'a, A: Allocator>(src: TtIter<'a, A>) -> Option<(&'a Ident<A>, TtIter<'a, A>)>
     ensures { MatchOption result (expression_of src.entry ≡ None)
         (λ call. expression_of src.entry ≡ arguments_of (ident_of call.0.now) call.1) }
@@ -76,7 +81,7 @@ fn parse_args<A: Allocator + Copy>(
     }
 }
 
-// A variable, alone.
+// Parses the arguments of `ignore`: one variable.
 fn parse_ignore<A: Allocator>(args: TtIter<'_, A>) -> Result<Expression<A>, ReadError>
     ensures expression { IfOk result (λ e. ignore_of args.entry ≡ Some (expression_seen e)) }
     ensures fault { IfErr result (λ e. NotExpression e (ignore_of args.entry)) }
@@ -92,7 +97,7 @@ fn parse_ignore<A: Allocator>(args: TtIter<'_, A>) -> Result<Expression<A>, Read
     })
 }
 
-// A variable, and after a comma a depth.
+// Parses the arguments of `count`: a variable, and optionally a comma and a depth.
 fn parse_count<A: Allocator>(args: TtIter<'_, A>) -> Result<Expression<A>, ReadError>
     ensures expression { IfOk result (λ e. count_of args.entry ≡ Some (expression_seen e)) }
     ensures fault { IfErr result (λ e. NotExpression e (count_of args.entry)) }
@@ -106,7 +111,7 @@ fn parse_count<A: Allocator>(args: TtIter<'_, A>) -> Result<Expression<A>, ReadE
     })
 }
 
-// `$` and an identifier other than `_`, which are consumed.
+// Consumes `$` and an identifier other than `_`.
 fn eat_name<'a, A: Allocator>(args: &mut TtIter<'a, A>) -> Option<&'a Ident<A>>
     ensures { option_map (λ name. (ident_of name.now, args.new)) result ≡ dollar_name args.old }
 {
@@ -114,7 +119,7 @@ fn eat_name<'a, A: Allocator>(args: &mut TtIter<'a, A>) -> Option<&'a Ident<A>>
     args.expect_ident().ok()
 }
 
-// `,` and a depth, or nothing, which is the depth 0.
+// Parses a comma and a depth. Without them the depth is 0.
 fn parse_depth_after_comma<A: Allocator>(src: TtIter<'_, A>) -> Option<usize>
     ensures { result ≡ depth_after_comma src.entry }
 {
@@ -126,7 +131,7 @@ fn parse_depth_after_comma<A: Allocator>(src: TtIter<'_, A>) -> Option<usize>
     parse_depth(src)
 }
 
-// A depth, alone. A missing one is 0.
+// Parses a depth and nothing else. A missing depth is 0.
 fn parse_depth<A: Allocator>(src: TtIter<'_, A>) -> Option<usize>
     ensures { result ≡ depth_of src.entry }
 {
@@ -138,9 +143,9 @@ fn parse_depth<A: Allocator>(src: TtIter<'_, A>) -> Option<usize>
     }
 }
 
-// The number that a literal without suffix writes.
+// Returns the number that a literal without a suffix stands for.
 fn parse_usize<A: Allocator>(literal: &Literal<A>) -> Option<usize>
-    ensures { result ≡ (if is_plain (literal_of literal.now)
+    ensures { result ≡ (if has_no_suffix (literal_of literal.now)
         then decimal_value (literal_text (literal_of literal.now)) else None) }
 {
     let (text, suffix) = literal.text_and_suffix();
@@ -151,7 +156,7 @@ fn parse_usize<A: Allocator>(literal: &Literal<A>) -> Option<usize>
     }
 }
 
-// Two elements or more, with commas between them. There may be a last comma.
+// Parses the arguments of `concat`: at least two elements between commas. A last comma is allowed.
 fn parse_concat<A: Allocator + Copy>(
     alloc: A,
     span: Span,
@@ -185,7 +190,7 @@ fn parse_elements<A: Allocator + Copy>(
     Ok(elements)
 }
 
-// An element, and the comma after it where it isn't the last.
+// Consumes an element, and the comma after it unless the element is the last.
 fn eat_element<A: Allocator>(src: &mut TtIter<'_, A>) -> Result<ConcatMetaVarExprElem<A>, ReadError>
     requires { src.old ≢ none }
     ensures element { IfOk result (λ e. elements_of src.old

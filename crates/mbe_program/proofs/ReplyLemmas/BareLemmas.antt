@@ -4,12 +4,16 @@ use Rattle.mbe_tt.specs.declared.span.Edition.{Edition}
 use Rattle.mbe_tt.specs.Trees.Top.{Top}
 use Rattle.mbe_tt.specs.Trees.Tree.{Forest}
 use Rattle.mbe_text.specs.declared.dialect.Dialect.{Dialect}
-use Rattle.mbe_program.specs.declared.replies.answer.Part.{Part}
-use Rattle.mbe_program.specs.declared.replies.calls.Request.{Request}
-use Rattle.mbe_program.specs.declared.replies.calls.Settings.{Settings}
-use Rattle.mbe_program.specs.Replies.ReadOnce.{IsUnread, unknown_number, no_trees_to_read, no_macro_to_read}
-use Rattle.mbe_program.specs.Replies.Answers.{Answer, IsOutOfMemory, IsNoText, too_long, not_utf8, IsNoGrammar, no_text_of_grammar, fault_in_grammar, no_memory_for_grammar}
-use Rattle.mbe_program.specs.Replies.Calls.{Source, HasNoTrees, no_text_of_input, unlexed, untreed, neither, no_memory_for_trees, IsNoMacro, refused, no_memory_for_macro, IsNoResult, no_grammar, no_macro, IsNoAnswer, unknown, no_definition, no_argument, no_result}
+use Rattle.mbe_program.specs.declared.replies.answer.RequestPart.{RequestPart}
+use Rattle.mbe_program.specs.declared.replies.requests.Request.{Request}
+use Rattle.mbe_program.specs.declared.replies.requests.RequestSettings.{RequestSettings}
+use Rattle.mbe_program.specs.Replies.ReadMacros.{IsUnread, unknown_number, no_trees_to_read, no_macro_to_read}
+use Rattle.mbe_program.specs.Replies.Answers.{Answer, IsOutOfMemory, IsNoText, too_long, not_utf8, IsNoGrammar}
+use Rattle.mbe_program.specs.Replies.Answers.{no_text_of_grammar, fault_in_grammar, no_memory_for_grammar}
+use Rattle.mbe_program.specs.Replies.Requests.{Source, HasNoTrees, no_text_of_input, unlexed, invalid_tokens, neither}
+use Rattle.mbe_program.specs.Replies.Requests.{no_memory_for_trees, IsNoMacro, refused, no_memory_for_macro, IsNoResult}
+use Rattle.mbe_program.specs.Replies.Requests.{no_grammar, no_macro, IsNoAnswer, unknown, no_definition, no_argument}
+use Rattle.mbe_program.specs.Replies.Requests.{no_result}
 
 abbrev pub IsBare : Answer → Type 0
 IsBare a = (a.tokens ≡ []) × (a.text ≡ [])
@@ -17,7 +21,7 @@ IsBare a = (a.tokens ≡ []) × (a.text ≡ [])
 bare_as : (a b : Answer) → a ≡ b → IsBare b → IsBare a
 bare_as a b e (tokens, text) = (ap (λ (x : Answer). x.tokens) e ∙ tokens, ap (λ (x : Answer). x.text) e ∙ text)
 
-no_text-bare : (part : Part) (text : List ℕ) (a : Answer) → IsNoText part text a → IsBare a
+no_text-bare : (part : RequestPart) (text : List ℕ) (a : Answer) → IsNoText part text a → IsBare a
 no_text-bare part text a (too_long long e) = bare_as a _ e (refl, refl)
 no_text-bare part text a (not_utf8 invalid e) = bare_as a _ e (refl, refl)
 
@@ -29,7 +33,7 @@ no_grammar-bare text a (no_memory_for_grammar e) = bare_as a _ e (refl, refl)
 no_trees-bare : (dialect : Dialect) (s : Source) (a : Answer) → HasNoTrees dialect s a → IsBare a
 no_trees-bare dialect s a (no_text_of_input flat h) = no_text-bare _ _ a h
 no_trees-bare dialect s a (unlexed flat fault lexes e) = bare_as a _ e (refl, refl)
-no_trees-bare dialect s a (untreed flat index wrong e) = bare_as a _ e (refl, refl)
+no_trees-bare dialect s a (invalid_tokens flat index fault_kind e) = bare_as a _ e (refl, refl)
 no_trees-bare dialect s a (neither flat e) = bare_as a _ e (refl, refl)
 no_trees-bare dialect s a (no_memory_for_trees e) = bare_as a _ e (refl, refl)
 
@@ -37,7 +41,7 @@ no_macro-bare : (edition : Edition) (definition : Forest) (a : Answer) → IsNoM
 no_macro-bare edition definition a (refused rules fault read e) = bare_as a _ e (refl, refl)
 no_macro-bare edition definition a (no_memory_for_macro e) = bare_as a _ e (refl, refl)
 
-no_result-bare : (s : Settings) (text : List ℕ) (definition : Top) (a : Answer) → IsNoResult s text definition a
+no_result-bare : (s : RequestSettings) (text : List ℕ) (definition : Top) (a : Answer) → IsNoResult s text definition a
     → IsBare a
 no_result-bare s text definition a (no_grammar asked h) = no_grammar-bare text a h
 no_result-bare s text definition a (no_macro g named h) = no_macro-bare _ _ a h

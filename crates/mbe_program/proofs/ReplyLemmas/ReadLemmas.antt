@@ -4,28 +4,31 @@ use Rattle.std.specs.Prelude.{IfOk}
 use Rattle.mbe_tt.specs.declared.span.Edition.{Edition}
 use Rattle.mbe_tt.specs.declared.span.Span.{Span}
 use Rattle.mbe_tt.specs.Trees.Top.{Top, top_group}
-use Rattle.mbe_tt.specs.Fragments.Grammar.{Grammar}
-use Rattle.mbe_grammar.specs.declared.tables.table.RuleTable.{RuleTable}
+use Rattle.mbe_tt.specs.Grammars.Grammar.{Grammar}
+use Rattle.mbe_grammar.specs.declared.tables.peg_table.RuleTable.{RuleTable}
 use Rattle.mbe_grammar.specs.SampleGrammar.{sample}
 use Rattle.mbe_grammar.specs.Tables.Lawful.{grammar_of}
-use Rattle.mbe_grammar.specs.Text.Words.{borrowed}
-use Rattle.mbe_grammar.specs.declared.text.rules.Rules.{Rules}
+use Rattle.mbe_grammar.specs.Peg.Tokens.{borrowed}
+use Rattle.mbe_grammar.specs.declared.peg.peg_grammar.PegGrammar.{PegGrammar}
 use Rattle.mbe_semantics.specs.Expansion.Error.{ExpandError}
 use Rattle.mbe.specs.MacroViews.{macro_of}
 use Rattle.mbe.specs.OneAnswer.{IsAnswer}
-use Rattle.mbe_program.specs.declared.replies.flat.token.FlatSpan.{FlatSpan}
-use Rattle.mbe_program.specs.Replies.Flat.Numbers.{span_of}
-use Rattle.mbe_program.specs.declared.replies.asked.GrammarKind.{GrammarKind}
-use Rattle.mbe_program.specs.declared.replies.asked.GrammarKind.TheVariants as grammars
-use Rattle.mbe_program.specs.declared.replies.calls.Request.{Request}
-use Rattle.mbe_program.specs.declared.replies.calls.Settings.{Settings}
+use Rattle.mbe_program.specs.declared.replies.flat.flat_token.FlatSpan.{FlatSpan}
+use Rattle.mbe_program.specs.Replies.Flat.TokenCodes.{span_of}
+use Rattle.mbe_program.specs.declared.replies.request_codes.GrammarKind.{GrammarKind}
+use Rattle.mbe_program.specs.declared.replies.request_codes.GrammarKind.TheVariants as grammars
+use Rattle.mbe_program.specs.declared.replies.requests.Request.{Request}
+use Rattle.mbe_program.specs.declared.replies.requests.RequestSettings.{RequestSettings}
 use Rattle.mbe_program.specs.declared.replies.read_macro.Fragments.{Fragments}
 use Rattle.mbe_program.specs.declared.replies.read_macro.Fragments.TheVariants as fragments
 use Rattle.mbe_program.specs.declared.replies.read_macro.ReadMacro.{ReadMacro}
-use Rattle.mbe_program.specs.Replies.Answers.{Answer, IsOr}
-use Rattle.mbe_program.specs.Replies.Calls.{AreSettings, AreTreesOf, HasNoTrees, IsGrammar, IsTableOf, no_argument, no_macro, no_memory_for_macro, Expands, ExpandsTrees, Source, expansion_shown}
-use Rattle.mbe_program.specs.Expanding.{IsItself}
-use Rattle.mbe_program.specs.Replies.ReadOnce.{AreFragments, IsMacroOf, IsExpansionOf, AnswersBy, AnswersTreesBy, at_site, asked_at}
+use Rattle.mbe_program.specs.Replies.Answers.{Answer, OrOutOfMemory}
+use Rattle.mbe_program.specs.Replies.Requests.{AreRequestSettings, AreTreesOf, HasNoTrees, IsGrammar, IsTableOf}
+use Rattle.mbe_program.specs.Replies.Requests.{no_argument, no_macro, no_memory_for_macro, Expands, ExpandsTrees}
+use Rattle.mbe_program.specs.Replies.Requests.{Source, expansion_shown}
+use Rattle.mbe_program.specs.TreeExpansion.{IsItself}
+use Rattle.mbe_program.specs.Replies.ReadMacros.{AreFragments, IsMacroOf, IsExpansionOf, AnswersBy, AnswersTreesBy}
+use Rattle.mbe_program.specs.Replies.ReadMacros.{at_site, asked_at}
 use Rattle.mbe_program.proofs.ReplyLemmas.CallLemmas.{expands_both, table_read}
 
 -- ---- the answer
@@ -42,13 +45,13 @@ shown_of see (Err x) g m argument site tree rule err is shown = shown
 
 -- ---- the grammar that was read
 
-named : (s : Settings) (text : List ℕ) (kind : GrammarKind) (g : Grammar) → s.grammar ≡ kind
+named : (s : RequestSettings) (text : List ℕ) (kind : GrammarKind) (g : Grammar) → s.grammar ≡ kind
     → IsGrammar s.edition text kind g
     → IsGrammar s.edition text s.grammar g
 named s text kind g e h = subst (λ (k : GrammarKind). IsGrammar s.edition text k g) (sym e) h
 
 -- the table of rules that were read
-table_of : {A : Type 0} → Edition → Rules A → RuleTable
+table_of : {A : Type 0} → Edition → PegGrammar A → RuleTable
 table_of edition rules = record {
   nodes = borrowed rules.nodes.items;
   keywords = borrowed rules.keywords.items;
@@ -58,7 +61,7 @@ table_of edition rules = record {
 }
 
 -- there is a grammar where one was read
-pub grammar_read : {A : Type 0} (s : Settings) (text : List ℕ) (f : Fragments A) → AreFragments s text f
+pub grammar_read : {A : Type 0} (s : RequestSettings) (text : List ℕ) (f : Fragments A) → AreFragments s text f
     → (g : Grammar) × IsGrammar s.edition text s.grammar g
 unfolding table_of
 grammar_read s text fragments.Sample e = (sample, named s text grammars.Sample sample e refl)
@@ -85,7 +88,7 @@ grammar_read s text (fragments.Text rules) (e, is_text, read) =
 pub expands_trees : {A : Type 0} (m : ReadMacro A) (site : Span) (text : List ℕ) (g : Grammar)
     (definition argument : Top) (a : Answer)
     → IsGrammar m.asked.edition text m.asked.grammar g → IsMacroOf text definition m
-    → IsOr (IsExpansionOf g m argument site) a
+    → OrOutOfMemory (IsExpansionOf g m argument site) a
     → ExpandsTrees (at_site m.asked site) text definition argument a
 expands_trees m site text g definition argument a named is (inl (tree, rule, err, answers, shown)) = inl (
   g,
@@ -103,25 +106,25 @@ expands_trees m site text g definition argument a named is (inr none) = inr
 
 pub by_sample : {A : Type 0} (m : ReadMacro A) (site : Span) (argument : Top) (a : Answer)
     → m.fragments ≡ fragments.Sample
-    → IsOr (IsExpansionOf sample m argument site) a → AnswersTreesBy m argument site a
+    → OrOutOfMemory (IsExpansionOf sample m argument site) a → AnswersTreesBy m argument site a
 by_sample m site argument a e h text definition is =
     let found = subst (AreFragments m.asked text) e is.0 in
     expands_trees m site text sample definition argument a (named m.asked text grammars.Sample sample found refl) is h
 
 pub by_rust : {A : Type 0} (m : ReadMacro A) (table : RuleTable) (site : Span) (argument : Top) (a : Answer)
     → m.fragments ≡ fragments.Rust table
-    → IsOr (IsExpansionOf (grammar_of table) m argument site) a → AnswersTreesBy m argument site a
+    → OrOutOfMemory (IsExpansionOf (grammar_of table) m argument site) a → AnswersTreesBy m argument site a
 by_rust m table site argument a e h text definition is =
     let found = subst (AreFragments m.asked text) e is.0 in
     let g = grammar_of table in
     expands_trees m site text g definition argument a
     (named m.asked text grammars.Rust g found.0 (table, found.1, refl)) is h
 
-pub by_text : {A : Type 0} (m : ReadMacro A) (rules : Rules A) (t : RuleTable) (site : Span) (argument : Top)
+pub by_text : {A : Type 0} (m : ReadMacro A) (rules : PegGrammar A) (t : RuleTable) (site : Span) (argument : Top)
     (a : Answer)
     → m.fragments ≡ fragments.Text rules → t.nodes.now ≡ rules.nodes.items → t.keywords.now ≡ rules.keywords.items
     → t.starts ≡ rules.starts
-    → t.edition ≡ m.asked.edition → t.editions.now ≡ [] → IsOr (IsExpansionOf (grammar_of t) m argument site) a
+    → t.edition ≡ m.asked.edition → t.editions.now ≡ [] → OrOutOfMemory (IsExpansionOf (grammar_of t) m argument site) a
     → AnswersTreesBy m argument site a
 by_text m rules t site argument a e nodes keywords starts edition editions h text definition is =
     let found = subst (AreFragments m.asked text) e is.0 in
@@ -137,8 +140,8 @@ by_text m rules t site argument a e nodes keywords starts edition editions h tex
 -- ---- inputs
 
 -- what was asked, of a call at another place
-asked_there : (r : Request) (s : Settings) (site : FlatSpan) → AreSettings r s
-    → AreSettings (asked_at r site) (at_site s (span_of site))
+asked_there : (r : Request) (s : RequestSettings) (site : FlatSpan) → AreRequestSettings r s
+    → AreRequestSettings (asked_at r site) (at_site s (span_of site))
 asked_there r s site h = record {
   edition = h.edition;
   dialect = h.dialect;
@@ -166,10 +169,11 @@ expands_nothing m argument site a none r text definition (asked, (rules, defined
 
 -- of trees that were read for a request
 pub expands_read : {A : Type 0} (r : Request) (text : List ℕ) (definition argument : Source) (a : Answer)
-    (s : Settings) → AreSettings r s
+    (s : RequestSettings) → AreRequestSettings r s
     → (rules : Top) → AreTreesOf s.dialect definition rules → (trees : Top) → AreTreesOf s.dialect argument trees
     → (m : ReadMacro A) → m.asked ≡ s → IsMacroOf text rules m → AnswersTreesBy m trees s.call_site a
     → Expands r text definition argument a
 expands_read r text definition argument a s asked rules defined trees given m same is answers =
     expands_both r text definition argument a s asked rules defined trees given
-    (subst (λ (x : Settings). ExpandsTrees (at_site x s.call_site) text rules trees a) same (answers text rules is))
+    (subst (λ (x : RequestSettings). ExpandsTrees (at_site x s.call_site) text rules trees a) same
+    (answers text rules is))

@@ -1,29 +1,34 @@
--- What answers say: statuses and parts as numbers, what is wrong in words, and which answer is given of a failure.
-use Rattle.std.specs.Prelude.{ℕ, ⊤, ◌≡◌, ◌≤◌, ◌^◌, ◌⊎◌, List, [], length, codes, IsUtf8, Option, None, Err}
+-- Answers: statuses and parts as numbers, the messages for faults, and the answer to each failure.
+use Rattle.std.specs.Prelude.{ℕ, ⊤, ◌≡◌, ◌≤◌, ◌^◌, ◌⊎◌, List, [], length, codes, IsUtf8, Option}
+use Rattle.std.specs.Prelude.{None, Err}
 use Rattle.std.specs.String.{string_bytes}
 use Rattle.mbe_tt.specs.declared.span.Span.{Span}
 use Rattle.mbe_text.specs.Tokens.{bytes_of}
 use Rattle.mbe_text.specs.declared.scanner.LexFault.{LexFault}
-use Rattle.mbe_grammar.specs.declared.text.fault.Place.{Place}
-use Rattle.mbe_grammar.specs.declared.text.fault.Reason.{Reason}
-use Rattle.mbe_grammar.specs.declared.text.fault.RuleFault.{RuleFault}
-use Rattle.mbe_grammar.specs.declared.text.fault.RuleFault.TheVariants as rule_faults
-use Rattle.mbe_grammar.specs.Text.Text.{read_text}
+use Rattle.mbe_grammar.specs.declared.peg.peg_error.PegLocation.{PegLocation}
+use Rattle.mbe_grammar.specs.declared.peg.peg_error.PegErrorKind.{PegErrorKind}
+use Rattle.mbe_grammar.specs.declared.peg.peg_error.PegError.{PegError}
+use Rattle.mbe_grammar.specs.declared.peg.peg_error.PegError.TheVariants as rule_faults
+use Rattle.mbe_grammar.specs.Peg.Grammar.{read_text}
 use Rattle.mbe_semantics.specs.Syntax.Template.{Fault}
 use Rattle.mbe_semantics.specs.Expansion.Error.{text_of_fault}
 use Rattle.mbe_ops.specs.Errors.ErrorViews.{parse_error_of}
-use Rattle.mbe_program.specs.declared.replies.flat.token.FlatToken.{FlatToken}
-use Rattle.mbe_program.specs.declared.replies.flat.reading.FlatError.{FlatError}
-use Rattle.mbe_program.specs.declared.replies.flat.reading.FlatError.TheVariants as flat_errors
-use Rattle.mbe_program.specs.declared.replies.flat.reading.Wrong.{Wrong}
-use Rattle.mbe_program.specs.declared.replies.flat.reading.Wrong.TheVariants as wrong
+use Rattle.mbe_program.specs.declared.replies.flat.flat_token.FlatToken.{FlatToken}
+use Rattle.mbe_program.specs.declared.replies.flat.decoder.FlatError.{FlatError}
+use Rattle.mbe_program.specs.declared.replies.flat.decoder.FlatError.TheVariants as flat_errors
+use Rattle.mbe_program.specs.declared.replies.flat.decoder.FlatFault.{FlatFault}
+use Rattle.mbe_program.specs.declared.replies.flat.decoder.FlatFault.TheVariants as fault_kind
 use Rattle.mbe_program.specs.declared.replies.answer.Answer as given
 use Rattle.mbe_program.specs.declared.replies.answer.Status.{Status}
-use Rattle.mbe_program.specs.declared.replies.answer.Status.TheVariants.{Done, Faulted, Refused, Number, Utf8, TooLong, NoTokens, NoTrees, NoGrammar, OutOfMemory, NoRoom, NoMacro, HasMacro}
-use Rattle.mbe_program.specs.declared.replies.answer.Part.{Part}
-use Rattle.mbe_program.specs.declared.replies.answer.Part.TheVariants as parts
-use Rattle.mbe_program.specs.declared.expanding.Unread.{Unread}
-use Rattle.mbe_program.specs.declared.expanding.Unread.TheVariants as unread
+use Rattle.mbe_program.specs.declared.replies.answer.Status.TheVariants.{Done, Faulted, Refused}
+use Rattle.mbe_program.specs.declared.replies.answer.Status.TheVariants.{Number, Utf8, TooLong}
+use Rattle.mbe_program.specs.declared.replies.answer.Status.TheVariants.{NoTokens, NoTrees}
+use Rattle.mbe_program.specs.declared.replies.answer.Status.TheVariants.{NoGrammar, OutOfMemory}
+use Rattle.mbe_program.specs.declared.replies.answer.Status.TheVariants.{NoRoom, NoMacro, HasMacro}
+use Rattle.mbe_program.specs.declared.replies.answer.RequestPart.{RequestPart}
+use Rattle.mbe_program.specs.declared.replies.answer.RequestPart.TheVariants as parts
+use Rattle.mbe_program.specs.declared.tree_expansion.DefinitionError.{DefinitionError}
+use Rattle.mbe_program.specs.declared.tree_expansion.DefinitionError.TheVariants as unread
 
 abbrev pub status_number : Status → ℕ
 status_number Done = 0
@@ -40,29 +45,29 @@ status_number NoRoom = 10
 status_number NoMacro = 12
 status_number HasMacro = 13
 
-abbrev pub part_number : Part → ℕ
+abbrev pub part_number : RequestPart → ℕ
 part_number parts.None = 0
 part_number parts.Definition = 1
 part_number parts.Argument = 2
 part_number parts.Grammar = 3
 
-abbrev pub words_of : Wrong → List ℕ
-words_of wrong.Kind = codes "a token of no kind"
-words_of wrong.Sort = codes "a token of no sort"
-words_of wrong.Character = codes "a punct that is no char"
-words_of wrong.Count = codes "a literal with a number above 255"
-words_of wrong.Range = codes "a text that is out of bounds"
-words_of wrong.Utf8 = codes "a text that is not UTF-8"
-words_of wrong.Closing = codes "a closing without its opening"
-words_of wrong.Whole = codes "tokens that are not one group"
-words_of wrong.Open = codes "a group that is not closed"
+abbrev pub fault_text : FlatFault → List ℕ
+fault_text fault_kind.Kind = codes "a token of no kind"
+fault_text fault_kind.Sort = codes "a token of no sort"
+fault_text fault_kind.Character = codes "a punct that is no char"
+fault_text fault_kind.Count = codes "a literal with a number above 255"
+fault_text fault_kind.Range = codes "a text that is out of bounds"
+fault_text fault_kind.Utf8 = codes "a text that is not UTF-8"
+fault_text fault_kind.Closing = codes "a closing without its opening"
+fault_text fault_kind.Whole = codes "tokens that are not one group"
+fault_text fault_kind.Open = codes "a group that is not closed"
 
 -- ---- answers
 
--- what an answer says, whatever memory holds it
+-- What an answer holds, in any allocator.
 pub record Answer : Type 0 where
   pub status : Status
-  pub part : Part
+  pub part : RequestPart
   pub place : ℕ
   pub column : ℕ
   pub rule : Option ℕ
@@ -84,8 +89,8 @@ answer_of a = record {
   message = string_bytes a.message;
 }
 
--- a status and a part, and nothing else
-abbrev pub empty : Status → Part → Answer
+-- A status and a part, and nothing else.
+abbrev pub empty : Status → RequestPart → Answer
 empty status part = record {
   status = status;
   part = part;
@@ -103,51 +108,56 @@ empty status part = record {
 abbrev pub IsOutOfMemory : Answer → Type 0
 IsOutOfMemory a = a ≡ empty OutOfMemory a.part
 
--- that is what the answer says, unless memory ran out
-abbrev pub IsOr : (Answer → Type 0) → Answer → Type 0
-IsOr Is a = Is a ⊎ IsOutOfMemory a
+-- The answer satisfies `Is`, or says that memory ran out.
+abbrev pub OrOutOfMemory : (Answer → Type 0) → Answer → Type 0
+OrOutOfMemory Is a = Is a ⊎ IsOutOfMemory a
 
--- The text of that part isn't lexed, for that fault. The message is the words of `mbe_text` for what is wrong.
-abbrev pub IsUnlexed : Part → LexFault → Answer → Type 0
-IsUnlexed part fault a = a ≡ record (empty NoTokens part) { place = fault.offset; message = a.message }
+-- The text of that part can't be lexed, for that fault. The message is that of `mbe_text` for the
+-- fault; it is not specified here.
+abbrev pub IsUnlexed : RequestPart → LexFault → Answer → Type 0
+IsUnlexed part fault a =
+    a ≡ record (empty NoTokens part) { place = fault.offset; message = a.message }
 
--- The flat tokens of that part aren't trees: that is wrong with a token.
-abbrev pub IsUntreed : Part → ℕ → Wrong → Answer → Type 0
-IsUntreed part index wrong a = a ≡ record (empty NoTrees part) { place = index; message = words_of wrong }
+-- The flat tokens of that part aren't trees: the token of that index has that fault.
+abbrev pub AreInvalidTokens : RequestPart → ℕ → FlatFault → Answer → Type 0
+AreInvalidTokens part index fault_kind a =
+    a ≡ record (empty NoTrees part) { place = index; message = fault_text fault_kind }
 
-abbrev pub IsUntreedBy : Part → FlatError → Answer → Type 0
-IsUntreedBy part (flat_errors.Fault index wrong) a = IsOr (IsUntreed part index wrong) a
-IsUntreedBy part flat_errors.OutOfMemory a = IsOutOfMemory a
+abbrev pub AreInvalidTokensBy : RequestPart → FlatError → Answer → Type 0
+AreInvalidTokensBy part (flat_errors.Fault index fault_kind) a =
+    OrOutOfMemory (AreInvalidTokens part index fault_kind) a
+AreInvalidTokensBy part flat_errors.OutOfMemory a = IsOutOfMemory a
 
--- The text of a grammar isn't one: that is wrong in it, there. The message is the words of `mbe_grammar::text` for
--- the reason.
-abbrev pub IsUngrammatical : Place → Answer → Type 0
-IsUngrammatical place a = a ≡ record (empty NoGrammar parts.Grammar) {
+-- The text of a grammar has a fault at that place. The message is that of `mbe_grammar::peg` for
+-- the reason; it is not specified here.
+abbrev pub IsInvalidGrammar : PegLocation → Answer → Type 0
+IsInvalidGrammar place a = a ≡ record (empty NoGrammar parts.Grammar) {
   place = place.line;
   column = place.column;
   message = a.message;
 }
 
-abbrev pub IsUngrammaticalBy : RuleFault → Answer → Type 0
-IsUngrammaticalBy (rule_faults.At place reason) a = IsOr (IsUngrammatical place) a
-IsUngrammaticalBy rule_faults.OutOfMemory a = IsOutOfMemory a
+abbrev pub IsInvalidGrammarBy : PegError → Answer → Type 0
+IsInvalidGrammarBy (rule_faults.At place reason) a = OrOutOfMemory (IsInvalidGrammar place) a
+IsInvalidGrammarBy rule_faults.OutOfMemory a = IsOutOfMemory a
 
--- a definition isn't one, for that fault
+-- The definition has that fault.
 abbrev pub IsRefusal : Fault → Answer → Type 0
 IsRefusal fault a = a ≡ record (empty Refused parts.Definition) { message = text_of_fault fault }
 
-abbrev pub IsUnreadBy : {A : Type 0} → Unread A → Answer → Type 0
-IsUnreadBy (unread.Refused error) a = IsOr (IsRefusal (parse_error_of error)) a
+abbrev pub IsUnreadBy : {A : Type 0} → DefinitionError A → Answer → Type 0
+IsUnreadBy (unread.Refused error) a = OrOutOfMemory (IsRefusal (parse_error_of error)) a
 IsUnreadBy unread.OutOfMemory a = IsOutOfMemory a
 
--- The bytes of that part are no text of less than 2^32 bytes.
-pub data IsNoText (part : Part) (text : List ℕ) (a : Answer) : Type 0 where
+-- The answer says that the bytes of that part are 2^32 or more, or aren't UTF-8.
+pub data IsNoText (part : RequestPart) (text : List ℕ) (a : Answer) : Type 0 where
   too_long : 2 ^ 32 ≤ length text → a ≡ empty TooLong part → IsNoText part text a
   not_utf8 : ¬ (IsUtf8 text) → a ≡ empty Utf8 part → IsNoText part text a
 
--- The bytes of a grammar are the text of none.
+-- The answer says why the bytes are not the text of a grammar, or that memory ran out.
 pub data IsNoGrammar (text : List ℕ) (a : Answer) : Type 0 where
   no_text_of_grammar : IsNoText parts.Grammar text a → IsNoGrammar text a
-  fault_in_grammar : (place : Place) (reason : Reason) → read_text text ≡ Err (rule_faults.At place reason)
-      → IsUngrammatical place a → IsNoGrammar text a
+  fault_in_grammar : (place : PegLocation) (reason : PegErrorKind) → read_text text
+      ≡ Err (rule_faults.At place reason)
+      → IsInvalidGrammar place a → IsNoGrammar text a
   no_memory_for_grammar : IsOutOfMemory a → IsNoGrammar text a

@@ -1,5 +1,5 @@
--- Trees as tokens of numbers alone, and the bytes of their texts.
-pub mod Numbers
-pub mod Writing
-pub mod Reading
-pub mod Shown
+-- Token trees as plain data: tokens of numbers alone, and the bytes of their texts.
+pub mod TokenCodes
+pub mod Encoder
+pub mod Decoder
+pub mod FlatViews

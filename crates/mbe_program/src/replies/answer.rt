@@ -1,4 +1,5 @@
-// The answer to a call, before it is copied into the caller's memory.
+// The answer to a call, before it is copied into memory of the caller: a status, what is at fault,
+// and the tokens, the text and the message.
 ghost use Rattle.std.specs.Prelude.{◌≡◌, IfOk};
 ghost use Rattle.std.specs.String.{string_bytes};
 ghost use Rattle.mbe_semantics.specs.Expansion.Error.{text_of_kind};
@@ -6,11 +7,11 @@ ghost use Rattle.mbe_ops.specs.Errors.ErrorViews.{error_of, parse_error_of};
 ghost use Rattle.mbe_program.specs.Replies.Answers.{answer_of};
 ghost use Rattle.mbe_program.specs.Replies.Answers as spec;
 
-use crate::expanding::Unread;
-use crate::replies::flat::reading::{FlatError, Wrong};
-use crate::replies::flat::token::FlatToken;
+use crate::replies::flat::decoder::{FlatError, FlatFault};
+use crate::replies::flat::flat_token::FlatToken;
+use crate::tree_expansion::DefinitionError;
 use mbe::{ExpandError, ParseError};
-use mbe_grammar::text::fault::RuleFault;
+use mbe_grammar::peg::peg_error::PegError;
 use mbe_text::scanner::{LexFault, file_span};
 use mbe_tt::span::Span;
 use std::alloc::{AllocError, Allocator};
@@ -18,36 +19,37 @@ use std::alloc::{AllocError, Allocator};
 /// How a call ended.
 #[derive(Clone, Copy, Drop)]
 pub enum Status {
-    /// The answer is whole.
+    /// The call succeeded.
     Done,
     /// The expansion has an error, and there is a tree beside it.
     Faulted,
-    /// The definition isn't one.
+    /// The definition has an error.
     Refused,
-    /// A number of the request means nothing.
+    /// A number of the request has no meaning.
     Number,
     /// A text isn't UTF-8.
     Utf8,
     /// A text has 2^32 bytes or more.
     TooLong,
-    /// A text isn't lexed.
+    /// A text can't be lexed.
     NoTokens,
     /// Flat tokens aren't trees.
     NoTrees,
-    /// The text of a grammar isn't one.
+    /// The text of a grammar has a fault.
     NoGrammar,
     OutOfMemory,
-    /// A buffer of the caller is too small; what was needed is in the reply.
+    /// A buffer of the caller is too small. The reply says how much is needed.
     NoRoom,
     /// A handle has no macro: none was read, or it was freed.
     NoMacro,
-    /// A handle that a macro is to be read for has one.
+    /// A macro is to be read into a handle that has one already.
     HasMacro,
 }
 
 impl Status {
-    /// The status in C: 0 `Done`, 1 `Faulted`, 2 `Refused`, 3 `Number`, 4 `Utf8`, 5 `TooLong`, 6 `NoTokens`, 7 `NoTrees`, 8
-    /// `NoGrammar`, 9 `OutOfMemory`, 10 `NoRoom`, 12 `NoMacro`, 13 `HasMacro`; 11 is the header's, of null pointers.
+    /// Returns the status in C: 0 `Done`, 1 `Faulted`, 2 `Refused`, 3 `Number`, 4 `Utf8`, 5
+    /// `TooLong`, 6 `NoTokens`, 7 `NoTrees`, 8 `NoGrammar`, 9 `OutOfMemory`, 10 `NoRoom`, 12
+    /// `NoMacro`, 13 `HasMacro`. The C header itself returns 11, for null pointers.
     pub fn number(self) -> u32
         ensures { result ≡ spec.status_number self }
     {
@@ -69,25 +71,25 @@ impl Status {
     }
 }
 
-/// Which text or tokens of a call.
+/// The input of a call that is at fault.
 #[derive(Clone, Copy, Drop)]
-pub enum Part {
+pub enum RequestPart {
     None,
     Definition,
     Argument,
     Grammar,
 }
 
-impl Part {
-    /// The part in C: 0 `None`, 1 `Definition`, 2 `Argument`, 3 `Grammar`.
+impl RequestPart {
+    /// Returns the part in C: 0 `None`, 1 `Definition`, 2 `Argument`, 3 `Grammar`.
     pub fn number(self) -> u32
         ensures { result ≡ spec.part_number self }
     {
         match self {
-            Part::None => 0,
-            Part::Definition => 1,
-            Part::Argument => 2,
-            Part::Grammar => 3,
+            RequestPart::None => 0,
+            RequestPart::Definition => 1,
+            RequestPart::Argument => 2,
+            RequestPart::Grammar => 3,
         }
     }
 }
@@ -96,25 +98,26 @@ impl Part {
 #[derive(Drop)]
 pub struct Answer<A: Allocator> {
     pub status: Status,
-    /// The part at fault.
-    pub part: Part,
-    /// Of `NoTokens` the byte, of `NoTrees` the token, of `NoGrammar` the line.
+    /// The input at fault.
+    pub part: RequestPart,
+    /// Where the fault is: the byte for `NoTokens`, the token for `NoTrees`, the line for
+    /// `NoGrammar`.
     pub place: usize,
-    /// Of `NoGrammar` the column.
+    /// The column of the fault, for `NoGrammar`.
     pub column: usize,
-    /// The index of the rule that was used, or that fits best.
+    /// The index of the rule that was used, or of the rule that fits best.
     pub rule: Option<u32>,
-    /// Where the error of an expansion is.
+    /// The span of an expansion's error.
     pub span: Span,
     pub tokens: Vec<FlatToken, A>,
     pub text: Vec<u8, A>,
-    /// What is wrong, in words.
+    /// The message of the error or the fault.
     pub message: String<A>,
 }
 
 impl<A: Allocator + Copy> Answer<A> {
-    /// An answer of that status with nothing in it.
-    pub fn empty(alloc: A, status: Status, part: Part) -> Answer<A>
+    /// Returns an answer with that status and nothing else.
+    pub fn empty(alloc: A, status: Status, part: RequestPart) -> Answer<A>
         ensures { answer_of result ≡ spec.empty status part }
     {
         Answer {
@@ -130,12 +133,12 @@ impl<A: Allocator + Copy> Answer<A> {
         }
     }
 
-    /// An answer that a text isn't lexed.
-    pub fn unlexed(alloc: A, part: Part, fault: LexFault) -> Answer<A>
-        ensures { spec.IsOr (spec.IsUnlexed part fault) (answer_of result) }
+    /// Returns the answer that a text can't be lexed.
+    pub fn unlexed(alloc: A, part: RequestPart, fault: LexFault) -> Answer<A>
+        ensures { spec.OrOutOfMemory (spec.IsUnlexed part fault) (answer_of result) }
     {
-        let wrong = fault.wrong;
-        let Ok(message) = format!(in alloc; "{wrong}") else {
+        let fault_kind = fault.fault_kind;
+        let Ok(message) = format!(in alloc; "{fault_kind}") else {
             return Answer::empty(alloc, Status::OutOfMemory, part);
         };
         let mut answer = Answer::empty(alloc, Status::NoTokens, part);
@@ -144,14 +147,14 @@ impl<A: Allocator + Copy> Answer<A> {
         answer
     }
 
-    /// An answer that flat tokens aren't trees.
-    pub fn untreed(alloc: A, part: Part, error: FlatError) -> Answer<A>
-        ensures { spec.IsUntreedBy part error (answer_of result) }
+    /// Returns the answer that flat tokens aren't trees.
+    pub fn invalid_tokens(alloc: A, part: RequestPart, error: FlatError) -> Answer<A>
+        ensures { spec.AreInvalidTokensBy part error (answer_of result) }
     {
-        let FlatError::Fault { index, wrong } = error else {
+        let FlatError::Fault { index, fault_kind } = error else {
             return Answer::empty(alloc, Status::OutOfMemory, part);
         };
-        let Ok(message) = String::from_str(alloc, words_of(wrong)) else {
+        let Ok(message) = String::from_str(alloc, fault_text(fault_kind)) else {
             return Answer::empty(alloc, Status::OutOfMemory, part);
         };
         let mut answer = Answer::empty(alloc, Status::NoTrees, part);
@@ -160,64 +163,68 @@ impl<A: Allocator + Copy> Answer<A> {
         answer
     }
 
-    /// An answer that a grammar isn't one.
-    pub fn ungrammatical(alloc: A, fault: RuleFault<'_>) -> Answer<A>
-        ensures { spec.IsUngrammaticalBy fault.entry (answer_of result) }
+    /// Returns the answer that the text of a grammar has a fault.
+    pub fn invalid_grammar(alloc: A, fault: PegError<'_>) -> Answer<A>
+        ensures { spec.IsInvalidGrammarBy fault.entry (answer_of result) }
     {
-        let RuleFault::At(place, reason) = fault else {
-            return Answer::empty(alloc, Status::OutOfMemory, Part::Grammar);
+        let PegError::At(place, reason) = fault else {
+            return Answer::empty(alloc, Status::OutOfMemory, RequestPart::Grammar);
         };
         let Ok(message) = format!(in alloc; "{reason}") else {
-            return Answer::empty(alloc, Status::OutOfMemory, Part::Grammar);
+            return Answer::empty(alloc, Status::OutOfMemory, RequestPart::Grammar);
         };
-        let mut answer = Answer::empty(alloc, Status::NoGrammar, Part::Grammar);
+        let mut answer = Answer::empty(alloc, Status::NoGrammar, RequestPart::Grammar);
         answer.place = place.line;
         answer.column = place.column;
         answer.message = message;
         answer
     }
 
-    /// An answer that a definition has no macro.
-    pub fn unread(alloc: A, error: &Unread<A>) -> Answer<A>
+    /// Returns the answer that a definition has no macro.
+    pub fn unread(alloc: A, error: &DefinitionError<A>) -> Answer<A>
         ensures { spec.IsUnreadBy error.now (answer_of result) }
     {
         match error {
-            Unread::Refused(error) => Answer::refused(alloc, error),
-            Unread::OutOfMemory => Answer::empty(alloc, Status::OutOfMemory, Part::None),
+            DefinitionError::Refused(error) => Answer::refused(alloc, error),
+            DefinitionError::OutOfMemory => Answer::empty(
+                alloc,
+                Status::OutOfMemory,
+                RequestPart::None,
+            ),
         }
     }
 
-    /// An answer that a definition isn't one.
+    /// Returns the answer that a definition has an error.
     pub fn refused(alloc: A, error: &ParseError<A>) -> Answer<A>
-        ensures { spec.IsOr (spec.IsRefusal (parse_error_of error.now)) (answer_of result) }
+        ensures { spec.OrOutOfMemory (spec.IsRefusal (parse_error_of error.now)) (answer_of result) }
     {
         let Ok(message) = format!(in alloc; "{error}") else {
-            return Answer::empty(alloc, Status::OutOfMemory, Part::Definition);
+            return Answer::empty(alloc, Status::OutOfMemory, RequestPart::Definition);
         };
-        let mut answer = Answer::empty(alloc, Status::Refused, Part::Definition);
+        let mut answer = Answer::empty(alloc, Status::Refused, RequestPart::Definition);
         answer.message = message;
         answer
     }
 }
 
-/// What is wrong with a flat token, in words.
-pub fn words_of(wrong: Wrong) -> &'static str
-    ensures { result.now ≡ spec.words_of wrong }
+/// Returns the message for a fault of a flat token.
+pub fn fault_text(fault_kind: FlatFault) -> &'static str
+    ensures { result.now ≡ spec.fault_text fault_kind }
 {
-    match wrong {
-        Wrong::Kind => "a token of no kind",
-        Wrong::Sort => "a token of no sort",
-        Wrong::Character => "a punct that is no char",
-        Wrong::Count => "a literal with a number above 255",
-        Wrong::Range => "a text that is out of bounds",
-        Wrong::Utf8 => "a text that is not UTF-8",
-        Wrong::Closing => "a closing without its opening",
-        Wrong::Whole => "tokens that are not one group",
-        Wrong::Open => "a group that is not closed",
+    match fault_kind {
+        FlatFault::Kind => "a token of no kind",
+        FlatFault::Sort => "a token of no sort",
+        FlatFault::Character => "a punct that is no char",
+        FlatFault::Count => "a literal with a number above 255",
+        FlatFault::Range => "a text that is out of bounds",
+        FlatFault::Utf8 => "a text that is not UTF-8",
+        FlatFault::Closing => "a closing without its opening",
+        FlatFault::Whole => "tokens that are not one group",
+        FlatFault::Open => "a group that is not closed",
     }
 }
 
-/// The text of an expansion's error. `AllocError` if out of memory.
+/// Returns the message of an expansion's error. `AllocError` if out of memory.
 pub fn error_text<A: Allocator + Copy>(
     alloc: A,
     error: &ExpandError<A>,
@@ -228,7 +235,7 @@ pub fn error_text<A: Allocator + Copy>(
     format!(in alloc; "{kind}")
 }
 
-/// Where an expansion's error is.
+/// Returns the span of an expansion's error.
 pub fn error_span<A: Allocator>(error: &ExpandError<A>) -> Span
     ensures { result ≡ (error_of error.now).span }
 {

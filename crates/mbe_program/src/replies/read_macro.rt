@@ -1,42 +1,46 @@
-// A definition that is read once, and expands many arguments.
+// A definition that is read once and expands many arguments. It borrows the text of its grammar.
 ghost use Rattle.std.specs.Prelude.{◌≡◌, None, IfErr, IfOk};
 ghost use Rattle.mbe.specs.MacroViews.{macro_of};
-ghost use Rattle.mbe_program.specs.declared.replies.asked.GrammarKind.TheVariants as grammars;
-ghost use Rattle.mbe_program.specs.Replies.Answers.{answer_of, IsNoGrammar, IsOr};
-ghost use Rattle.mbe_program.specs.Replies.Calls.{IsNoResult, source_of};
+ghost use Rattle.mbe_program.specs.declared.replies.request_codes.GrammarKind.TheVariants as grammars;
+ghost use Rattle.mbe_program.specs.Replies.Answers.{answer_of, IsNoGrammar, OrOutOfMemory};
+ghost use Rattle.mbe_program.specs.Replies.Requests.{IsNoResult, source_of};
 
-use crate::expanding::{defined, expansion_by};
-use crate::replies::answer::{Answer, Part, Status};
-use crate::replies::asked::GrammarKind;
-use crate::replies::calls::{
-    Input, Request, Settings, expansion_shown, read_rules, settings_of, trees,
+use crate::replies::answer::{Answer, RequestPart, Status};
+use crate::replies::flat::flat_token::{FlatSpan, span_of};
+use crate::replies::request_codes::GrammarKind;
+use crate::replies::requests::{
+    Input, Request, RequestSettings, expansion_shown, read_rules, settings_of, trees,
 };
-use crate::replies::flat::token::{FlatSpan, span_of};
+use crate::tree_expansion::{defined, expand_with};
 use mbe::DeclarativeMacro;
 use mbe_grammar::SampleGrammar;
-use mbe_grammar::rust::fragments::rust_rules;
-use mbe_grammar::tables::table::RuleTable;
-use mbe_grammar::text::rules::Rules;
+use mbe_grammar::peg::peg_grammar::PegGrammar;
+use mbe_grammar::rust::rust_rules::rust_rules;
+use mbe_grammar::tables::peg_table::RuleTable;
 use mbe_tt::grammar::FragmentGrammar;
 use mbe_tt::span::Span;
 use mbe_tt::tt::TopSubtree;
 use std::alloc::{AllocError, Allocator};
 
-/// The grammar of fragments that a call asks for.
+/// A grammar of fragments that was read, or needs no reading.
 #[derive(Drop)]
 pub enum Fragments<'t, A: Allocator> {
     Sample,
-    /// Rust's, of the edition that is asked for.
+    /// Rust's grammar, in the edition of the request.
     Rust(RuleTable<'t>),
-    /// The rules of the text that is given.
-    Text(Rules<'t, A>),
+    /// The rules of the caller's text.
+    Text(PegGrammar<'t, A>),
 }
 
 impl<'t, A: Allocator + Copy> Fragments<'t, A> {
-    ghost use Rattle.mbe_program.specs.Replies.ReadOnce.{AreFragments};
+    ghost use Rattle.mbe_program.specs.Replies.ReadMacros.{AreFragments};
 
-    /// Reads the grammar that is asked for, from the text where it is to be one.
-    pub fn read(alloc: A, asked: Settings, text: &'t [u8]) -> Result<Fragments<'t, A>, Answer<A>>
+    /// Reads the grammar of the request; `text` is read if the request asks for it.
+    pub fn read(
+        alloc: A,
+        asked: RequestSettings,
+        text: &'t [u8],
+    ) -> Result<Fragments<'t, A>, Answer<A>>
         ensures read { IfOk result (AreFragments asked text.now) }
         ensures asked { IfErr result (λ _. asked.grammar ≡ grammars.Text) }
         ensures fails { IfErr result (λ a. IsNoGrammar text.now (answer_of a)) }
@@ -54,31 +58,33 @@ impl<'t, A: Allocator + Copy> Fragments<'t, A> {
 
 /// Rules that were read without an error.
 #[derive(Drop)]
-pub struct Faultless<A: Allocator> {
+pub struct CheckedRules<A: Allocator> {
     pub rules: DeclarativeMacro<A>,
     ghost faultless: { (macro_of rules).err ≡ None },
 }
 
-/// A definition that was read, without an error, with what is asked of it and the grammar of its fragments.
+/// A definition that was read without an error, with the settings of its request and the grammar of
+/// its fragments.
 #[derive(Drop)]
 pub struct ReadMacro<'t, A: Allocator> {
-    pub asked: Settings,
+    pub asked: RequestSettings,
     pub fragments: Fragments<'t, A>,
-    pub read: Faultless<A>,
+    pub read: CheckedRules<A>,
 }
 
-/// A macro that was read, while it expands: what a call asks of it, and what it borrows.
+/// The same as `ReadMacro`, with the grammar and the rules borrowed, so that a kept macro expands
+/// without a copy.
 #[derive(Drop)]
-pub struct InUse<'m, 't, A: Allocator> {
-    pub asked: Settings,
+pub struct BorrowedMacro<'m, 't, A: Allocator> {
+    pub asked: RequestSettings,
     pub fragments: &'m Fragments<'t, A>,
-    pub read: &'m Faultless<A>,
+    pub read: &'m CheckedRules<A>,
 }
 
-impl<A: Allocator + Copy> InUse<'_, '_, A> {
-    ghost use Rattle.mbe_program.specs.Replies.ReadOnce as spec;
+impl<A: Allocator + Copy> BorrowedMacro<'_, '_, A> {
+    ghost use Rattle.mbe_program.specs.Replies.ReadMacros as spec;
 
-    // What it makes of an argument by that grammar.
+    // Expands an argument by that grammar. `AllocError` if out of memory.
     fn expansion<G: FragmentGrammar>(
         &self,
         alloc: A,
@@ -87,15 +93,15 @@ impl<A: Allocator + Copy> InUse<'_, '_, A> {
         call_site: Span,
     ) -> Result<Answer<A>, AllocError>
         ensures { IfOk result (λ a. spec.IsExpansionOf (G.grammar grammar.now)
-            (spec.in_use self.now) argument.now call_site (answer_of a)) }
+            (spec.borrowed self.now) argument.now call_site (answer_of a)) }
     {
-        let Settings { style, form, .. } = self.asked;
+        let RequestSettings { style, form, .. } = self.asked;
         let rules = &self.read.rules;
-        let expansion = expansion_by(alloc, grammar, rules, argument, style, call_site)?;
+        let expansion = expand_with(alloc, grammar, rules, argument, style, call_site)?;
         expansion_shown(alloc, form, &expansion)
     }
 
-    // The same, or that there is no memory.
+    // Expands an argument by that grammar. Out of memory is an answer, too.
     fn expand_by<G: FragmentGrammar>(
         &self,
         alloc: A,
@@ -103,18 +109,18 @@ impl<A: Allocator + Copy> InUse<'_, '_, A> {
         argument: &TopSubtree<A>,
         call_site: Span,
     ) -> Answer<A>
-        ensures { IsOr (spec.IsExpansionOf (G.grammar grammar.now) (spec.in_use self.now)
+        ensures { OrOutOfMemory (spec.IsExpansionOf (G.grammar grammar.now) (spec.borrowed self.now)
             argument.now call_site) (answer_of result) }
     {
         match self.expansion(alloc, grammar, argument, call_site) {
             Ok(answer) => answer,
-            Err(_) => Answer::empty(alloc, Status::OutOfMemory, Part::None),
+            Err(_) => Answer::empty(alloc, Status::OutOfMemory, RequestPart::None),
         }
     }
 
     /// Expands an argument of trees, in a call at that span.
     pub fn expand_trees(&self, alloc: A, argument: &TopSubtree<A>, call_site: Span) -> Answer<A>
-        ensures { spec.AnswersTreesBy (spec.in_use self.now) argument.now call_site
+        ensures { spec.AnswersTreesBy (spec.borrowed self.now) argument.now call_site
             (answer_of result) }
     {
         match self.fragments {
@@ -129,7 +135,7 @@ impl<A: Allocator + Copy> InUse<'_, '_, A> {
 
     /// Expands an argument, in a call at that span.
     pub fn expand(&self, alloc: A, argument: Input<'_>, call_site: FlatSpan) -> Answer<A>
-        ensures { spec.AnswersBy (spec.in_use self.now) (source_of argument.entry) call_site
+        ensures { spec.AnswersBy (spec.borrowed self.now) (source_of argument.entry) call_site
             (answer_of result) }
     {
         match trees(alloc, self.asked.dialect, argument) {
@@ -140,12 +146,13 @@ impl<A: Allocator + Copy> InUse<'_, '_, A> {
 }
 
 impl<'t, A: Allocator + Copy> ReadMacro<'t, A> {
-    ghost use Rattle.mbe_program.specs.Replies.ReadOnce as spec;
+    ghost use Rattle.mbe_program.specs.Replies.ReadMacros as spec;
 
-    /// Reads a definition of trees, after the text of the grammar where that is asked for.
+    /// Reads a definition of trees. It reads the text of the grammar first, if the request asks for
+    /// it.
     pub fn of_trees(
         alloc: A,
-        asked: Settings,
+        asked: RequestSettings,
         grammar: &'t [u8],
         definition: &TopSubtree<A>,
     ) -> Result<ReadMacro<'t, A>, Answer<A>>
@@ -162,14 +169,14 @@ impl<'t, A: Allocator + Copy> ReadMacro<'t, A> {
             Ok(rules) => Ok(ReadMacro {
                 asked,
                 fragments,
-                read: Faultless { rules },
+                read: CheckedRules { rules },
             }),
             Err(error) => Err(Answer::unread(alloc, &error)),
         }
     }
 
-    /// Reads a definition. The definition's trees are read before the text of the grammar, and that before the rules. Of a definition's
-    /// text the file is 0.
+    /// Reads a definition. It reads the definition's trees first, then the text of the grammar,
+    /// then the rules. A text is lexed as file 0.
     pub fn read(
         alloc: A,
         request: &Request,
@@ -182,7 +189,7 @@ impl<'t, A: Allocator + Copy> ReadMacro<'t, A> {
             (source_of definition.entry) (answer_of a)) }
     {
         let Some(asked) = settings_of(request) else {
-            return Err(Answer::empty(alloc, Status::Number, Part::None));
+            return Err(Answer::empty(alloc, Status::Number, RequestPart::None));
         };
         match trees(alloc, asked.dialect, definition) {
             Ok(definition) => ReadMacro::of_trees(alloc, asked, grammar, &definition),
@@ -190,11 +197,11 @@ impl<'t, A: Allocator + Copy> ReadMacro<'t, A> {
         }
     }
 
-    // The macro, to be used as it was asked for.
-    fn in_use(&self) -> InUse<'_, 't, A>
-        ensures { spec.in_use result ≡ self.now }
+    // Borrows the macro, with the settings of its request.
+    fn borrowed(&self) -> BorrowedMacro<'_, 't, A>
+        ensures { spec.borrowed result ≡ self.now }
     {
-        InUse {
+        BorrowedMacro {
             asked: self.asked,
             fragments: &self.fragments,
             read: &self.read,
@@ -205,14 +212,14 @@ impl<'t, A: Allocator + Copy> ReadMacro<'t, A> {
     pub fn expand_trees(&self, alloc: A, argument: &TopSubtree<A>, call_site: Span) -> Answer<A>
         ensures { spec.AnswersTreesBy self.now argument.now call_site (answer_of result) }
     {
-        self.in_use().expand_trees(alloc, argument, call_site)
+        self.borrowed().expand_trees(alloc, argument, call_site)
     }
 
-    /// Expands an argument, in a call at that span: the answer is that of `calls::expand` to the request that the definition was read
-    /// for, with this call site.
+    /// Expands an argument, in a call at that span. The answer is that of `requests::expand` to the
+    /// macro's request, with this call site.
     pub fn expand(&self, alloc: A, argument: Input<'_>, call_site: FlatSpan) -> Answer<A>
         ensures { spec.AnswersBy self.now (source_of argument.entry) call_site (answer_of result) }
     {
-        self.in_use().expand(alloc, argument, call_site)
+        self.borrowed().expand(alloc, argument, call_site)
     }
 }

@@ -1,20 +1,25 @@
--- What the log of bindings holds: the account of a handle, and what it binds (the project's own choice, after
--- rust-analyzer's log).
-use Rattle.std.specs.Prelude.{◌≡◌, ◌≢◌, ◌<◌, ◌≤◌, ℕ, zero, suc, List, [], ◌∷◌, ◌++◌, length, take, slice_get, Option, Some, None}
+-- The log of bindings, the account of a handle, and what an account binds. This is the project's
+-- own choice, after rust-analyzer's log.
+use Rattle.std.specs.Prelude.{◌≡◌, ◌≢◌, ◌<◌, ◌≤◌, ℕ, zero, suc, List, [], ◌∷◌, ◌++◌, length, take}
+use Rattle.std.specs.Prelude.{slice_get, Option, Some, None}
 use Rattle.mbe_tt.specs.Trees.Tree.{none}
-use Rattle.mbe_semantics.specs.declared.kinds.MetaVarKind.{MetaVarKind}
-use Rattle.mbe_semantics.specs.declared.log.Part.{Part}
+use Rattle.mbe_semantics.specs.declared.fragment_kinds.MetaVarKind.{MetaVarKind}
+use Rattle.mbe_semantics.specs.declared.list_prefix.ListPrefix.{ListPrefix}
 use Rattle.mbe_semantics.specs.Syntax.Op.{Name}
 use Rattle.mbe_semantics.specs.Fragments.Kinds as fragments
-use Rattle.mbe_semantics.specs.Readings.Item.{Fragment, Item, matched, bound, grouped, skipped, rounds, Items, no_items, item, Rounds, no_rounds, round}
-use Rattle.mbe_semantics.specs.Bindings.Environment.{Value, fragment, list, empty, missing, Values, no_values, value, add_value, Environment, value_of, set_value}
+use Rattle.mbe_semantics.specs.Readings.Item.{Fragment, Item, matched, bound, grouped, skipped}
+use Rattle.mbe_semantics.specs.Readings.Item.{rounds, Items, no_items, item, Rounds, no_rounds}
+use Rattle.mbe_semantics.specs.Readings.Item.{round}
+use Rattle.mbe_semantics.specs.Bindings.Environment.{Value, fragment, list, empty, missing, Values}
+use Rattle.mbe_semantics.specs.Bindings.Environment.{no_values, value, add_value, Environment}
+use Rattle.mbe_semantics.specs.Bindings.Environment.{value_of, set_value}
 
--- Lists grow at their end, as the log does.
+-- Lists of commands and rounds grow at their end, as the log does.
 mutual
-  -- what is written into a log
+  -- a command of the log
   pub data Command : Type 0 where
     binds : Name → Fragment → Command
-    -- a fragment that took nothing
+    -- a variable with an empty fragment
     binds_nothing : Name → Command
     -- a repetition without rounds
     skips : Name → Command
@@ -22,17 +27,17 @@ mutual
     -- a repetition with rounds
     nests : CommandRounds → Command
 
-  -- commands one after the other
+  -- consecutive commands
   pub data Commands : Type 0 where
     no_commands : Commands
     command : Commands → Command → Commands
 
-  -- rounds one after the other, each a list of commands
+  -- consecutive rounds, each a list of commands
   pub data CommandRounds : Type 0 where
     no_command_rounds : CommandRounds
     command_round : CommandRounds → Commands → CommandRounds
 
--- the rounds that are finished, and the commands of the current one
+-- an account: the rounds that are finished, and the commands of the current round
 pub record Account : Type 0 where
   pub finished : CommandRounds
   pub current : Commands
@@ -41,7 +46,7 @@ pub record Account : Type 0 where
 abbrev pub no_account : Account
 no_account = record { finished = no_command_rounds; current = no_commands }
 
--- with one command more
+-- the account with one more command
 abbrev pub pushed : Command → Account → Account
 pushed c a = record a { current = command a.current c }
 
@@ -49,7 +54,7 @@ pushed c a = record a { current = command a.current c }
 abbrev pub all_rounds : Account → CommandRounds
 all_rounds a = command_round a.finished a.current
 
--- with the child's rounds, as they are now
+-- the account with the child's rounds, as they are now
 abbrev pub pushed_nested : Account → Account → Account
 pushed_nested parent child = pushed (nests (all_rounds child)) parent
 
@@ -59,23 +64,23 @@ pushed_default a = record { finished = all_rounds a; current = no_commands }
 
 -- ---- what commands bind
 
--- the fragment of a variable that took nothing
-abbrev pub nothing_taken : Fragment
-nothing_taken = record { trees = none; style = fragments.plain }
+-- an empty fragment
+abbrev pub empty_fragment : Fragment
+empty_fragment = record { trees = none; style = fragments.plain }
 
--- with empty lists after them, until there are n
+-- the list with empty lists after it, up to length n
 abbrev pub filled : ℕ → Values → Values
 filled zero vs = vs
 filled (suc n) no_values = value (list no_values) (filled n no_values)
 filled (suc n) (value v vs) = value v (filled n vs)
 
--- round i gives its value to the name's list
+-- round i adds its value to the list of the name
 abbrev pub grown_in : ℕ → Environment → Name → Value → Option Value → Environment
 grown_in i env name v None = set_value env name (list (add_value (filled i no_values) v))
 grown_in i env name v (Some (list vs)) = set_value env name (list (add_value (filled i vs) v))
 grown_in i env name v (Some _) = env
 
--- each name of round i gives its list one value more
+-- each name of round i adds a value to its list
 abbrev pub add_round_in : ℕ → Environment → Environment → Environment
 add_round_in i [] env = env
 add_round_in i (e ∷ more) env = add_round_in i more (grown_in i env e.0 e.1 (value_of env e.0))
@@ -85,11 +90,11 @@ abbrev pub round_count : CommandRounds → ℕ
 round_count no_command_rounds = 0
 round_count (command_round rs cs) = suc (round_count rs)
 
--- what the commands bind, one after the other, over what was bound before
+-- what the commands bind, in order, over earlier bindings
 abbrev mutual
   pub run_command : Command → Environment → Environment
   run_command (binds name x) env = set_value env name (fragment x)
-  run_command (binds_nothing name) env = set_value env name (fragment nothing_taken)
+  run_command (binds_nothing name) env = set_value env name (fragment empty_fragment)
   run_command (skips name) env = set_value env name empty
   run_command (misses name kind) env = set_value env name (missing kind)
   run_command (nests rs) env = run_rounds rs env
@@ -98,10 +103,11 @@ abbrev mutual
   run no_commands env = env
   run (command cs c) env = run_command c (run cs env)
 
-  -- each round by itself
+  -- what rounds bind: each round is run by itself
   pub run_rounds : CommandRounds → Environment → Environment
   run_rounds no_command_rounds env = env
-  run_rounds (command_round rs cs) env = add_round_in (round_count rs) (run cs []) (run_rounds rs env)
+  run_rounds (command_round rs cs) env =
+      add_round_in (round_count rs) (run cs []) (run_rounds rs env)
 
 -- the environment of an account: that of its current list
 abbrev pub environment_of_account : Account → Environment
@@ -109,19 +115,20 @@ environment_of_account a = run a.current []
 
 -- ---- the commands of a reading
 
--- each name is skipped
+-- the commands that skip each name
 abbrev pub skip_commands : List Name → Commands → Commands
 skip_commands [] cs = cs
 skip_commands (name ∷ names) cs = skip_commands names (command cs (skips name))
 
--- the commands that items write, from left to right, after those that were written before
+-- the commands of items, from left to right, after earlier commands
 abbrev mutual
   pub write_item : Item → Commands → Commands
   write_item (matched n) cs = cs
   write_item (bound name x) cs = command cs (binds name x)
   write_item (grouped is) cs = write is cs
   write_item (skipped names) cs = skip_commands names cs
-  write_item (rounds rs last) cs = command cs (nests (command_round (rounds_of_items rs) (write last no_commands)))
+  write_item (rounds rs last) cs =
+      command cs (nests (command_round (rounds_of_items rs) (write last no_commands)))
 
   pub write : Items → Commands → Commands
   write no_items cs = cs
@@ -137,25 +144,25 @@ commands_of is = write is no_commands
 
 -- ---- the log
 
--- what a list of commands in the log holds
+-- an entry in a list of commands
 pub data Entry : Type 0 where
   binds : Name → Fragment → Entry
   binds_nothing : Name → Entry
   skips : Name → Entry
   misses : Name → MetaVarKind → Entry
   -- the child's finished rounds, and its current list
-  nests : Part → Part → Entry
-  -- commands of another list
-  links : Part → Entry
+  nests : ListPrefix → ListPrefix → Entry
+  -- the commands of a prefix of another list
+  links : ListPrefix → Entry
 
--- what a list of rounds in the log holds
+-- an entry in a list of rounds
 pub data RoundEntry : Type 0 where
-  -- a list of commands
-  finishes : Part → RoundEntry
-  -- finished rounds of another list
-  links : Part → RoundEntry
+  -- a round: a prefix of a list of commands
+  finishes : ListPrefix → RoundEntry
+  -- the finished rounds of a prefix of another list
+  links : ListPrefix → RoundEntry
 
--- all lists
+-- all lists of the log
 pub record Log : Type 0 where
   pub commands : List (List Entry)
   pub rounds : List (List RoundEntry)
@@ -164,20 +171,21 @@ pub record Log : Type 0 where
 abbrev pub no_lists : Log
 no_lists = record { commands = []; rounds = [] }
 
--- which entries are a handle's: of which two lists, and how many of their first ones
+-- a handle: a prefix of a list of commands, and a prefix of a list of rounds
 pub record Handle : Type 0 where
-  pub current : Part
-  pub finished : Part
+  pub current : ListPrefix
+  pub finished : ListPrefix
 
--- the list is there, and has so many entries
-abbrev pub IsIn : {E : Type 0} → List (List E) → Part → Type 0
-IsIn {E} lists part = (es : List E) × (slice_get lists part.list ≡ Some es) × (part.first ≤ length es)
+-- the list exists, and has at least as many entries as the prefix
+abbrev pub IsIn : {E : Type 0} → List (List E) → ListPrefix → Type 0
+IsIn {E} lists part = (es : List E) × (slice_get lists part.list ≡ Some es)
+    × (part.first ≤ length es)
 
--- both its lists are in the log
+-- both lists of the handle exist
 abbrev pub IsLive : Log → Handle → Type 0
 IsLive log h = (h.current.list < length log.commands) × (h.finished.list < length log.rounds)
 
--- both its lists are in the log, with as many entries as the handle says
+-- both lists of the handle exist, with as many entries as the handle says
 abbrev pub HasEntriesOf : Log → Handle → Type 0
 HasEntriesOf log h = IsIn log.commands h.current × IsIn log.rounds h.finished
 
@@ -185,54 +193,64 @@ HasEntriesOf log h = IsIn log.commands h.current × IsIn log.rounds h.finished
 abbrev pub AreApart : Handle → Handle → Type 0
 AreApart h k = (h.current.list ≢ k.current.list) × (h.finished.list ≢ k.finished.list)
 
--- The number of each entry in the order of writing, by its list and its place there. It isn't stored.
+-- For each entry, by its list and its index there, its number in the order of writing. The number
+-- isn't stored.
 pub record Order : Type 0 where
   pub commands : ℕ → ℕ → ℕ
   pub rounds : ℕ → ℕ → ℕ
 
 module _ (log : Log) where
   mutual
-    -- What entries give after the commands before them, when parts are replaced by what they stand for.
+    -- The commands after `cs` and the entries, if each part is replaced by what it stands for.
     pub data Gives : Commands → List Entry → Commands → Type 0 where
       gives_nothing : (cs : Commands) → Gives cs [] cs
-      gives_binding : (cs : Commands) (name : Name) (x : Fragment) (es : List Entry) (all : Commands) →
+      gives_binding : (cs : Commands) (name : Name) (x : Fragment) (es : List Entry)
+          (all : Commands) →
           Gives (command cs (Command.binds name x)) es all → Gives cs (Entry.binds name x ∷ es) all
       gives_empty : (cs : Commands) (name : Name) (es : List Entry) (all : Commands) →
-          Gives (command cs (Command.binds_nothing name)) es all → Gives cs (Entry.binds_nothing name ∷ es) all
+          Gives (command cs (Command.binds_nothing name)) es all
+          → Gives cs (Entry.binds_nothing name ∷ es) all
       gives_skip : (cs : Commands) (name : Name) (es : List Entry) (all : Commands) →
           Gives (command cs (Command.skips name)) es all → Gives cs (Entry.skips name ∷ es) all
-      gives_missing : (cs : Commands) (name : Name) (kind : MetaVarKind) (es : List Entry) (all : Commands) →
-          Gives (command cs (Command.misses name kind)) es all → Gives cs (Entry.misses name kind ∷ es) all
-      gives_nested : (cs : Commands) (finished current : Part) (es : List Entry) (rs : CommandRounds)
+      gives_missing : (cs : Commands) (name : Name) (kind : MetaVarKind) (es : List Entry)
+          (all : Commands) →
+          Gives (command cs (Command.misses name kind)) es all
+          → Gives cs (Entry.misses name kind ∷ es) all
+      gives_nested : (cs : Commands) (finished current : ListPrefix) (es : List Entry)
+          (rs : CommandRounds)
           (ds all : Commands) →
           PartGivesRounds no_command_rounds finished rs → PartGives no_commands current ds →
           Gives (command cs (Command.nests (command_round rs ds))) es all
           → Gives cs (Entry.nests finished current ∷ es) all
-      gives_link : (cs : Commands) (part : Part) (es : List Entry) (ds all : Commands) →
+      gives_link : (cs : Commands) (part : ListPrefix) (es : List Entry) (ds all : Commands) →
           PartGives cs part ds → Gives ds es all → Gives cs (Entry.links part ∷ es) all
 
-    -- the same, of rounds
+    -- the same for rounds
     pub data GivesRounds : CommandRounds → List RoundEntry → CommandRounds → Type 0 where
       gives_no_rounds : (rs : CommandRounds) → GivesRounds rs [] rs
-      gives_round : (rs : CommandRounds) (part : Part) (es : List RoundEntry) (cs : Commands) (all : CommandRounds) →
+      gives_round : (rs : CommandRounds) (part : ListPrefix) (es : List RoundEntry) (cs : Commands)
+          (all : CommandRounds) →
           PartGives no_commands part cs → GivesRounds (command_round rs cs) es all
           → GivesRounds rs (RoundEntry.finishes part ∷ es) all
-      gives_linked_rounds : (rs : CommandRounds) (part : Part) (es : List RoundEntry) (qs all : CommandRounds) →
-          PartGivesRounds rs part qs → GivesRounds qs es all → GivesRounds rs (RoundEntry.links part ∷ es) all
+      gives_linked_rounds : (rs : CommandRounds) (part : ListPrefix) (es : List RoundEntry)
+          (qs all : CommandRounds) →
+          PartGivesRounds rs part qs → GivesRounds qs es all
+          → GivesRounds rs (RoundEntry.links part ∷ es) all
 
-    -- the first entries of a list give these commands
-    pub data PartGives : Commands → Part → Commands → Type 0 where
-      part_gives : (cs : Commands) (part : Part) (all : Commands) (es : List Entry)
+    -- the commands after `cs` and the first entries of a list
+    pub data PartGives : Commands → ListPrefix → Commands → Type 0 where
+      part_gives : (cs : Commands) (part : ListPrefix) (all : Commands) (es : List Entry)
           → slice_get log.commands part.list ≡ Some es → part.first ≤ length es →
           Gives cs (take part.first es) all → PartGives cs part all
 
-    -- the same, of rounds
-    pub data PartGivesRounds : CommandRounds → Part → CommandRounds → Type 0 where
-      part_gives_rounds : (rs : CommandRounds) (part : Part) (all : CommandRounds) (es : List RoundEntry)
+    -- the same for rounds
+    pub data PartGivesRounds : CommandRounds → ListPrefix → CommandRounds → Type 0 where
+      part_gives_rounds : (rs : CommandRounds) (part : ListPrefix) (all : CommandRounds)
+          (es : List RoundEntry)
           → slice_get log.rounds part.list ≡ Some es → part.first ≤ length es →
           GivesRounds rs (take part.first es) all → PartGivesRounds rs part all
 
-  -- the account of a live handle
+  -- the account of a handle
   pub record IsAccount (h : Handle) (a : Account) : Type 0 where
     pub current : PartGives no_commands h.current a.current
     pub finished : PartGivesRounds no_command_rounds h.finished a.finished
@@ -240,32 +258,36 @@ module _ (log : Log) where
   -- ---- the order of writing
 
   module _ (order : Order) where
-    -- the entries of the part have lower numbers alone
-    abbrev pub IsBelow : ℕ → Part → Type 0
-    IsBelow n part = IsIn log.commands part × ((j : ℕ) → j < part.first → order.commands part.list j < n)
+    -- all entries of the part have numbers below n
+    abbrev pub IsBelow : ℕ → ListPrefix → Type 0
+    IsBelow n part = IsIn log.commands part
+        × ((j : ℕ) → j < part.first → order.commands part.list j < n)
 
-    -- the same, of rounds
-    abbrev pub AreRoundsBelow : ℕ → Part → Type 0
-    AreRoundsBelow n part = IsIn log.rounds part × ((j : ℕ) → j < part.first → order.rounds part.list j < n)
+    -- the same for rounds
+    abbrev pub AreRoundsBelow : ℕ → ListPrefix → Type 0
+    AreRoundsBelow n part = IsIn log.rounds part
+        × ((j : ℕ) → j < part.first → order.rounds part.list j < n)
 
-    -- what an entry stands for was written before it
+    -- the entry stands for entries with numbers below n
     abbrev pub NamesLower : ℕ → Entry → Type 0
     NamesLower n (Entry.nests finished current) = AreRoundsBelow n finished × IsBelow n current
     NamesLower n (Entry.links part) = IsBelow n part
     NamesLower n _ = Unit {0}
 
-    -- the same, of rounds
+    -- the same for rounds
     abbrev pub RoundNamesLower : ℕ → RoundEntry → Type 0
     RoundNamesLower n (RoundEntry.finishes part) = IsBelow n part
     RoundNamesLower n (RoundEntry.links part) = AreRoundsBelow n part
 
-    -- an entry stands for entries that were written before it
+    -- each entry stands for entries that were written before it
     pub record IsOrdered : Type 0 where
       pub commands : (i j : ℕ) (es : List Entry) (e : Entry) →
-          slice_get log.commands i ≡ Some es → slice_get es j ≡ Some e → NamesLower (order.commands i j) e
+          slice_get log.commands i ≡ Some es → slice_get es j ≡ Some e
+          → NamesLower (order.commands i j) e
       pub rounds : (i j : ℕ) (es : List RoundEntry) (e : RoundEntry) →
-          slice_get log.rounds i ≡ Some es → slice_get es j ≡ Some e → RoundNamesLower (order.rounds i j) e
+          slice_get log.rounds i ≡ Some es → slice_get es j ≡ Some e
+          → RoundNamesLower (order.rounds i j) e
 
--- one list more at the end of the lists, of at most three entries, and nothing else is changed
+-- The log has one more list at its end, of at most three entries, and nothing else is changed.
 abbrev pub HasOneListMore : {E : Type 0} → List (List E) → List (List E) → Type 0
 HasOneListMore {E} old new = (es : List E) × (length es ≤ 3) × (new ≡ old ++ es ∷ [])

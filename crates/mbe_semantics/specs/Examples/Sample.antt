@@ -1,4 +1,4 @@
--- Words for small definitions and arguments.
+-- Definitions that make small macros and arguments short to write.
 use Rattle.std.specs.Prelude.{◌≡◌, ◌+◌, ℕ, List, length, Some, None}
 use Rattle.mbe_tt.specs.declared.span.Span.{Span}
 use Rattle.mbe_tt.specs.declared.tt.Delimiter.{Delimiter}
@@ -11,8 +11,8 @@ use Rattle.mbe_tt.specs.declared.tt.Spacing.{Spacing}
 use Rattle.mbe_tt.specs.declared.tt.Spacing.TheVariants.{Alone, Joint}
 use Rattle.mbe_tt.specs.Trees.Leaf.{Ident, Literal, ident, literal, punct}
 use Rattle.mbe_tt.specs.Trees.Tree.{Forest, none, leaf, group}
-use Rattle.mbe_tt.specs.Fragments.Grammar.{Grammar}
-use Rattle.mbe_semantics.specs.declared.kinds.MetaVarKind.{MetaVarKind}
+use Rattle.mbe_tt.specs.Grammars.Grammar.{Grammar}
+use Rattle.mbe_semantics.specs.declared.fragment_kinds.MetaVarKind.{MetaVarKind}
 use Rattle.mbe_semantics.specs.declared.macro_call_style.MacroCallStyle.TheVariants.{FnLike}
 use Rattle.mbe_semantics.specs.Syntax.Op as ops
 use Rattle.mbe_semantics.specs.Syntax.Op.{Op, Ops}
@@ -26,7 +26,8 @@ use Rattle.mbe_tt.specs.declared.span.SyntaxContext.{SyntaxContext}
 use Rattle.mbe_semantics.specs.Expansion.Expansion.{IsExpansion}
 
 abbrev pub at : ℕ → ℕ → ℕ → Span
-at file start end = record { file = file; ast = 0; start = start; end = end; ctx = record { 0 = 0 } }
+at file start end =
+    record { file = file; ast = 0; start = start; end = end; ctx = record { 0 = 0 } }
 
 abbrev pub ident_of : List ℕ → Span → Ident
 ident_of text span = record { sym = text; is_raw = raw.No; span = span }
@@ -35,7 +36,8 @@ abbrev pub punct_of : ℕ → Spacing → Span → Punct
 punct_of char spacing span = record { char = char; spacing = spacing; span = span }
 
 abbrev pub integer_of : List ℕ → Span → Literal
-integer_of text span = record { text_and_suffix = text; suffix_len = 0; kind = Integer; span = span }
+integer_of text span =
+    record { text_and_suffix = text; suffix_len = 0; kind = Integer; span = span }
 
 abbrev pub word : List ℕ → Span → Forest → Forest
 word text span rest = leaf (ident (ident_of text span)) rest
@@ -49,14 +51,14 @@ number text span rest = leaf (literal (integer_of text span)) rest
 abbrev pub delimiter_of : DelimiterKind → Span → Span → Delimiter
 delimiter_of kind opening close = record { opening = opening; close = close; kind = kind }
 
--- each context is of this edition
+-- each context has this edition
 abbrev pub is_2024 : SyntaxContext → Edition → Type 0
 is_2024 c e = e ≡ Edition2024
 
 abbrev pub same_span : Span → Span → Type 0
 same_span s t = t ≡ s
 
--- ---- tokens that begin at a place
+-- ---- tokens that begin at this byte of the text
 
 abbrev pub text_at : ℕ → ℕ → List ℕ → Forest → Forest
 text_at file start text rest = word text (at file start (start + length text)) rest
@@ -75,7 +77,8 @@ abbrev pub arrow_at : ℕ → Forest → Forest
 arrow_at start rest = joint_at 0 start 61 (alone_at 0 (start + 1) 62 rest)
 
 abbrev pub parens : ℕ → ℕ → Delimiter
-parens opening close = delimiter_of Parenthesis (at 0 opening (opening + 1)) (at 0 close (close + 1))
+parens opening close =
+    delimiter_of Parenthesis (at 0 opening (opening + 1)) (at 0 close (close + 1))
 
 abbrev pub braces : ℕ → ℕ → Delimiter
 braces opening close = delimiter_of Brace (at 0 opening (opening + 1)) (at 0 close (close + 1))
@@ -92,7 +95,7 @@ named_at start name rest = alone_at 0 start 36 (text_at 0 (start + 1) name rest)
 
 -- ---- ops and items
 
--- the variable whose name begins there, of a pattern and of a template
+-- a variable of a pattern and of a template; its name begins at this byte
 abbrev pub reads_at : ℕ → List ℕ → MetaVarKind → Op
 reads_at start name kind = ops.variable name (Some kind) (at 0 start (start + length name))
 
@@ -108,7 +111,7 @@ taken name style f = items.bound name (record { trees = f; style = style })
 abbrev pub fn_like : Ops → Ops → Rule
 fn_like reads writes = record { style = FnLike; reads = reads; writes = writes }
 
--- the tree of an expansion whose argument is so long
+-- the tree of an expansion, for an argument of this length
 abbrev pub result_of : ℕ → Forest → Forest
 result_of end inside = group (delimiter_of Invisible (at 1 0 end) (at 1 0 end)) inside none
 
@@ -116,6 +119,7 @@ result_of end inside = group (delimiter_of Invisible (at 1 0 end) (at 1 0 end)) 
 abbrev pub Defines : Forest → List Rule → Type 0
 Defines definition rs = IsMacroRules is_2024 definition rs None
 
--- expanded without an error, by the rule at this place, with a marker that changes nothing
+-- The expansion has no error, and is by the rule with this index. The marker changes nothing.
 abbrev pub ExpandsBy : Grammar → List Rule → Forest → ℕ → ℕ → Forest → Type 0
-ExpandsBy g rs argument end n inside = IsExpansion g FnLike argument same_span (at 1 0 end) rs n (result_of end inside)
+ExpandsBy g rs argument end n inside =
+    IsExpansion g FnLike argument same_span (at 1 0 end) rs n (result_of end inside)

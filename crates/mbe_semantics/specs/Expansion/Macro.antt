@@ -1,12 +1,14 @@
--- What the public calls promise, over the values that clauses see.
-use Rattle.std.specs.Prelude.{◌≡◌, ◌≢◌, ◌⊎◌, ◌+◌, ◌^◌, ℕ, Bool, true, false, nat_lt, if◌then◌else◌, List, [], ◌∷◌, Contains, Option, Some, None, IsNone, IsTrue}
+-- The contracts of the public calls, over values of the specification.
+use Rattle.std.specs.Prelude.{◌≡◌, ◌≢◌, ◌⊎◌, ◌+◌, ◌^◌, ℕ, Bool, true, false, nat_lt, if◌then◌else◌}
+use Rattle.std.specs.Prelude.{List, [], ◌∷◌, Contains, Option, Some, None, IsNone, IsTrue}
 use Rattle.std.specs.List.{list_any}
 use Rattle.mbe_tt.specs.declared.span.Span.{Span}
 use Rattle.mbe_tt.specs.declared.tt.DelimiterKind.TheVariants.{Invisible}
 use Rattle.mbe_tt.specs.Trees.Tree.{Forest, none, group}
-use Rattle.mbe_tt.specs.Fragments.Grammar.{Grammar}
+use Rattle.mbe_tt.specs.Grammars.Grammar.{Grammar}
 use Rattle.mbe_semantics.specs.declared.macro_call_style.MacroCallStyle.{MacroCallStyle}
-use Rattle.mbe_semantics.specs.declared.macro_call_style.MacroCallStyle.TheVariants.{FnLike, Attr, Derive}
+use Rattle.mbe_semantics.specs.declared.macro_call_style.MacroCallStyle.TheVariants.{FnLike, Attr}
+use Rattle.mbe_semantics.specs.declared.macro_call_style.MacroCallStyle.TheVariants.{Derive}
 use Rattle.mbe_semantics.specs.Syntax.Template.{Fault, empty_repetition}
 use Rattle.mbe_semantics.specs.Syntax.Definition.{Rule}
 use Rattle.mbe_semantics.specs.Syntax.Nullable.{is_refused}
@@ -14,16 +16,17 @@ use Rattle.mbe_semantics.specs.Expansion.Error.{ExpandError, no_matching_rule}
 use Rattle.mbe_semantics.specs.Expansion.Expansion.{Applies, IsExpansion}
 use Rattle.mbe_semantics.specs.Expansion.Recovery.{HasStyle, IsClosest}
 
--- a definition that was read
+-- a parsed definition: its rules, and its error
 pub record Macro : Type 0 where
   pub rules : List Rule
   pub err : Option Fault
 
--- a refused pattern is reported
-abbrev pub TellsRefusal : Macro → Type 0
-TellsRefusal m = IsTrue (list_any (λ r. is_refused r.reads) m.rules) → m.err ≡ Some empty_repetition
+-- a refused pattern is reported as an error
+abbrev pub ReportsRefusal : Macro → Type 0
+ReportsRefusal m = IsTrue (list_any (λ r. is_refused r.reads) m.rules) → m.err
+    ≡ Some empty_repetition
 
--- no repetition is refused, or there is no rule (what `expand` asks for)
+-- No pattern is refused, or there is no rule. This is what `expand` requires.
 abbrev pub IsChecked : Macro → Type 0
 IsChecked m = (m.err ≢ Some empty_repetition) ⊎ (m.rules ≡ [])
 
@@ -53,7 +56,7 @@ is_derive r = is_this r.style
     is_this Derive = true
     is_this _ = false
 
--- the bits of the rules' styles; without rules those of a function-like call
+-- The styles of the rules as bits. Without rules they are those of a function-like call.
 abbrev pub style_bits : List Rule → ℕ
 style_bits [] = 1
 style_bits (r ∷ rs) =
@@ -62,19 +65,23 @@ style_bits (r ∷ rs) =
 
 -- ---- expansion
 
--- a place among the rules, where it fits 32 bits
+-- the index of a rule, if it fits 32 bits
 abbrev pub arm_of : ℕ → Option ℕ
 arm_of n = if nat_lt n (2 ^ 32) then Some n else None
 
--- the invisible group around nothing
+-- an empty invisible group
 abbrev pub empty_tree : Span → Forest
 empty_tree span = group (record { opening = span; close = span; kind = Invisible }) none none
 
--- An answer without an error is the expansion by the first rule that applies, and where some rule applies there is
--- no error. With an error the rule is the closest one, and without a rule of the style there is none.
-pub record Expands (g : Grammar) (Marks : Span → Span → Type 0) (rules : List Rule) (style : MacroCallStyle)
-    (argument : Forest) (call_site : Span) (out : Forest) (index : Option ℕ) (err : Option ExpandError) : Type 0 where
-  pub sound : IsNone err → (n : ℕ) × IsExpansion g style argument Marks call_site rules n out × (index ≡ arm_of n)
+-- A result without an error is the expansion by the first rule that applies. If some rule applies
+-- there is no error. With an error the result names the closest rule. Without a rule of the style
+-- it names none.
+pub record Expands (g : Grammar) (Marks : Span → Span
+    → Type 0) (rules : List Rule) (style : MacroCallStyle)
+    (argument : Forest) (call_site : Span) (out : Forest) (index : Option ℕ)
+    (err : Option ExpandError) : Type 0 where
+  pub sound : IsNone err → (n : ℕ) × IsExpansion g style argument Marks call_site rules n out
+      × (index ≡ arm_of n)
   pub complete : (r : Rule) → Contains rules r → Applies g style argument r → IsNone err
   pub recovers : (e : ExpandError) → err ≡ Some e → HasStyle rules style →
       (n : ℕ) × IsClosest g style argument rules n × (index ≡ arm_of n)

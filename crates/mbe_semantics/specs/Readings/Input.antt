@@ -1,26 +1,27 @@
--- What is at the places of an argument. It is all that readings and beginnings see of trees and grammar.
+-- What is at each offset of an argument. Readings and partial readings depend on the argument and
+-- the grammar only through this.
 use Rattle.std.specs.Prelude.{ℕ, Bool, true, false, ◌&&◌, nat_lt, Option, Some, None}
-use Rattle.mbe_semantics.specs.declared.kinds.MetaVarKind.{MetaVarKind}
+use Rattle.mbe_semantics.specs.declared.fragment_kinds.MetaVarKind.{MetaVarKind}
 use Rattle.mbe_tt.specs.declared.tt.DelimiterKind.{DelimiterKind}
 use Rattle.mbe_tt.specs.Trees.Tree.{Forest, none, group, flat_len, Cut, rest_at, is_same_kind}
-use Rattle.mbe_tt.specs.Fragments.Grammar.{Grammar}
+use Rattle.mbe_tt.specs.Grammars.Grammar.{Grammar}
 use Rattle.mbe_semantics.specs.Syntax.Op.{Token, Separator}
-use Rattle.mbe_semantics.specs.Fragments.Takes.{takes}
+use Rattle.mbe_semantics.specs.Fragments.FragmentFront.{fragment_front}
 use Rattle.mbe_semantics.specs.Readings.Fit.{token_front, separator_front}
 use Rattle.mbe_semantics.specs.Fragments.Kinds.{style_of}
 use Rattle.mbe_semantics.specs.Readings.Item.{Fragment}
 
--- what is at each place
+-- what is at each offset
 pub record Input : Type 0 where
-  -- a token of the pattern fits at the place, over so many flat tokens
+  -- how many flat tokens match a token of the pattern at the offset
   pub token_at : Token → ℕ → Option ℕ
-  -- a variable of the kind takes this fragment at the place
+  -- the fragment that a variable of the kind matches at the offset
   pub fragment_at : Option MetaVarKind → ℕ → Option Fragment
-  -- a separator fits at the place, over so many flat tokens
+  -- how many flat tokens match a separator at the offset
   pub separator_at : Separator → ℕ → Option ℕ
-  -- a group of the kind opens at the place
+  -- whether a group of the kind opens at the offset
   pub opens_at : DelimiterKind → ℕ → Bool
-  -- a group closes at the place
+  -- whether a group closes at the offset
   pub closes_at : ℕ → Bool
 
 -- how many flat tokens the front has
@@ -43,11 +44,12 @@ abbrev pub is_none : Forest → Bool
 is_none none = true
 is_none _ = false
 
--- A group closes where nothing is left in it. Outside all groups nothing is left at the argument's end alone.
+-- A group closes at an offset where no tree of it is left. Outside all groups, no tree is left only
+-- at the end of the argument.
 abbrev pub input_of : Grammar → Forest → Input
 input_of g argument = record {
   token_at = λ t p. length_of (token_front t (rest_at argument p));
-  fragment_at = λ kind p. fragment_of kind (takes g kind (rest_at argument p));
+  fragment_at = λ kind p. fragment_of kind (fragment_front g kind (rest_at argument p));
   separator_at = λ s p. length_of (separator_front s (rest_at argument p));
   opens_at = λ kind p. is_opening kind (rest_at argument p);
   closes_at = λ p. nat_lt p (flat_len argument) && is_none (rest_at argument p);

@@ -1,34 +1,34 @@
--- What a reading holds: an item for each op of the pattern.
+-- The parts of a reading: an item for each op of the pattern.
 use Rattle.std.specs.Prelude.{ℕ, suc, ◌+◌, List}
 use Rattle.mbe_tt.specs.Trees.Tree.{Forest, flat_len}
 use Rattle.mbe_semantics.specs.Fragments.Kinds.{Style}
 use Rattle.mbe_semantics.specs.Syntax.Op.{Name}
 
--- what a variable took from the argument
+-- the token run that a variable matched
 pub record Fragment : Type 0 where
   pub trees : Forest
   pub style : Style
 
--- What an op read. Lists grow at their end, as the reading does.
+-- Lists of items and rounds grow at their end, in the order of reading.
 mutual
-  -- what one op read
+  -- what an op of the pattern read
   pub data Item : Type 0 where
-    -- a token of the pattern, over so many flat tokens
+    -- a token of the pattern, and how many flat tokens it matched
     matched : ℕ → Item
-    -- the variable of this name
+    -- a variable with this name, and its fragment
     bound : Name → Fragment → Item
     grouped : Items → Item
-    -- a repetition without a round, and the names of the variables in it
+    -- a repetition without rounds, and the names of the variables in it
     skipped : List Name → Item
-    -- a repetition with rounds: all but the last, and the last
+    -- a repetition with rounds: all rounds but the last, and the last round
     rounds : Rounds → Items → Item
 
-  -- what ops read, one after the other
+  -- the items of consecutive ops
   pub data Items : Type 0 where
     no_items : Items
     item : Items → Item → Items
 
-  -- complete rounds, each with the width of the separator after it, which is 0 where there is no separator
+  -- Complete rounds. Each has the width of the separator after it, which is 0 without a separator.
   pub data Rounds : Type 0 where
     no_rounds : Rounds
     round : Rounds → Items → ℕ → Rounds

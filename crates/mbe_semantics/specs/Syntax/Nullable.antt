@@ -1,25 +1,27 @@
--- Which ops can read nothing, and which patterns are refused for it. rust-analyzer lets some of these pass, and then
--- never ends; that all are refused is the project's own choice.
+-- Which ops can read nothing, and which patterns are refused because of it. rust-analyzer accepts
+-- some of these patterns, and then never ends. It is the project's own choice to refuse all of
+-- them.
 use Rattle.std.specs.Prelude.{Bool, true, false, ◌&&◌, ◌||◌, ◌≡◌, Option, Some, None}
-use Rattle.mbe_semantics.specs.declared.kinds.MetaVarKind.{MetaVarKind}
-use Rattle.mbe_semantics.specs.declared.kinds.Taker.{Taker}
-use Rattle.mbe_semantics.specs.declared.kinds.Taker.TheVariants.{Grammar}
+use Rattle.mbe_semantics.specs.declared.fragment_kinds.MetaVarKind.{MetaVarKind}
+use Rattle.mbe_semantics.specs.declared.fragment_kinds.FragmentParser.{FragmentParser}
+use Rattle.mbe_semantics.specs.declared.fragment_kinds.FragmentParser.TheVariants.{Grammar}
 use Rattle.mbe_tt.specs.declared.grammar.PrefixEntryPoint.TheVariants.{Vis}
 use Rattle.mbe_semantics.specs.Fragments.Kinds.{facts}
-use Rattle.mbe_semantics.specs.declared.kinds.RepeatKind.{RepeatKind}
-use Rattle.mbe_semantics.specs.declared.kinds.RepeatKind.TheVariants.{OneOrMore}
-use Rattle.mbe_semantics.specs.Syntax.Op.{Separator, Op, Ops, group, variable, repetition, no_ops, op}
+use Rattle.mbe_semantics.specs.declared.fragment_kinds.RepeatKind.{RepeatKind}
+use Rattle.mbe_semantics.specs.declared.fragment_kinds.RepeatKind.TheVariants.{OneOrMore}
+use Rattle.mbe_semantics.specs.Syntax.Op.{Separator, Op, Ops, group, variable, repetition, no_ops}
+use Rattle.mbe_semantics.specs.Syntax.Op.{op}
 
--- a `vis` is the only fragment that may be nothing
-abbrev pub may_find_nothing : Taker → Bool
+-- only a `vis` fragment may be empty
+abbrev pub may_find_nothing : FragmentParser → Bool
 may_find_nothing (Grammar Vis) = true
 may_find_nothing _ = false
 
 abbrev pub is_vis : Option MetaVarKind → Bool
 is_vis None = false
-is_vis (Some kind) = may_find_nothing (facts kind).taker
+is_vis (Some kind) = may_find_nothing (facts kind).fragment_parser
 
--- without rounds, or with rounds that read nothing
+-- a repetition can read nothing: it has no rounds, or its rounds read nothing
 abbrev pub may_skip : RepeatKind → Bool → Bool
 may_skip OneOrMore body = body
 may_skip _ body = true
@@ -34,7 +36,7 @@ abbrev mutual
   is_nullable no_ops = true
   is_nullable (op o os) = is_nullable_op o && is_nullable os
 
--- nothing is between its rounds
+-- the repetition has no separator
 abbrev pub is_unseparated : Option Separator → Bool
 is_unseparated None = true
 is_unseparated (Some s) = false
@@ -43,7 +45,8 @@ is_unseparated (Some s) = false
 abbrev mutual
   pub is_refused_op : Op → Bool
   is_refused_op (group d body) = is_refused body
-  is_refused_op (repetition body separator repeat) = (is_unseparated separator && is_nullable body) || is_refused body
+  is_refused_op (repetition body separator repeat) =
+      (is_unseparated separator && is_nullable body) || is_refused body
   is_refused_op _ = false
 
   pub is_refused : Ops → Bool

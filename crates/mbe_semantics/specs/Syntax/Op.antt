@@ -1,8 +1,9 @@
--- What a pattern or a template is made of (as in rust-analyzer).
-use Rattle.std.specs.Prelude.{ℕ, Bool, true, false, ◌&&◌, List, [], ◌∷◌, ◌++◌, map, Option, Some, None}
+-- The ops of a pattern or a template (as in rust-analyzer).
+use Rattle.std.specs.Prelude.{ℕ, Bool, true, false, ◌&&◌, List, [], ◌∷◌, ◌++◌, map, Option, Some}
+use Rattle.std.specs.Prelude.{None}
 use Rattle.mbe_tt.specs.declared.span.Span.{Span}
-use Rattle.mbe_semantics.specs.declared.kinds.MetaVarKind.{MetaVarKind}
-use Rattle.mbe_semantics.specs.declared.kinds.RepeatKind.{RepeatKind}
+use Rattle.mbe_semantics.specs.declared.fragment_kinds.MetaVarKind.{MetaVarKind}
+use Rattle.mbe_semantics.specs.declared.fragment_kinds.RepeatKind.{RepeatKind}
 use Rattle.mbe_tt.specs.Trees.Leaf.{Ident, Literal}
 use Rattle.mbe_tt.specs.declared.tt.Punct.{Punct}
 use Rattle.mbe_tt.specs.declared.tt.Delimiter.{Delimiter}
@@ -11,7 +12,7 @@ use Rattle.mbe_tt.specs.declared.tt.Delimiter.{Delimiter}
 abbrev pub Name : Type 0
 Name = List ℕ
 
--- what is between two rounds of a repetition
+-- the separator between two rounds of a repetition
 pub data Separator : Type 0 where
   ident_separator : Ident → Separator
   literal_separator : Literal → Separator
@@ -33,23 +34,23 @@ pub data Expression : Type 0 where
   len : ℕ → Expression
   concat : List Element → Span → Expression
 
--- what is read and written as it is
+-- a token that is matched and emitted as it is
 pub data Token : Type 0 where
   literal : Literal → Token
   ident : Ident → Token
   puncts : List Punct → Token
 
 mutual
-  -- what is at one place of a pattern or a template
+  -- one part of a pattern or a template
   pub data Op : Type 0 where
     token : Token → Op
     group : Delimiter → Ops → Op
-    -- no kind: in a template, or where the specifier is unknown
+    -- A variable. It has no kind in a template, and if the specifier is unknown.
     variable : Name → Option MetaVarKind → Span → Op
     repetition : Ops → Option Separator → RepeatKind → Op
     expression : Expression → Op
 
-  -- ops one after the other
+  -- consecutive ops
   pub data Ops : Type 0 where
     no_ops : Ops
     op : Op → Ops → Ops
@@ -80,7 +81,7 @@ abbrev mutual
 
 -- ---- the names of a template
 
--- A variable, `ignore` and `concat` want a fragment of their name; `count` wants a number.
+-- A variable, `ignore` and `concat` need a fragment with their name. `count` needs a number.
 pub data Use : Type 0 where
   for_fragment : Name → Use
   for_number : Name → Use
@@ -90,10 +91,11 @@ abbrev pub used_name : Use → Name
 used_name (for_fragment name) = name
 used_name (for_number name) = name
 
--- a use in a metavariable expression, and where what the variable took is written, if it is
+-- a use in a metavariable expression, and the span where the variable's fragment is emitted, if it
+-- is
 pub record Mention : Type 0 where
   pub used : Use
-  pub place : Option Span
+  pub offset : Option Span
 
 -- the variables among the elements of `${concat(..)}`
 abbrev pub mentions_of_elements : List Element → List Mention
@@ -101,17 +103,17 @@ mentions_of_elements [] = []
 mentions_of_elements (ident_element i ∷ es) = mentions_of_elements es
 mentions_of_elements (literal_element l ∷ es) = mentions_of_elements es
 mentions_of_elements (variable_element i ∷ es) =
-    record { used = for_fragment i.sym; place = Some i.span } ∷ mentions_of_elements es
+    record { used = for_fragment i.sym; offset = Some i.span } ∷ mentions_of_elements es
 
--- the variables of a metavariable expression; `ignore` and `count` write nothing that theirs took
+-- The variables of a metavariable expression. `ignore` and `count` emit no fragment.
 abbrev pub mentions_of_expression : Expression → List Mention
-mentions_of_expression (ignore name span) = record { used = for_fragment name; place = None } ∷ []
-mentions_of_expression (count name depth) = record { used = for_number name; place = None } ∷ []
+mentions_of_expression (ignore name span) = record { used = for_fragment name; offset = None } ∷ []
+mentions_of_expression (count name depth) = record { used = for_number name; offset = None } ∷ []
 mentions_of_expression (index depth) = []
 mentions_of_expression (len depth) = []
 mentions_of_expression (concat elements span) = mentions_of_elements elements
 
--- their uses alone
+-- the uses without their spans
 abbrev pub uses_of_expression : Expression → List Use
 uses_of_expression e = map (λ m. m.used) (mentions_of_expression e)
 

@@ -4,7 +4,8 @@ use mbe_tt::symbol::Symbol;
 use mbe_tt::tt::TokenTreesView;
 use std::alloc::{AllocError, Allocator};
 
-/// Binds a name in a repetition, once in each round: to this tree, and to nothing in a second round.
+/// Binds a name in a repetition, once in each round: to this tree, and to nothing in a second
+/// round.
 pub fn bind_rounds<'a, A: Allocator + Copy>(
     alloc: A,
     name: &Symbol<A>,

@@ -7,7 +7,8 @@ use mbe_text::lexer::lex;
 use mbe_tt::span::Edition;
 use std::alloc::Global;
 
-/// What is known of a definition before any call: its rules, their styles, and the first fault's text.
+/// What is known of a definition before any call: its rules, their styles, and the first fault's
+/// text.
 pub fn describe(alloc: Global, rules: &str) -> anyhow::Result<(usize, MacroCallStyles, String)>
     requires { length rules.now < 2 ^ 32 }
 {
@@ -54,7 +55,7 @@ pub mod tests {
     use std::alloc::Global;
     use test_rows::{number, rows};
 
-    // Rules, how many are kept, the bits of their styles, and the fault.
+    // Each row: rules, how many are kept, the bits of their styles, and the fault.
     pub const DESCRIBED: &str = rows![
         ("($x:ident) => {$x}; () => {}", 2, 1, ""),
         ("attr() ($i:item) => {$i}", 1, 2, ""),
@@ -63,7 +64,7 @@ pub mod tests {
         ("", 0, 1, ""),
     ];
 
-    /// Whether the rules are described so.
+    /// Whether the rules are described as the row says.
     pub fn is_described(
         alloc: Global,
         rules: &str,

@@ -4,7 +4,7 @@ ghost use Rattle.std.specs.Prelude.{◌<◌, ◌^◌, length};
 use mbe::{DeclarativeMacro, ExpandResult, MacroCallStyle, MatchedArmIndex, ParseError};
 use mbe_grammar::SampleGrammar;
 use mbe_text::lexer::lex;
-use mbe_text::printing::{PrintedSpan, print_tree};
+use mbe_text::tree_dump::{DisplaySpan, print_tree};
 use mbe_tt::span::{Edition, Span, SyntaxContext};
 use mbe_tt::tt::TopSubtree;
 use std::alloc::{AllocError, Allocator, Global};
@@ -21,7 +21,8 @@ pub fn read(alloc: Global, rules: &str) -> anyhow::Result<DeclarativeMacro>
 /// The result of a call: a tree and the index of its rule, beside an error or none.
 pub type Expansion<A> = ExpandResult<(TopSubtree<A>, MatchedArmIndex), A>;
 
-/// Expands a call by the rules that were read. `None` where a pattern was refused: then no call can be expanded.
+/// Expands a call by the rules that were read. `None` where a pattern was refused: then no call can
+/// be expanded.
 pub fn expand_call<A: Allocator + Copy>(
     alloc: A,
     defined: &DeclarativeMacro<A>,
@@ -42,7 +43,7 @@ pub fn error_line(alloc: Global, expansion: &Expansion<Global>) -> Result<String
         return Ok(String::new(alloc));
     };
     let (span, kind) = &*error.inner;
-    let place = PrintedSpan(*span);
+    let place = DisplaySpan(*span);
     format!(in alloc; "{kind} at {place}")
 }
 
@@ -54,7 +55,8 @@ pub fn tree_or_error(alloc: Global, expansion: Expansion<Global>) -> anyhow::Res
     Ok(String::from_utf8(out)?)
 }
 
-/// Expands a call of any style, and gives each token that the template writes the hygiene context of this expansion.
+/// Expands a call of any style, and gives each token that the template writes the hygiene context
+/// of this expansion.
 pub fn expand_marked(
     alloc: Global,
     defined: &DeclarativeMacro,
@@ -83,7 +85,8 @@ pub mod tests {
     use std::alloc::Global;
     use test_rows::rows;
 
-    // Rules, an argument, the index of the rule, the line of the error, and the printed tree without one.
+    // Each row: rules, an argument, the index of the rule, the line of the error, and the printed
+    // tree if there is no error.
     pub const CALLS: &str = rows![
         (
             "($x:ident) => {let $x}; ($x:ident $y:ident) => {$y}",
@@ -108,7 +111,7 @@ pub mod tests {
         ),
     ];
 
-    /// The expansion of a call by these rules, where it can be expanded.
+    /// Expands a call by these rules. `None` if it can't be expanded.
     pub fn expansion_of(alloc: Global, rules: &str, argument: &str) -> Option<Expansion<Global>> {
         if rules.len() > 1_000_000 || argument.len() > 1_000_000 {
             return None;
@@ -118,7 +121,7 @@ pub mod tests {
         expand_call(alloc, &defined, &argument).ok()?
     }
 
-    // Whether that tree is printed; an error is in its place where it is empty.
+    // Whether the tree prints as `tree`. An empty text means an error in its place.
     fn is_tree(alloc: Global, expansion: Expansion<Global>, tree: &str) -> bool {
         match tree_or_error(alloc, expansion) {
             Ok(printed) => printed.as_str() == tree,
@@ -126,7 +129,7 @@ pub mod tests {
         }
     }
 
-    /// Whether the call makes that.
+    /// Whether the call expands as the row says.
     pub fn is_expanded(
         alloc: Global,
         (rules, argument): (&str, &str),
@@ -134,10 +137,10 @@ pub mod tests {
         (line, tree): (&str, &str),
     ) -> Option<bool> {
         let expansion = expansion_of(alloc, rules, argument)?;
-        let is_so = expansion.value.1 == rule.parse::<u32>().ok()
+        let passes = expansion.value.1 == rule.parse::<u32>().ok()
             && error_line(alloc, &expansion).ok()?.as_str() == line
             && line.is_empty() != tree.is_empty();
-        Some(is_so && is_tree(alloc, expansion, tree))
+        Some(passes && is_tree(alloc, expansion, tree))
     }
 
     pub fn expands_nothing(alloc: Global) -> Option<bool> {
@@ -146,7 +149,7 @@ pub mod tests {
         Some(matches!(expand_call(alloc, &defined, &argument), Ok(None)))
     }
 
-    // The spans of the first two trees.
+    // Returns the spans of the first two trees.
     fn first_spans(tree: &TopSubtree) -> Option<(Span, Span)> {
         let mut trees = tree.iter();
         let first = trees.next_span()?;
@@ -154,7 +157,8 @@ pub mod tests {
         Some((first, trees.next_span()?))
     }
 
-    // The word of the template has the context of the expansion, and the one of the argument keeps its own.
+    // The word of the template has the context of the expansion, and the one of the argument keeps
+    // its own.
     pub fn is_marked(alloc: Global) -> Option<bool> {
         let defined = read(alloc, "($x:ident) => {let $x}").ok()?;
         let argument = lex(alloc, "a", 1).ok()?;

@@ -1,10 +1,10 @@
-// Requests for memory that are refused.
+// Allocation failures.
 use crate::calling::expansions::expand_call;
 use mbe::DeclarativeMacro;
 use mbe_text::lexer::{LexError, lex};
 use mbe_tt::span::Edition;
 use std::alloc::{AllocError, Allocator, Global};
-use test_rows::refusing::Refusing;
+use test_rows::failing_allocator::FailingAllocator;
 
 /// Reads a definition and expands a call, all in memory of this allocator.
 pub fn whole_run<A: Allocator + Copy>(alloc: A) -> Result<(), LexError> {
@@ -18,10 +18,12 @@ pub fn whole_run<A: Allocator + Copy>(alloc: A) -> Result<(), LexError> {
 /// How many requests for memory a run makes: each is refused in turn, until a run meets no refusal.
 pub fn count_requests(alloc: Global) -> Result<u64, AllocError> {
     for number in 1..1_000u64 {
-        let refusing = Refusing::new(alloc, number);
+        let refusing = FailingAllocator::new(alloc, number);
         match whole_run(&refusing) {
             Err(LexError::OutOfMemory) => {}
-            Ok(()) | Err(LexError::Fault(_)) if !refusing.has_refused() => return Ok(number - 1),
+            Ok(()) | Err(LexError::Fault(_)) if !refusing.has_failed_once() => return Ok(
+                number - 1,
+            ),
             Ok(()) | Err(LexError::Fault(_)) => return Err(AllocError),
         }
     }

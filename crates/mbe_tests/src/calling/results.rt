@@ -48,14 +48,15 @@ pub mod tests {
     use mbe_tt::tt::TtIter;
     use std::alloc::Global;
 
-    // Whether there are three trees beside the error at byte 2, and the number that is paired with them.
+    // Whether there are three trees beside the error at byte 2, and the number that is paired with
+    // them.
     pub fn is_call_changed(alloc: Global) -> Option<bool> {
         let expansion = expansion_of(alloc, "(a b) => {x y z}", "a c")?;
         let counts = paired(summary(expansion), 7);
         Some(counts.value == (3, 7) && counts.err?.start == 2)
     }
 
-    // Whether that error has its text, and is of no other kind.
+    // Whether the error has its text, and is of no other kind.
     fn is_too_deep(alloc: Global, span: Span) -> Option<bool> {
         let error = too_deep(alloc, span).ok()?;
         let text = format!(in alloc; "{error}").ok()?;
@@ -73,7 +74,7 @@ pub mod tests {
         )
     }
 
-    // How many trees the type has that comes first; none if there is no type.
+    // Returns how many trees the type has that comes first. `None` if there is no type.
     fn type_len(alloc: Global, iter: &mut TtIter<'_>) -> Option<usize> {
         let found = leading_type(alloc, iter, DelimSpan::default()).ok()?;
         found.err.is_none().then_some(found.value.len())

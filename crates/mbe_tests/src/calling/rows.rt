@@ -1,20 +1,20 @@
-// What is tested of the rows of each table, and all tables. What the fields are is said at the tables.
+// All tables of the examples. The fields of rows are described at the tables.
 use crate::calling::definitions::tests::{DESCRIBED, is_described, is_read};
 use crate::calling::expansions::tests::{self, expands_nothing, is_expanded, is_marked};
-use crate::calling::explaining::tests::are_explained;
 use crate::calling::grammars::tests::are_handed_in;
+use crate::calling::group_views::tests::is_group_expanded;
 use crate::calling::logs::many::is_last_of_many;
 use crate::calling::logs::values::{are_bindings, are_fragments};
 use crate::calling::memory::count_requests;
 use crate::calling::results::tests::{are_made, is_call_changed, is_type_found};
-use crate::calling::small::tests::{are_read, is_bound_in_one};
-use crate::calling::tables::sum_of;
-use crate::calling::tables::tests::SUMS;
+use crate::calling::rule_table::sum_of;
+use crate::calling::rule_table::tests::SUMS;
+use crate::calling::rule_verdicts::tests::are_explained;
+use crate::calling::small_values::tests::{are_read, is_bound_in_one};
 use crate::calling::theorem::tests::{CALLS, becomes};
-use crate::calling::viewing::tests::is_group_expanded;
-use crate::calling::{bindings, texts, walks, writing};
+use crate::calling::{bindings, text_trees, tree_builder, walks};
 use std::alloc::{AllocError, Global};
-use test_rows::{Fields, Rows, Wrong, all, rows};
+use test_rows::{FailedRow, Fields, RowTest, all, rows};
 
 fn is_sum(alloc: Global, text: &str, count: &str) -> Option<bool> {
     if text.len() > 1_000_000 {
@@ -23,7 +23,7 @@ fn is_sum(alloc: Global, text: &str, count: &str) -> Option<bool> {
     Some(sum_of(alloc, text).ok()? == count.parse::<usize>().ok())
 }
 
-// What is tested of rows, and once.
+// What is tested of each row of a table, or once.
 #[derive(Clone, Copy)]
 enum Call {
     Expanded,
@@ -42,13 +42,13 @@ enum Call {
     Group,
 }
 
-impl Rows for Call {
-    fn is_so(
+impl RowTest for Call {
+    fn passes(
         &self,
         alloc: Global,
         [one, two, three, four, five, _]: Fields,
     ) -> Result<bool, AllocError> {
-        let is_so = match self {
+        let passes = match self {
             Call::Expanded => is_expanded(alloc, (one, two), three, (four, five)),
             Call::Described => is_described(alloc, one, (two, three), four),
             Call::Applied => becomes(alloc, one, two),
@@ -58,14 +58,15 @@ impl Rows for Call {
             Call::Marked => is_marked(alloc),
             Call::Explained => are_explained(alloc),
             Call::HandedIn => are_handed_in(alloc),
-            // The two buffers, the rules, the two lists of ops, the symbols of the texts and the expansion's buffer at least.
+            // At least: the two buffers, the rules, the two lists of ops, the symbols of the texts
+            // and the expansion's buffer.
             Call::Memory => Some(count_requests(alloc).unwrap_or(0) > 8),
             Call::Changed => is_call_changed(alloc),
             Call::Made => are_made(alloc),
             Call::Type => is_type_found(alloc),
             Call::Group => is_group_expanded(alloc),
         };
-        Ok(is_so.unwrap_or(false))
+        Ok(passes.unwrap_or(false))
     }
 }
 
@@ -86,7 +87,7 @@ static CALLED: [(Call, &str, usize); 14] = [
     (Call::Group, rows![("a group is an argument")], 1),
 ];
 
-// The same of trees and values.
+// What is tested once, of trees and values.
 #[derive(Clone, Copy)]
 enum Tree {
     Bound,
@@ -107,27 +108,27 @@ enum Tree {
     Million,
 }
 
-impl Rows for Tree {
-    fn is_so(&self, alloc: Global, _fields: Fields) -> Result<bool, AllocError> {
-        let is_so = match self {
+impl RowTest for Tree {
+    fn passes(&self, alloc: Global, _fields: Fields) -> Result<bool, AllocError> {
+        let passes = match self {
             Tree::Bound => bindings::tests::is_bound_each_way(alloc),
             Tree::Read => are_read(alloc),
             Tree::OfItsLog => is_bound_in_one(alloc),
-            Tree::Printed => Some(texts::tests::is_printed(alloc)),
-            Tree::Counted => Some(texts::tests::are_counted(alloc)),
-            Tree::Kept => texts::tests::are_kept(alloc),
+            Tree::Printed => Some(text_trees::tests::is_printed(alloc)),
+            Tree::Counted => Some(text_trees::tests::are_counted(alloc)),
+            Tree::Kept => text_trees::tests::are_kept(alloc),
             Tree::Assigned => walks::tests::is_assignment_read(alloc),
             Tree::Expected => walks::tests::is_each_expected(alloc),
             Tree::Consumed => walks::tests::are_consumed(alloc),
             Tree::Names => walks::tests::are_counted(alloc),
             Tree::LookedInto => walks::tests::is_looked_into(alloc),
-            Tree::Built => writing::tests::are_built(alloc),
-            Tree::Group => writing::tests::is_group_built(alloc),
+            Tree::Built => tree_builder::tests::are_built(alloc),
+            Tree::Group => tree_builder::tests::is_group_built(alloc),
             Tree::Bindings => return are_bindings(alloc),
             Tree::Fragments => return are_fragments(alloc),
             Tree::Million => return is_last_of_many(alloc, 500_000),
         };
-        Ok(is_so.unwrap_or(false))
+        Ok(passes.unwrap_or(false))
     }
 }
 
@@ -167,7 +168,7 @@ static TREES: [(Tree, &str, usize); 16] = [
 ];
 
 #[test]
-fn all_is_as_its_rows_say(rt: HostRuntime) -> Result<(), Wrong> {
+fn all_examples_pass(rt: HostRuntime) -> Result<(), FailedRow> {
     all(rt.alloc(), &CALLED)?;
     all(rt.alloc(), &TREES)
 }

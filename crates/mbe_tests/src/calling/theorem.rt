@@ -3,7 +3,7 @@ ghost use Rattle.std.specs.Prelude.{ℕ, Contains, IfOk, IfSome, IsNone};
 ghost use Rattle.mbe_semantics.specs.Syntax.Definition.{Rule};
 ghost use Rattle.mbe_semantics.specs.Expansion.Expansion.{Applies, IsExpansion};
 ghost use Rattle.mbe_semantics.specs.declared.macro_call_style.MacroCallStyle.TheVariants.{FnLike};
-ghost use Rattle.mbe_semantics.specs.Laws.Marking.{MayMark};
+ghost use Rattle.mbe_semantics.specs.Laws.Callbacks.{MayMark};
 ghost use Rattle.mbe_tt.specs.Trees.Top.{top_group};
 ghost use Rattle.mbe.specs.CheckedViews.{checked_of};
 
@@ -47,10 +47,10 @@ pub mod tests {
     use std::alloc::Global;
     use test_rows::rows;
 
-    // Arguments, and how many flat tokens they become, if a rule applies.
+    // Each row: an argument, and how many flat tokens its expansion has, if a rule applies.
     pub const CALLS: &str = rows![("a", 2), ("a b", 1), ("a 1", "none"), ("a b c", "none")];
 
-    // How many flat tokens a call by these rules becomes; nothing where no rule applies.
+    // Returns how many flat tokens the expansion of a call has. `None` if no rule applies.
     fn counted(alloc: Global, defined: &CheckedMacro, argument: &str) -> Option<Option<usize>> {
         if argument.len() > 1_000_000 {
             return None;
@@ -63,7 +63,8 @@ pub mod tests {
         }
     }
 
-    /// Whether a call becomes so many flat tokens, or no number where no rule applies.
+    /// Whether the expansion of a call has that many flat tokens. A count that is no number means
+    /// that no rule applies.
     pub fn becomes(alloc: Global, argument: &str, count: &str) -> Option<bool> {
         let rules = "($x:ident) => {let $x}; ($x:ident $y:ident) => {$y}";
         let defined = read(alloc, rules).ok()?.checked().ok()?;

@@ -5,7 +5,8 @@ use mbe_tt::tt::{
 };
 use std::alloc::{AllocError, Allocator, Global};
 
-/// Reads `name = tree;` and leaves the iterator after it. Where something else is there, the iterator stays.
+/// Reads `name = tree;` and leaves the iterator after it. Where something else is there, the
+/// iterator stays.
 pub fn assignment<'a, A: Allocator>(
     iter: &mut TtIter<'a, A>,
 ) -> Option<(&'a Ident<A>, TokenTreesView<'a, A>)> {
@@ -83,7 +84,8 @@ pub fn count_leaves<A: Allocator>(trees: TokenTreesView<'_, A>) -> usize {
     count
 }
 
-/// Consumes the next tree if it is a leaf, and returns it as a view. Before a group it does nothing; at the end, the view
+/// Consumes the next tree if it is a leaf, and returns it as a view. Before a group it does
+/// nothing; at the end, the view
 /// is empty.
 pub fn next_leaf<'a, A: Allocator>(iter: &mut TtIter<'a, A>) -> Option<TokenTreesView<'a, A>> {
     let mut cursor = iter.remaining().cursor();
@@ -115,7 +117,8 @@ pub mod tests {
     use mbe_tt::tt::{DelimiterKind, Leaf, TtIter};
     use std::alloc::Global;
 
-    // One assignment is read, of a name and a group of one tree; at the two trees that are left none is.
+    // One assignment is read, of a name and a group of one tree. At the two trees that are left,
+    // none is.
     pub fn is_assignment_read(alloc: Global) -> Option<bool> {
         let tree = lex(alloc, "a = (1); b 2", 0).ok()?;
         let mut iter = tree.iter();
@@ -140,7 +143,7 @@ pub mod tests {
         )
     }
 
-    // The group comes first, then the literal, and neither call consumes what isn't for it.
+    // The group comes first, then the literal. Neither call consumes what isn't for it.
     fn consumes_the_group(iter: &mut TtIter<'_>) -> Option<bool> {
         let (one, two) = next_spans(iter)?;
         let is_before = (one.start, two.start) == (0, 4) && next_leaf(iter).is_none();
@@ -157,8 +160,8 @@ pub mod tests {
     pub fn are_consumed(alloc: Global) -> Option<bool> {
         let tree = lex(alloc, "(a) 1u8 [", 0).ok()?;
         let mut iter = tree.iter();
-        let is_so = consumes_the_group(&mut iter)? && is_literal_next(iter.fork());
-        Some(is_so && next_leaf(&mut iter)?.len() == 1 && iter.remaining().len() == 1)
+        let passes = consumes_the_group(&mut iter)? && is_literal_next(iter.fork());
+        Some(passes && next_leaf(&mut iter)?.len() == 1 && iter.remaining().len() == 1)
     }
 
     pub fn are_counted(alloc: Global) -> Option<bool> {

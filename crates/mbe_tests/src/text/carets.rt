@@ -1,10 +1,12 @@
-// Where the carets are. The columns are those of a terminal: two for a wide character, none for a mark, four for a tab, as rustc prints it.
-use mbe_explaining::diagnostic::{Diagnostic, Level, Point};
-use mbe_explaining::text::rendered;
+// Carets under a line. Columns are those of a terminal: two for a wide character, none for a
+// combining mark, four for a tab, as rustc prints it.
+use mbe_diagnostics::diagnostic::{Diagnostic, Level, Point};
+use mbe_diagnostics::renderer::rendered;
 use std::alloc::{AllocError, Global};
-use test_rows::{Fields, Rows, rows};
+use test_rows::{Fields, RowTest, rows};
 
-// What the line has before the part, the part, and what is after it; how the line is shown; and what is below it.
+// Each row: what the line has before the part, the part, and what follows it; how the line is
+// shown; and what is below it.
 pub const ROWS: &str = rows![
     ("", "x", "", "x", "^"),
     ("ab ", "=>", " y", "ab => y", "   ^^"),
@@ -46,12 +48,12 @@ fn said<'t>(
     }
 }
 
-// Lines of that number, which is as wide as the space.
+// The number of the line, and spaces of the same width.
 #[derive(Clone, Copy)]
 pub struct Carets(pub usize, pub &'static str);
 
-impl Rows for Carets {
-    fn is_so(
+impl RowTest for Carets {
+    fn passes(
         &self,
         alloc: Global,
         [before, part, after, line, carets, ..]: Fields,
@@ -64,7 +66,7 @@ impl Rows for Carets {
     }
 }
 
-// The lines of a note at the third column of that line.
+// Returns the lines of a note at the third column of that line.
 fn lines(
     alloc: Global,
     number: usize,
@@ -77,7 +79,7 @@ fn lines(
     )
 }
 
-// The first letter of a level, and how it begins its line.
+// Each row: the first letter of a level, and how the level begins its line.
 pub const LEVELS: &str = rows![
     ("e", "\u{1b}[1;31merror"),
     ("w", "\u{1b}[1;33mwarning"),

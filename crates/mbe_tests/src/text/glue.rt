@@ -1,9 +1,10 @@
-// Puncts that are taken together.
-use crate::text::taking::trees;
+// Operators: puncts that are read together.
+use crate::text::prefixes::trees;
 use std::alloc::{AllocError, Global};
 use test_rows::rows;
 
-// Every operator of two and three chars; then texts of which fewer are taken, and none.
+// Every operator of two and three chars; then texts of which fewer puncts, or none, are read
+// together.
 pub const OPERATORS: &str = rows![
     ("...", 3),
     ("..=", 3),
@@ -43,7 +44,7 @@ pub const OPERATORS: &str = rows![
     ("a", ""),
 ];
 
-/// Whether so many puncts of the text are taken together; none where there is no number.
+/// Whether that many puncts of the text are read together. A field that is no number means none.
 pub fn is_operator(alloc: Global, text: &str, taken: &str) -> Result<bool, AllocError> {
     let tree = trees(alloc, text)?;
     let found = match tree.iter().expect_glued_punct() {

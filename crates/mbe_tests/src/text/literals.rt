@@ -1,12 +1,12 @@
-// Literals as they are written: that a `Display` doesn't fail is in no clause.
+// Literals as they are written. No clause says that their `Display` doesn't fail.
 use mbe_tt::span::Span;
 use mbe_tt::symbol::Symbol;
 use mbe_tt::tt::{LitKind, Literal};
 use std::alloc::{AllocError, Global};
 use test_rows::rows;
 
-// A literal's kind, by its letter and the number of its `#`, its suffix's length and its text; what comes before the suffix, the suffix,
-// and what is written.
+// Each row: a literal's kind, by its letter and the number of its `#`; the length of its suffix and
+// its text; what comes before the suffix, the suffix, and how the literal is written.
 pub const LITERALS: &str = rows![
     ("i", 3, "12u16", "12", "u16", "12u16"),
     ("f", 0, "1.5", "1.5", "", "1.5"),
@@ -27,13 +27,13 @@ pub const LITERALS: &str = rows![
     ("i", 3, "12", "12", "", "12"),
 ];
 
-// The number of a row, 255 where it has none.
+// Returns the number of a row; 255 if there is none.
 fn small(row: &str) -> u8 {
     row.parse::<u8>().unwrap_or(u8::MAX)
 }
 
-// A string's kind of Rust, of bytes (`t`, raw `w`) or of C (`z`, raw `y`); or an integer's (`i`), a float's, a char's, a byte's, or of
-// what is wrong (`e`).
+// Returns the kind of a literal by its letter: a string of Rust, of bytes (`t`, raw `w`) or of C
+// (`z`, raw `y`); an integer (`i`), a float, a char, a byte; or a literal with a fault (`e`).
 fn kind_of(row: &str) -> LitKind {
     let (letter, hashes) = row.split_at_checked(1).unwrap_or((row, ""));
     match letter {
@@ -64,6 +64,6 @@ pub fn is_written(
         kind: kind_of(kind),
         span: Span::default(),
     };
-    let is_cut = literal.text() == text && literal.text_and_suffix().1 == suffix;
-    Ok(is_cut && format!(in alloc; "{literal}")?.as_str() == written)
+    let is_char_boundary = literal.text() == text && literal.text_and_suffix().1 == suffix;
+    Ok(is_char_boundary && format!(in alloc; "{literal}")?.as_str() == written)
 }

@@ -1,12 +1,11 @@
 // Which files hold a module. `tools/module-files.py` asks rustc of the same rows.
-use mbe_cfg::files::choice::{Choice, chosen};
+use mbe_cfg::files::module_dir::{Candidates, ModuleDir};
 use mbe_cfg::files::paths::join;
-use mbe_cfg::files::places::{Candidates, Place};
 use std::alloc::{AllocError, Global};
-use test_rows::{Fields, Rows, rows};
+use test_rows::{Fields, RowTest, rows};
 
-// A folder, a file's own name or nothing, the inline modules around, each `name` or `name=path`, and the module, in the
-// same way; then the candidates.
+// Each row: a folder, the file's own name or nothing, the inline modules around, each `name` or
+// `name=path`, and the module in the same form; then the candidates.
 pub const ROWS: &str = rows![
     ("src", "", "", "a", "src/a.rs src/a/mod.rs"),
     ("", "", "", "a", "a.rs a/mod.rs"),
@@ -32,7 +31,7 @@ pub const ROWS: &str = rows![
     ("src", "", "x=thread y", "a=tls.rs", "src/thread/y/tls.rs"),
 ];
 
-// The same in files that modules of files are in, each after a `>`.
+// The same, in files that hold modules of other files, each after a `>`.
 pub const IN_FILES: &str = rows![
     ("src", "", ">a", "b", "src/a/b.rs src/a/b/mod.rs"),
     ("src", "", ">a >b", "c", "src/a/b/c.rs src/a/b/c/mod.rs"),
@@ -40,7 +39,7 @@ pub const IN_FILES: &str = rows![
     ("src", "", ">a b", "c=d.rs", "src/a/b/d.rs"),
 ];
 
-// A name, and the path that may follow it.
+// Splits a name from the path that may follow it.
 fn parts(text: &str) -> (&str, Option<&str>) {
     match text.split_once('=') {
         Some((name, path)) => (name, Some(path)),
@@ -48,24 +47,24 @@ fn parts(text: &str) -> (&str, Option<&str>) {
     }
 }
 
-// A file's own name, or nothing.
+// Returns a file's own name, if there is one.
 fn own_of(own: &str) -> Option<&str> {
     if own.is_empty() { None } else { Some(own) }
 }
 
-fn place_of(alloc: Global, folder: &str, own: &str) -> Result<Place, AllocError> {
+fn place_of(alloc: Global, folder: &str, own: &str) -> Result<ModuleDir, AllocError> {
     let own = match own_of(own) {
         None => None,
         Some(own) => Some(String::from_str(alloc, own)?),
     };
-    Ok(Place {
-        home: String::new(alloc),
+    Ok(ModuleDir {
+        file_folder: String::new(alloc),
         folder: String::from_str(alloc, folder)?,
         own,
     })
 }
 
-fn inside(alloc: Global, place: &Place, inline: &str) -> Result<Place, AllocError> {
+fn inside(alloc: Global, place: &ModuleDir, inline: &str) -> Result<ModuleDir, AllocError> {
     if let Some(file) = inline.strip_prefix('>') {
         return place.of_file(alloc, file);
     }
@@ -74,7 +73,12 @@ fn inside(alloc: Global, place: &Place, inline: &str) -> Result<Place, AllocErro
 }
 
 // Whether these are the candidates of a module.
-fn is_shown(alloc: Global, place: &Place, module: &str, want: &str) -> Result<bool, AllocError> {
+fn is_shown(
+    alloc: Global,
+    place: &ModuleDir,
+    module: &str,
+    want: &str,
+) -> Result<bool, AllocError> {
     let (name, path) = parts(module);
     match place.candidates(alloc, name, path)? {
         Candidates::Included(path) | Candidates::Given(path) => Ok(path.as_str() == want),
@@ -87,8 +91,8 @@ fn is_shown(alloc: Global, place: &Place, module: &str, want: &str) -> Result<bo
 #[derive(Clone, Copy)]
 pub struct Modules;
 
-impl Rows for Modules {
-    fn is_so(
+impl RowTest for Modules {
+    fn passes(
         &self,
         alloc: Global,
         [folder, own, around, module, want, ..]: Fields,
@@ -101,7 +105,8 @@ impl Rows for Modules {
     }
 }
 
-// A file that modules are in, the file's own name or nothing, and the candidates of `mod a;` in it.
+// Each row: a file that has modules, the file's own name or nothing, and the candidates of `mod a;`
+// in it.
 pub const FILES: &str = rows![
     ("src/lib.rs", "", "src/a.rs src/a/mod.rs"),
     ("src/b.rs", "b", "src/b/a.rs src/b/a/mod.rs"),
@@ -114,21 +119,14 @@ pub const FILES: &str = rows![
 #[derive(Clone, Copy)]
 pub struct Files;
 
-impl Rows for Files {
-    fn is_so(&self, alloc: Global, [path, own, want, ..]: Fields) -> Result<bool, AllocError> {
-        let place = Place::in_file(alloc, path, own_of(own))?;
+impl RowTest for Files {
+    fn passes(&self, alloc: Global, [path, own, want, ..]: Fields) -> Result<bool, AllocError> {
+        let place = ModuleDir::in_file(alloc, path, own_of(own))?;
         is_shown(alloc, &place, "a", want)
     }
 }
 
-/// Whether one of two files is taken, and paths are joined.
-pub fn are_chosen(alloc: Global) -> Result<bool, AllocError> {
-    let is_joined = join(alloc, "a/", "b")?.as_str() == "a/b";
-    Ok(
-        is_joined
-            && chosen(true, false) == Choice::Beside
-            && chosen(false, true) == Choice::Nested
-            && chosen(true, true) == Choice::Both
-            && chosen(false, false) == Choice::Missing,
-    )
+/// Whether paths are joined.
+pub fn are_joined(alloc: Global) -> Result<bool, AllocError> {
+    Ok(join(alloc, "a/", "b")?.as_str() == "a/b")
 }

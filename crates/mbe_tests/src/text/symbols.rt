@@ -1,16 +1,16 @@
-// The table of symbols: texts that it has and has not, many of them, and requests for memory that are refused. Texts of at most 14
-// bytes are in the symbols themselves; the others are shared.
-use crate::text::taking::trees;
-use mbe_text::lexer::{LexError, lex_in};
-use mbe_text::symbols::SymbolTable;
+// The table of symbols: texts that it has and hasn't, many of them, and allocation failures. A text
+// of at most 14 bytes is in its symbol; longer texts are shared.
+use crate::text::prefixes::trees;
+use mbe_text::lexer::{LexError, lex_with_table};
+use mbe_text::symbol_table::SymbolTable;
 use mbe_tt::tt::TopSubtree;
 use std::alloc::{AllocError, Allocator, Global};
-use test_rows::refusing::Refusing;
+use test_rows::failing_allocator::FailingAllocator;
 
-// So many texts that the slots are made anew several times.
+// So many texts that the table grows several times.
 const COUNT: usize = 300;
 
-// Whether the table's symbol of a text has that text. Nothing where memory is refused.
+// Whether the table's symbol of a text has that text. `None` after an allocation failure.
 fn found<A: Allocator + Copy>(table: &mut SymbolTable<A>, text: &str) -> Option<bool> {
     match table.intern(text) {
         Ok(symbol) => Some(symbol.as_str() == text),
@@ -22,7 +22,7 @@ fn has<A: Allocator + Copy>(table: &mut SymbolTable<A>, text: &str) -> bool {
     found(table, text).unwrap_or(false)
 }
 
-// Whether the table has for each of so many texts the symbol of that text.
+// Whether the table has, for each of `COUNT` texts, the symbol of that text.
 fn has_all(alloc: Global, table: &mut SymbolTable) -> bool {
     for number in 0..COUNT {
         match format!(in alloc; "name{number} of many letters") {
@@ -45,16 +45,16 @@ pub fn are_apart(alloc: Global) -> bool {
         && has(&mut table, "")
 }
 
-// The trees of a text that isn't long, by the table.
+// Lexes a text that isn't long, with the table.
 fn trees_by(table: &mut SymbolTable, text: &str) -> Result<TopSubtree, LexError> {
     if text.len() < 1_000_000 {
-        lex_in(table, text, 0)
+        lex_with_table(table, text, 0)
     } else {
         Err(LexError::OutOfMemory)
     }
 }
 
-// Whether the text has the same trees by the table.
+// Whether a text has the same trees with the table.
 fn is_same(alloc: Global, table: &mut SymbolTable, text: &str) -> bool {
     match trees(alloc, text) {
         Ok(one) => matches!(trees_by(table, text), Ok(other) if other == one),
@@ -70,7 +70,7 @@ static TEXTS: [&str; 5] = [
     "a b a_name_of_many_letters \"a text of many letters\" 1u8",
 ];
 
-/// Whether texts have the same trees by one table for all of them.
+/// Whether texts have the same trees if one table serves them all.
 pub fn are_same(alloc: Global) -> bool {
     let mut table = SymbolTable::new(alloc);
     for text in &TEXTS {
@@ -81,37 +81,39 @@ pub fn are_same(alloc: Global) -> bool {
     true
 }
 
-// Whether memory is there for the first text. Then the same text takes none, and another one does.
-fn takes_none(alloc: &Refusing<Global>) -> Option<bool> {
+// Whether the first text can be allocated, then the same text needs no memory, and another one
+// does.
+fn takes_none(alloc: &FailingAllocator<Global>) -> Option<bool> {
     let mut table = SymbolTable::new(alloc);
-    let is_so = found(&mut table, "one text of many letters")?;
-    let is_free = is_so && has(&mut table, "one text of many letters") && !alloc.has_refused();
+    let passes = found(&mut table, "one text of many letters")?;
+    let is_free = passes && has(&mut table, "one text of many letters") && !alloc.has_failed_once();
     Some(
         is_free
             && found(&mut table, "another text of many letters").is_none()
-            && alloc.has_refused(),
+            && alloc.has_failed_once(),
     )
 }
 
-/// Whether a text that the table has takes no memory, by the first refused request that lies after those of the first text.
+/// Whether a text that the table has needs no memory. The request that fails is the first after
+/// those of the first text.
 pub fn is_kept(global: Global) -> bool {
     for number in 1..100 {
-        if let Some(is_so) = takes_none(&Refusing::new(global, number)) {
-            return is_so;
+        if let Some(passes) = takes_none(&FailingAllocator::new(global, number)) {
+            return passes;
         }
     }
     false
 }
 
-// Asks for so many texts, each until there is memory, and says whether each symbol has its text.
+// Asks for the texts, each until memory is there, and returns whether each symbol has its text.
 fn are_right<A: Allocator + Copy>(alloc: A, names: &[String]) -> bool {
     let mut table = SymbolTable::new(alloc);
     for name in names {
-        let is_so = match found(&mut table, name.as_str()) {
-            Some(is_so) => is_so,
+        let passes = match found(&mut table, name.as_str()) {
+            Some(passes) => passes,
             None => has(&mut table, name.as_str()),
         };
-        if !is_so {
+        if !passes {
             return false;
         }
     }
@@ -126,22 +128,23 @@ fn names(alloc: Global) -> Result<Vec<String>, AllocError> {
     Ok(names)
 }
 
-// The first request that there isn't, where the table is right whichever of those before it is refused.
+// Returns the number of the first request that isn't made, if the table is right whichever earlier
+// one fails.
 fn requests(global: Global, names: &[String]) -> Option<u64> {
     for number in 1..1_000 {
-        let alloc = Refusing::new(global, number);
+        let alloc = FailingAllocator::new(global, number);
         if !are_right(&alloc, names) {
             return None;
         }
-        if !alloc.has_refused() {
+        if !alloc.has_failed_once() {
             return Some(number);
         }
     }
     None
 }
 
-/// Whether a refusal leaves the table right: each request is refused in turn, those for more slots
-/// among them, and the table is used on. There are two requests for each symbol at least.
+/// Whether a failure leaves the table right. Each request fails in turn, among them those to grow,
+/// and the table is used on. There are at least two requests for each symbol.
 pub fn stays_right(alloc: Global) -> bool {
     match names(alloc) {
         Ok(names) => requests(alloc, names.as_slice()).unwrap_or(0) > 140,
@@ -149,12 +152,12 @@ pub fn stays_right(alloc: Global) -> bool {
     }
 }
 
-/// Whether a short text takes no memory, and a longer one does.
+/// Whether a short text needs no memory, and a longer one does.
 pub fn are_short(global: Global) -> bool {
-    let alloc = Refusing::new(global, 1);
+    let alloc = FailingAllocator::new(global, 1);
     let mut table = SymbolTable::new(&alloc);
     has(&mut table, "")
         && has(&mut table, "fourteen_bytes")
-        && !alloc.has_refused()
+        && !alloc.has_failed_once()
         && found(&mut table, "of_fifteen_byte").is_none()
 }

@@ -1,11 +1,14 @@
-// The tables of texts and grammars. The rows are beside what they are about.
-use crate::text::{deep, glue, literals, printing, reading, rules, sample, symbols, taking};
+// The tables of texts and of grammars. The rows are in the modules of their subjects.
+use crate::text::{
+    deep_trees, glue, grammar_texts, literals, prefixes, sample_keywords, small_table, symbols,
+    tree_lines,
+};
 use mbe_grammar::SampleGrammar;
 use mbe_tt::grammar::FragmentGrammar;
 use mbe_tt::span::Edition;
 use mbe_tt::span::Edition::{Edition2021, Edition2024};
 use std::alloc::{AllocError, Global};
-use test_rows::{Fields, Rows, Wrong, all, rows};
+use test_rows::{FailedRow, Fields, RowTest, all, rows};
 
 #[derive(Clone, Copy)]
 enum Kind {
@@ -28,28 +31,33 @@ enum Kind {
     Literal,
 }
 
-impl Rows for Kind {
-    fn is_so(
+impl RowTest for Kind {
+    fn passes(
         &self,
         alloc: Global,
         [text, want, all, cut, suffix, written]: Fields,
     ) -> Result<bool, AllocError> {
         match self {
-            Kind::Taken(rule, edition) => rules::is_taken(alloc, *rule, *edition, (text, want)),
-            Kind::Nodes => reading::has_nodes(alloc, text, want),
-            Kind::Fault => reading::is_at_fault(alloc, text, want),
-            Kind::Sum => reading::is_sum(alloc, text, want),
+            Kind::Taken(rule, edition) => small_table::is_taken(
+                alloc,
+                *rule,
+                *edition,
+                (text, want),
+            ),
+            Kind::Nodes => grammar_texts::has_nodes(alloc, text, want),
+            Kind::Fault => grammar_texts::is_at_fault(alloc, text, want),
+            Kind::Sum => grammar_texts::is_sum(alloc, text, want),
             Kind::Keyword(is_one) => Ok(SampleGrammar.is_keyword(text) == *is_one),
-            Kind::Printed => printing::is_printed(alloc, text, want),
-            Kind::Context => taking::is_by_context(alloc),
-            Kind::SumKeywords => reading::has_keywords(alloc),
-            Kind::Indented => printing::is_indented(alloc),
+            Kind::Printed => tree_lines::is_printed(alloc, text, want),
+            Kind::Context => prefixes::is_by_context(alloc),
+            Kind::SumKeywords => grammar_texts::has_keywords(alloc),
+            Kind::Indented => tree_lines::is_indented(alloc),
             Kind::Apart => Ok(symbols::are_apart(alloc)),
             Kind::Same => Ok(symbols::are_same(alloc)),
             Kind::Kept => Ok(symbols::is_kept(alloc)),
             Kind::Right => Ok(symbols::stays_right(alloc)),
             Kind::Short => Ok(symbols::are_short(alloc)),
-            Kind::Nested => deep::is_nested(alloc, text, want),
+            Kind::Nested => deep_trees::is_nested(alloc, text, want),
             Kind::Glued => glue::is_operator(alloc, text, want),
             Kind::Literal => literals::is_written(alloc, (text, want), all, (cut, suffix, written)),
         }
@@ -57,53 +65,73 @@ impl Rows for Kind {
 }
 
 static TABLES: [(Kind, &str, usize); 30] = [
-    (Kind::Taken(rules::SUM, Edition2021), rules::SUMS, 9),
     (
-        Kind::Taken(rules::GEN, Edition2021),
-        rules::GEN_BEFORE_2024,
+        Kind::Taken(small_table::SUM, Edition2021),
+        small_table::SUMS,
+        9,
+    ),
+    (
+        Kind::Taken(small_table::GEN, Edition2021),
+        small_table::GEN_BEFORE_2024,
         1,
     ),
     (
-        Kind::Taken(rules::IN_PARENTHESES, Edition2021),
-        rules::PARENTHESES,
+        Kind::Taken(small_table::IN_PARENTHESES, Edition2021),
+        small_table::PARENTHESES,
         4,
     ),
     (
-        Kind::Taken(rules::LEFT, Edition2021),
-        rules::LEFT_RECURSIVE,
+        Kind::Taken(small_table::LEFT, Edition2021),
+        small_table::LEFT_RECURSIVE,
         1,
     ),
-    (Kind::Taken(rules::ITSELF, Edition2021), rules::A_NAME, 1),
-    (Kind::Taken(rules::NOWHERE, Edition2021), rules::A_NAME, 1),
-    (Kind::Taken(1_000_000, Edition2021), rules::A_NAME, 1),
     (
-        Kind::Taken(rules::NOTHING_AGAIN, Edition2021),
-        rules::NOTHINGS,
-        2,
+        Kind::Taken(small_table::ITSELF, Edition2021),
+        small_table::A_NAME,
+        1,
     ),
-    (Kind::Taken(rules::ARROW, Edition2021), rules::ARROWS, 2),
     (
-        Kind::Taken(rules::NO_NAME_NEXT, Edition2021),
-        rules::NO_NAMES,
-        2,
+        Kind::Taken(small_table::NOWHERE, Edition2021),
+        small_table::A_NAME,
+        1,
     ),
-    (Kind::Taken(rules::POINTED, Edition2021), rules::POINTEDS, 5),
+    (Kind::Taken(1_000_000, Edition2021), small_table::A_NAME, 1),
     (
-        Kind::Taken(rules::GEN, Edition2024),
-        rules::GEN_SINCE_2024,
+        Kind::Taken(small_table::NOTHING_AGAIN, Edition2021),
+        small_table::NOTHINGS,
         2,
     ),
     (
-        Kind::Taken(rules::SUM, Edition2024),
-        rules::SUMS_SINCE_2024,
+        Kind::Taken(small_table::ARROW, Edition2021),
+        small_table::ARROWS,
         2,
     ),
-    (Kind::Nodes, reading::NODES, 13),
-    (Kind::Fault, reading::FAULTS, 25),
-    (Kind::Sum, reading::TAKEN, 8),
-    (Kind::Keyword(true), sample::KEYWORDS, 52),
-    (Kind::Keyword(false), sample::OTHER_WORDS, 17),
-    (Kind::Printed, printing::PRINTED, 6),
+    (
+        Kind::Taken(small_table::NO_NAME_NEXT, Edition2021),
+        small_table::NO_NAMES,
+        2,
+    ),
+    (
+        Kind::Taken(small_table::POINTED, Edition2021),
+        small_table::POINTEDS,
+        5,
+    ),
+    (
+        Kind::Taken(small_table::GEN, Edition2024),
+        small_table::GEN_SINCE_2024,
+        2,
+    ),
+    (
+        Kind::Taken(small_table::SUM, Edition2024),
+        small_table::SUMS_SINCE_2024,
+        2,
+    ),
+    (Kind::Nodes, grammar_texts::NODES, 13),
+    (Kind::Fault, grammar_texts::FAULTS, 25),
+    (Kind::Sum, grammar_texts::TAKEN, 8),
+    (Kind::Keyword(true), sample_keywords::KEYWORDS, 52),
+    (Kind::Keyword(false), sample_keywords::OTHER_WORDS, 17),
+    (Kind::Printed, tree_lines::PRINTED, 6),
     (
         Kind::Context,
         rows![("the edition of a context decides")],
@@ -124,12 +152,12 @@ static TABLES: [(Kind, &str, usize); 30] = [
     ),
     (Kind::Right, rows![("a refusal leaves the table right")], 1),
     (Kind::Short, rows![("a short text takes no memory")], 1),
-    (Kind::Nested, deep::NESTED, 2),
+    (Kind::Nested, deep_trees::NESTED, 2),
     (Kind::Glued, glue::OPERATORS, 36),
     (Kind::Literal, literals::LITERALS, 16),
 ];
 
 #[test]
-fn texts_are_as_their_rows_say(rt: HostRuntime) -> Result<(), Wrong> {
+fn texts_and_grammars_pass(rt: HostRuntime) -> Result<(), FailedRow> {
     all(rt.alloc(), &TABLES)
 }

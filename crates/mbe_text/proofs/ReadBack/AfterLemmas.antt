@@ -1,5 +1,6 @@
 -- What the lexer makes right after a literal or a punct.
-use Rattle.std.proofs.Common.{◌≡◌, ℕ, ◌==◌, ◌⊎◌, inl, inr, not, ◌&&◌, ◌||◌, if◌then◌else◌, nat_lt, Bool, true, false, List, [], ◌∷◌, refl, sym, ap, ◌∙◌, arith, codes, Some, subst}
+use Rattle.std.proofs.Common.{◌≡◌, ℕ, ◌==◌, ◌⊎◌, inl, inr, not, ◌&&◌, ◌||◌, if◌then◌else◌, nat_lt, Bool, true, false}
+use Rattle.std.proofs.Common.{List, [], ◌∷◌, refl, sym, ap, ◌∙◌, arith, codes, Some, subst}
 use Rattle.std.proofs.Math.Utf8.{scalars}
 use Rattle.std.proofs.lemmas.Bool.Decides.{nat_tests}
 use Rattle.mbe_tt.specs.Trees.Editions.{at_least_2024}
@@ -11,19 +12,22 @@ use Rattle.mbe_tt.specs.declared.span.Span.{Span}
 use Rattle.mbe_tt.specs.declared.tt.Punct.{Punct}
 use Rattle.mbe_tt.specs.declared.tt.Spacing.{Spacing}
 use Rattle.mbe_tt.specs.declared.tt.Spacing.TheVariants.{Alone, Joint}
-use Rattle.mbe_text.specs.RustText.Gaps.{are_beside, is_before, is_same_place}
-use Rattle.mbe_text.specs.Blanks.{begins_comment}
+use Rattle.mbe_text.specs.RustText.Gaps.{are_adjacent, is_adjacent_to_next, has_same_span}
+use Rattle.mbe_text.specs.Whitespace.{begins_comment}
 use Rattle.mbe_text.specs.Characters.{begins_with, offset}
-use Rattle.mbe_text.specs.Rust.{is_guard}
-use Rattle.mbe_text.specs.Signs.{spacing_before}
+use Rattle.mbe_text.specs.RustTokens.{is_guard}
+use Rattle.mbe_text.specs.Punctuation.{spacing_before}
 use Rattle.mbe_text.specs.Tokens.{bytes_of}
 use Rattle.mbe_text.specs.Laws.Gaps.{is_punct}
-use Rattle.mbe_text.specs.Laws.Rust.{is_start, begins_word, begins_field, next_place, goes_on, make_another, are_together, IsBeforeDot, IsJoined, HasSpacing, IsSign, IsPunct, MayHaveFields, MayPrecedeDots}
+use Rattle.mbe_text.specs.Laws.RustTrees.{is_start, begins_word, begins_field, next_place, may_follow_dot, make_another}
+use Rattle.mbe_text.specs.Laws.RustTrees.{are_together, IsBeforeDot, IsJoined, HasSpacing, IsSign, IsPunct}
+use Rattle.mbe_text.specs.Laws.RustTrees.{MayHaveFields, MayPrecedeDots}
 use Rattle.mbe_text.proofs.ReadBack.BlankTailLemmas.{both_false}
 use Rattle.mbe_text.proofs.ReadBack.EndLemmas.{punct_not_start}
 use Rattle.mbe_text.proofs.ReadBack.QuoteLemmas.{same_char}
 use Rattle.mbe_text.proofs.ReadBack.ShapeLemmas.{and_left, and_right, LexedPunct}
-use Rattle.mbe_text.proofs.ReadBack.TokenLemmas.{Tokens, Fits, fits_tail, offset_less, PunctFirst, punct_next, word_next, dot_next}
+use Rattle.mbe_text.proofs.ReadBack.TokenLemmas.{Tokens, Fits, fits_tail, offset_less, PunctFirst, punct_next}
+use Rattle.mbe_text.proofs.ReadBack.TokenLemmas.{word_next, dot_next}
 
 -- ---- what follows a literal
 
@@ -39,26 +43,27 @@ word_alone c cs s =
 -- a `.` and what follows it, where that is a field's or a range's
 field_goes : (e : Edition) (file total : ℕ) (left : List ℕ) (ts : List FlatToken) → Tokens e file total left ts
     → scalars left ≡ true → (b : Bool) → begins_with (codes ".") left ≡ b
-    → (begins_with (codes ".") left || begins_word left) ≡ true → goes_on (spacing_before left) ts ≡ true
+    → (begins_with (codes ".") left || begins_word left) ≡ true → may_follow_dot (spacing_before left) ts ≡ true
 field_goes e file total [] ts tokens u b i h = absurd (cc)
 field_goes e file total (c ∷ cs) ts tokens u true i h =
     let is46 = same_char c 46 (and_left (c == 46) true i) in
     let same : c ∷ cs ≡ 46 ∷ cs = ap (λ (x : ℕ). x ∷ cs) is46 in
     let p = punct_next e file total (c ∷ cs) ts tokens u 46 cs same refl refl in
-    ap (λ (x : List ℕ). goes_on (spacing_before x) ts) same ∙ ap (goes_on Joint) p.is
+    ap (λ (x : List ℕ). may_follow_dot (spacing_before x) ts) same ∙ ap (may_follow_dot Joint) p.is
 field_goes e file total (c ∷ cs) ts tokens u false i h =
     let s : is_start c ≡ true = ap (λ (b : Bool). b || is_start c) (sym i) ∙ h in
-    ap (λ (x : Spacing). goes_on x ts) (word_alone c cs s) ∙ word_next e file total (c ∷ cs) ts tokens u c cs refl s
+    ap (λ (x : Spacing). may_follow_dot x ts) (word_alone c cs s)
+    ∙ word_next e file total (c ∷ cs) ts tokens u c cs refl s
 
 dots_go : (e : Edition) (file total : ℕ) (l : Literal) (left : List ℕ) (p : Punct) (us : List FlatToken)
     → Tokens e file total left us → scalars left ≡ true → p.spacing ≡ spacing_before left
     → MayPrecedeDots e l ⊎ (MayHaveFields e l × (begins_field (46 ∷ left) ≡ true))
-    → MayPrecedeDots e l ⊎ (MayHaveFields e l × (goes_on p.spacing us ≡ true))
+    → MayPrecedeDots e l ⊎ (MayHaveFields e l × (may_follow_dot p.spacing us ≡ true))
 dots_go e file total l left p us tokens u s (inl d) = inl d
 dots_go e file total l left p us tokens u s (inr f) =
     inr (
       f.0,
-      ap (λ (x : Spacing). goes_on x us) s
+      ap (λ (x : Spacing). may_follow_dot x us) s
           ∙ field_goes e file total left us tokens u (begins_with (codes ".") left) refl f.1,
     )
 
@@ -67,11 +72,11 @@ dot_after : (e : Edition) (file total : ℕ) (l : Literal) (rest : List ℕ) (p 
     → Tokens e file total rest (token (punct p) ∷ us) → Fits total rest → l.span.end ≡ offset total rest
     → (begins_with (codes ".") rest ≡ true
     → MayPrecedeDots e l ⊎ (MayHaveFields e l × (begins_field rest ≡ true)))
-    → (p.char == 46 && (are_beside l.span p.span && is_before p.span (next_place us))) ≡ true
-    → MayPrecedeDots e l ⊎ (MayHaveFields e l × (goes_on p.spacing us ≡ true))
+    → (p.char == 46 && (are_adjacent l.span p.span && is_adjacent_to_next p.span (next_place us))) ≡ true
+    → MayPrecedeDots e l ⊎ (MayHaveFields e l × (may_follow_dot p.spacing us ≡ true))
 dot_after e file total l rest p us tokens f end dots h =
     let char = same_char p.char 46 (and_left (p.char == 46) _ h) in
-    let beside = and_left (are_beside l.span p.span) _ (and_right (p.char == 46) _ h) in
+    let beside = and_left (are_adjacent l.span p.span) _ (and_right (p.char == 46) _ h) in
     let meets = same_char l.span.end p.span.start (and_left (l.span.end == p.span.start) _
     (and_right (l.span.file == p.span.file) _ beside)) in
     let d = dot_next e file total rest (token (punct p) ∷ us) tokens f p us refl char (sym meets ∙ end) in
@@ -121,7 +126,7 @@ or_true false = refl
 pub self : (n : ℕ) → (n == n) ≡ true
 self n = grind (arith, nat_tests)
 
-beside : (file a b c : ℕ) → nat_lt a b ≡ true → are_beside (bytes_of file a b) (bytes_of file b c) ≡ true
+beside : (file a b c : ℕ) → nat_lt a b ≡ true → are_adjacent (bytes_of file a b) (bytes_of file b c) ≡ true
 beside file a b c h = rw (self file, self b) h
 
 -- a joint punct is right before the next
@@ -137,12 +142,14 @@ joined : (e : Edition) (file total c d : ℕ) (cs : List ℕ) (sp : Spacing) (ts
 joined e file total c d cs sp ts f p n g first =
     let a : ℕ = offset total (c ∷ (d ∷ cs)) in
     let b : ℕ = offset total (d ∷ cs) in
-    let place : Span = bytes_of file a b in
+    let token_span : Span = bytes_of file a b in
     let next : Span = bytes_of file b (offset total cs) in
-    let near : are_beside place next ≡ true = beside file a b (offset total cs) (offset_less total c (d ∷ cs) f) in
-    let together : are_together place next ≡ true =
-    ap (λ (x : Bool). is_same_place (Some place) next || x) near ∙ or_true (is_same_place (Some place) next) in
-    subst (λ (x : List FlatToken). IsJoined e (record { char = c; spacing = sp; span = place }) x) (sym first.is)
+    let near : are_adjacent token_span next ≡ true =
+    beside file a b (offset total cs) (offset_less total c (d ∷ cs) f) in
+    let together : are_together token_span next ≡ true =
+    ap (λ (x : Bool). has_same_span (Some token_span) next || x) near
+    ∙ or_true (has_same_span (Some token_span) next) in
+    subst (λ (x : List FlatToken). IsJoined e (record { char = c; spacing = sp; span = token_span }) x) (sym first.is)
     (p, together, no_other e c d cs n g)
 
 spaced : (e : Edition) (file total c : ℕ) (cs : List ℕ) (sp : Spacing) (ts : List FlatToken)

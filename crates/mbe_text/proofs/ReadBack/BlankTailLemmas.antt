@@ -1,14 +1,16 @@
 -- White space and comments are passed, and nothing else.
-use Rattle.std.proofs.Common.{◌≡◌, ℕ, zero, suc, ◌==◌, ◌≤◌, not, ◌&&◌, ◌||◌, if◌then◌else◌, Bool, true, false, List, [], ◌∷◌, length, drop, refl, sym, ap, ◌∙◌, arith, codes, Option, Some, None, Result, Ok, Err, length-append}
+use Rattle.std.proofs.Common.{◌≡◌, ℕ, zero, suc, ◌==◌, ◌≤◌, not, ◌&&◌, ◌||◌, if◌then◌else◌, Bool, true, false, List, []}
+use Rattle.std.proofs.Common.{◌∷◌, length, drop, refl, sym, ap, ◌∙◌, arith, codes, Option, Some, None, Result, Ok, Err}
+use Rattle.std.proofs.Common.{length-append}
 use Rattle.mbe_tt.specs.declared.span.Edition.{Edition}
 use Rattle.mbe_text.specs.declared.dialect.Dialect.TheVariants.{Rust}
 use Rattle.mbe_text.specs.declared.scanner.LexFault.{LexFault}
-use Rattle.mbe_text.specs.declared.wrong.Wrong.TheVariants as wrong
-use Rattle.mbe_text.specs.Blanks.{begins_comment, past_comments}
+use Rattle.mbe_text.specs.declared.fault_kind.LexFaultKind.TheVariants as fault_kind
+use Rattle.mbe_text.specs.Whitespace.{begins_comment, past_comments}
 use Rattle.mbe_text.specs.Characters.{begins_with, past, is_space}
-use Rattle.mbe_text.specs.Faults.{fault_at}
-use Rattle.mbe_text.specs.Rust.{begins_doc}
-use Rattle.mbe_text.specs.Trivia.{past_blanks, past_mark, past_shebang, after_head}
+use Rattle.mbe_text.specs.LexFaults.{fault_at}
+use Rattle.mbe_text.specs.RustTokens.{begins_doc}
+use Rattle.mbe_text.specs.Trivia.{past_trivia, past_byte_order_mark, past_shebang, after_preamble}
 use Rattle.mbe_text.proofs.TailLemmas.{Tail, here, one, on, past_tail}
 use Rattle.mbe_text.proofs.ReadBack.ShapeLemmas.{if_ok, drop_tail}
 
@@ -66,8 +68,8 @@ not_is true h = absurd (cc)
 not_is false h = refl
 
 blanked_line : (e : Edition) (total n x : ℕ) (xs mid : List ℕ) (c : ℕ) (from : List ℕ) → length (x ∷ xs) ≤ suc n
-    → past_blanks (Rust e) total n mid ≡ Ok (c ∷ from) → Tail (drop 2 (x ∷ xs)) mid
-    → (length mid ≤ n → past_blanks (Rust e) total n mid ≡ Ok (c ∷ from) → Blanked mid c from)
+    → past_trivia (Rust e) total n mid ≡ Ok (c ∷ from) → Tail (drop 2 (x ∷ xs)) mid
+    → (length mid ≤ n → past_trivia (Rust e) total n mid ≡ Ok (c ∷ from) → Blanked mid c from)
     → Blanked (x ∷ xs) c from
 blanked_line e total n x xs mid c from le p t go =
     let less = tail_shorter xs (drop 1 xs) (drop_tail 1 xs) in
@@ -76,7 +78,7 @@ blanked_line e total n x xs mid c from le p t go =
     (go (omega (arith, le, less, line)) p)
 
 pub blanks_cut : (e : Edition) (total n : ℕ) (cs : List ℕ) (c : ℕ) (from : List ℕ) → length cs ≤ n
-    → past_blanks (Rust e) total n cs ≡ Ok (c ∷ from) → Blanked cs c from
+    → past_trivia (Rust e) total n cs ≡ Ok (c ∷ from) → Blanked cs c from
 blanks_cut e total zero [] c from le h = absurd (cc)
 blanks_cut e total zero (x ∷ xs) c from le h = absurd (omega (arith, le))
 blanks_cut e total (suc n) [] c from le h = absurd (cc)
@@ -93,8 +95,8 @@ blanks_cut e total (suc n) (x ∷ xs) c from le h =
     (λ l p. if_ok P (not (begins_with (codes "/*") (x ∷ xs))) _ _ _ p
     (λ s q. blanked_here (x ∷ xs) c from q (λ o. both_false (begins_with (codes "//") (x ∷ xs))
     (begins_with (codes "/*") (x ∷ xs)) l (not_is (begins_with (codes "/*") (x ∷ xs)) s)))
-    (λ s q. let b = block_ends (past_comments 1 (drop 2 (x ∷ xs))) (λ r. past_blanks (Rust e) total n r)
-    (fault_at wrong.OpenComment total (x ∷ xs)) (c ∷ from) q in
+    (λ s q. let b = block_ends (past_comments 1 (drop 2 (x ∷ xs))) (λ r. past_trivia (Rust e) total n r)
+    (fault_at fault_kind.UnterminatedComment total (x ∷ xs)) (c ∷ from) q in
     blanked_line e total n x xs b.0 c from le b.2 (comments_tail 1 (drop 2 (x ∷ xs)) b.0 b.1)
     (λ less r. blanks_cut e total n b.0 c from less r)))))
 
@@ -104,7 +106,7 @@ tail_if : (b : Bool) (cs x y : List ℕ) → Tail cs x → Tail cs y → Tail cs
 tail_if true cs x y s t = s
 tail_if false cs x y s t = t
 
-mark_tail : (cs : List ℕ) → Tail cs (past_mark cs)
+mark_tail : (cs : List ℕ) → Tail cs (past_byte_order_mark cs)
 mark_tail [] = here []
 mark_tail (c ∷ cs) = tail_if (c == 0xFEFF) (c ∷ cs) cs (c ∷ cs) (one c cs cs (here cs)) (here (c ∷ cs))
 
@@ -116,5 +118,5 @@ line_or_all k false false cs = on cs (drop 2 cs) (past k (drop 2 cs)) (drop_tail
 shebang_tail : (e : Edition) (total : ℕ) (cs : List ℕ) → Tail cs (past_shebang (Rust e) total cs)
 shebang_tail e total cs = search line_or_all
 
-pub head_tail : (e : Edition) (total : ℕ) (cs : List ℕ) → Tail cs (after_head (Rust e) total cs)
-head_tail e total cs = on _ _ _ (mark_tail cs) (shebang_tail e total (past_mark cs))
+pub head_tail : (e : Edition) (total : ℕ) (cs : List ℕ) → Tail cs (after_preamble (Rust e) total cs)
+head_tail e total cs = on _ _ _ (mark_tail cs) (shebang_tail e total (past_byte_order_mark cs))

@@ -1,15 +1,18 @@
 -- Where a block doc comment ends: its text is one that is closed.
-use Rattle.std.proofs.Common.{◌≡◌, ℕ, suc, ◌==◌, ◌+◌, ◌-◌, ◌<◌, ◌≤◌, not, ◌&&◌, ◌||◌, if◌then◌else◌, Bool, true, false, List, [], ◌∷◌, ◌++◌, length, get_or, refl, sym, ap, ◌∙◌, arith, codes, Option, Some, None, length-append, chars, encode_utf8_all}
+use Rattle.std.proofs.Common.{◌≡◌, ℕ, suc, ◌==◌, ◌+◌, ◌-◌, ◌<◌, ◌≤◌, not, ◌&&◌, ◌||◌, if◌then◌else◌, Bool, true, false}
+use Rattle.std.proofs.Common.{List, [], ◌∷◌, ◌++◌, length, get_or, refl, sym, ap, ◌∙◌, arith, codes, Option, Some, None}
+use Rattle.std.proofs.Common.{length-append, chars, encode_utf8_all}
 use Rattle.std.specs.Char.{char_set_contains}
 use Rattle.std.specs.List.{list_any}
 use Rattle.std.specs.Str.{NonePass}
 use Rattle.std.proofs.Math.Utf8.{scalars}
 use Rattle.std.proofs.lemmas.Bool.Decides.{nat_tests}
 use Rattle.std.proofs.lemmas.Str.{NoCharPasses-byte, char_from_byte, chars-encodes, encode_ascii}
-use Rattle.mbe_text.specs.RustText.Comments.{has_line_end, is_line_end, begins_with_slash, begins_with_mark, is_closed, is_block, is_comment}
+use Rattle.mbe_text.specs.RustText.DocComments.{has_line_end, is_line_end, begins_with_slash, begins_with_mark}
+use Rattle.mbe_text.specs.RustText.DocComments.{is_closed, is_block, is_comment}
 use Rattle.mbe_text.specs.Characters.{begins_with, has, past}
-use Rattle.mbe_text.specs.Extents.{from_comment_end}
-use Rattle.mbe_text.specs.Rust.{from_return}
+use Rattle.mbe_text.specs.QuoteEnds.{from_comment_end}
+use Rattle.mbe_text.specs.RustTokens.{from_carriage_return}
 
 -- ---- two characters
 
@@ -132,7 +135,7 @@ later_closed true closes depth d cs h = (0, suc depth, h)
 later_closed false true depth d cs h = (0, depth - 1, (both (not (depth == 0)) (is_closed 0 (depth - 1) cs) h).1)
 later_closed false false depth d cs h = (d, depth, h)
 
-pub closed_no_return : (last depth : ℕ) (cs : List ℕ) → is_closed last depth cs ≡ true → from_return cs ≡ None
+pub closed_no_return : (last depth : ℕ) (cs : List ℕ) → is_closed last depth cs ≡ true → from_carriage_return cs ≡ None
 closed_no_return last depth [] h = refl
 closed_no_return last depth (c ∷ cs) h =
     let t = closed_then (c == 13) last depth c cs refl h in
@@ -264,18 +267,22 @@ closes_on false true false last depth d cs end z h go =
     ap (λ (b : Bool). not b && is_closed 0 (depth - 1) cs) z ∙ go 0 (depth - 1) w
 closes_on false false none last depth d cs end z h go = go d depth h
 
-no_return_at : (c : ℕ) (cs : List ℕ) (b : Bool) → char_set_contains (codes "\r") c ≡ b → from_return (c ∷ cs) ≡ None
-    → (char_set_contains (codes "\r") c ≡ false) × (from_return cs ≡ None)
+no_return_at : (c : ℕ) (cs : List ℕ) (b : Bool) → char_set_contains (codes "\r") c ≡ b → from_carriage_return (c ∷ cs)
+    ≡ None
+    → (char_set_contains (codes "\r") c ≡ false) × (from_carriage_return cs ≡ None)
 no_return_at c cs true e h =
-    absurd (let w : from_return (c ∷ cs) ≡ Some (c ∷ cs) = rw (from_return, e) refl in
+    absurd (let w : from_carriage_return (c ∷ cs) ≡ Some (c ∷ cs) = rw (from_carriage_return, e) refl in
     let z : Some (c ∷ cs) ≡ None = sym w ∙ h in cc)
-no_return_at c cs false e h =
-    (e, let w : from_return (c ∷ cs) ≡ from_return cs = rw (from_return, e) refl in sym w ∙ h)
+no_return_at c cs false e h = (
+  e,
+  let w : from_carriage_return (c ∷ cs) ≡ from_carriage_return cs = rw (from_carriage_return, e) refl in sym w
+      ∙ h,
+)
 
 no_thirteen : (c : ℕ) → char_set_contains (codes "\r") c ≡ false → (c == 13) ≡ false
 no_thirteen c h = grind (arith, nat_tests, h)
 
-closed_from : (own end : List ℕ) (last depth : ℕ) → from_return own ≡ None
+closed_from : (own end : List ℕ) (last depth : ℕ) → from_carriage_return own ≡ None
     → from_comment_end false depth (last ∷ (own ++ end)) ≡ Some end → is_closed last depth own ≡ true
 closed_from [] end last depth r h = closed_here last depth end h
 closed_from (d ∷ own) end last depth r h =
@@ -285,7 +292,8 @@ closed_from (d ∷ own) end last depth r h =
     (sym (two depth last d (own ++ end)) ∙ h)
     (λ l n k. closed_from own end l n t.1 k))
 
-pub text_closed : (own end : List ℕ) → from_return own ≡ None → from_comment_end false 0 (own ++ end) ≡ Some end
+pub text_closed : (own end : List ℕ) → from_carriage_return own ≡ None → from_comment_end false 0 (own ++ end)
+    ≡ Some end
     → is_closed 0 0 own ≡ true
 text_closed own end r h = closed_from own end 0 0 r h
 
@@ -338,8 +346,9 @@ neither_end c cs feed return = rw (feed, return) refl
 
 line_on : (k : _) (d c : ℕ) (cs own : List ℕ) (b : Bool) → ((c : ℕ) → has k c ≡ true → (c == 10) ≡ false)
     → has k d ≡ b
-    → d ∷ cs ≡ (c ∷ own) ++ past k (d ∷ cs) → from_return (c ∷ own) ≡ None
-    → (cs ≡ own ++ past k cs → from_return own ≡ None → has_line_end own ≡ false) → has_line_end (c ∷ own) ≡ false
+    → d ∷ cs ≡ (c ∷ own) ++ past k (d ∷ cs) → from_carriage_return (c ∷ own) ≡ None
+    → (cs ≡ own ++ past k cs → from_carriage_return own ≡ None → has_line_end own ≡ false) → has_line_end (c ∷ own)
+    ≡ false
 line_on k d c cs own false n e h r go = absurd (
     let w : past k (d ∷ cs) ≡ d ∷ cs = rw (past, e) refl in
     let l = ap (λ (x : List ℕ). length x) (h ∙ ap (λ (x : List ℕ). (c ∷ own) ++ x) w) in
@@ -353,7 +362,7 @@ line_on k d c cs own true n e h r go =
     neither_end c own (ap (λ (x : ℕ). x == 10) (sym first) ∙ n d e) (no_thirteen c t.0) ∙ go more t.1
 
 pub line_has_none : (k : _) (cs own : List ℕ) → ((c : ℕ) → has k c ≡ true → (c == 10) ≡ false)
-    → cs ≡ own ++ past k cs → from_return own ≡ None → has_line_end own ≡ false
+    → cs ≡ own ++ past k cs → from_carriage_return own ≡ None → has_line_end own ≡ false
 line_has_none k cs [] n h r = refl
 line_has_none k [] (c ∷ own) n h r = absurd (cc)
 line_has_none k (d ∷ cs) (c ∷ own) n h r =
@@ -415,7 +424,7 @@ comment_is inner false text e s b =
     ∙ line_right inner (begins_with_slash text) s
 
 pub block_is : (inner : Bool) (own end : List ℕ) → (inner ≡ false → begins_with_mark (encode_utf8_all own) ≡ false)
-    → scalars own ≡ true → from_return own ≡ None → from_comment_end false 0 (own ++ end) ≡ Some end
+    → scalars own ≡ true → from_carriage_return own ≡ None → from_comment_end false 0 (own ++ end) ≡ Some end
     → is_block inner (encode_utf8_all own) ≡ true
 block_is inner own end m u r h =
     let text : List ℕ = encode_utf8_all own in

@@ -1,5 +1,7 @@
 -- A char or a byte that is read by itself is read before whatever doesn't go on with its suffix.
-use Rattle.std.proofs.Common.{◌≡◌, ℕ, ◌⊎◌, inl, inr, ◌==◌, not, ◌&&◌, ◌||◌, if◌then◌else◌, Bool, true, false, List, [], ◌∷◌, ◌++◌, drop, refl, sym, ap, ◌∙◌, arith, codes, Option, Some, None, Ok, Err, encode_utf8_all, chars}
+use Rattle.std.proofs.Common.{◌≡◌, ℕ, ◌⊎◌, inl, inr, ◌==◌, not, ◌&&◌, ◌||◌, if◌then◌else◌, Bool, true, false, List, []}
+use Rattle.std.proofs.Common.{◌∷◌, ◌++◌, drop, refl, sym, ap, ◌∙◌, arith, codes, Option, Some, None, Ok, Err}
+use Rattle.std.proofs.Common.{encode_utf8_all, chars}
 use Rattle.std.specs.Char.{char_set_contains, is_ascii_digit}
 use Rattle.unicode_ident.proofs.Computing.{unicode_ident}
 use Rattle.mbe_tt.specs.Trees.Literals as marks
@@ -9,16 +11,19 @@ use Rattle.mbe_tt.specs.declared.tt.IdentIsRaw.TheVariants as raw
 use Rattle.mbe_tt.specs.declared.tt.LitKind.{LitKind}
 use Rattle.mbe_tt.specs.declared.tt.LitKind.TheVariants as kinds
 use Rattle.mbe_text.specs.Characters.{begins_with, bytes_before}
-use Rattle.mbe_text.specs.declared.wrong.Wrong.TheVariants as wrong
-use Rattle.mbe_text.specs.Escapes.{Left, check_char}
-use Rattle.mbe_text.specs.Extents.{front, from_later_quote, from_char_end}
-use Rattle.mbe_text.specs.Rust.{Token, read_rust, literal, char, char_until, open_char, within, lifetime, plain_lifetime, raw_lifetime, begins_lifetime, may_be_raw}
+use Rattle.mbe_text.specs.declared.fault_kind.LexFaultKind.TheVariants as fault_kind
+use Rattle.mbe_text.specs.Escapes.{RestResult, check_char}
+use Rattle.mbe_text.specs.QuoteEnds.{front, from_later_quote, from_char_end}
+use Rattle.mbe_text.specs.RustTokens.{RustTokenResult, read_rust, literal, char, char_until, unterminated_char, within}
+use Rattle.mbe_text.specs.RustTokens.{lifetime, plain_lifetime, raw_lifetime, begins_lifetime, may_be_raw}
 use Rattle.mbe_text.specs.Shapes.{Shape, literal_of, lifetime_of}
-use Rattle.mbe_text.specs.Words.{past_word}
-use Rattle.mbe_text.specs.Laws.Back.{CharsAreRead, is_char}
-use Rattle.mbe_text.specs.Laws.Rust.{is_start, continues_word, begins_literal}
+use Rattle.mbe_text.specs.Identifiers.{past_identifier}
+use Rattle.mbe_text.specs.Laws.RoundTrip.{CharsAreRead, is_char}
+use Rattle.mbe_text.specs.Laws.RustTrees.{is_start, continues_word, begins_literal}
 use Rattle.mbe_text.proofs.ReadBack.StepLemmas.{bytes_front}
-use Rattle.mbe_text.proofs.ReadBack.QuoteLemmas.{Found, found_more, same_char, Parts, parts_on, front_of, token_of, extends, one_char, two_chars, letter_begins, b_is_start, AllExtend, all_are_read}
+use Rattle.mbe_text.proofs.ReadBack.QuoteLemmas.{Found, found_more, same_char, Parts, parts_on, front_of, token_of}
+use Rattle.mbe_text.proofs.ReadBack.QuoteLemmas.{extends, one_char, two_chars, letter_begins, b_is_start, AllExtend}
+use Rattle.mbe_text.proofs.ReadBack.QuoteLemmas.{all_are_read}
 
 -- ---- the quote that ends a char
 
@@ -124,18 +129,19 @@ char_found c d ds end false e h =
 -- ---- the char
 
 -- where one character is there, the literal
-abbrev one_checked : Left → List ℕ → List ℕ → Token → Token
+abbrev one_checked : RestResult → List ℕ → List ℕ → RustTokenResult → RustTokenResult
 one_checked (Err at) end from t = Err (within end at)
 one_checked (Ok []) end from t = t
-one_checked (Ok (c ∷ cs)) end from t = Err (wrong.SeveralChars, from)
+one_checked (Ok (c ∷ cs)) end from t = Err (fault_kind.MultipleChars, from)
 
-one_is : (x : Left) (end from : List ℕ) (t : Token) (r : Shape × List ℕ) → one_checked x end from t ≡ Ok r
-    → (t ≡ Ok r) × ((d g : List ℕ) (u : Token) → one_checked x d g u ≡ u)
+one_is : (x : RestResult) (end from : List ℕ) (t : RustTokenResult) (r : Shape × List ℕ) → one_checked x end from t
+    ≡ Ok r
+    → (t ≡ Ok r) × ((d g : List ℕ) (u : RustTokenResult) → one_checked x d g u ≡ u)
 one_is (Err at) end from t r h = absurd (cc)
 one_is (Ok []) end from t r h = (h, λ d g u. refl)
 one_is (Ok (c ∷ cs)) end from t r h = absurd (cc)
 
-until_of : (kind : LitKind) (q : _) (from body end : List ℕ) (x : Left) → check_char q (front body end) ≡ x
+until_of : (kind : LitKind) (q : _) (from body end : List ℕ) (x : RestResult) → check_char q (front body end) ≡ x
     → char_until kind q from body end ≡ one_checked x end from (literal kind (bytes_before body end) (drop 1 end))
 until_of kind q from body end (Err at) e = rw (char_until, e) refl
 until_of kind q from body end (Ok []) e = rw (char_until, e) refl
@@ -151,14 +157,14 @@ until_is kind q from own c more =
     (bytes_front own (c ∷ more))
 
 unended : (kind : LitKind) (q : _) (from : List ℕ) (c : ℕ) (cs : List ℕ) → from_char_end cs ≡ None
-    → char kind q from (c ∷ cs) ≡ Err (open_char q, c ∷ cs)
+    → char kind q from (c ∷ cs) ≡ Err (unterminated_char q, c ∷ cs)
 unended kind q from c cs e = rw (char, e) refl
 
 -- where the quote is the first character, there is none
 no_char : (kind : LitKind) (q : _) (from : List ℕ) (c : ℕ) (cs : List ℕ) (r : Shape × List ℕ)
     → char_until kind q from (c ∷ cs) (c ∷ cs) ≡ Ok r → ⊥
 no_char kind q from c cs r h =
-    let fault : Token = Err (within (c ∷ cs) (wrong.EmptyChar, [])) in
+    let fault : RustTokenResult = Err (within (c ∷ cs) (fault_kind.EmptyChar, [])) in
     let w : char_until kind q from (c ∷ cs) (c ∷ cs) ≡ fault = until_is kind q from [] c cs in
     let z : fault ≡ Ok r = sym w ∙ h in absurd (cc)
 
@@ -167,7 +173,7 @@ char_parts_at : (kind : LitKind) (q : _) (from : List ℕ) (x c d : ℕ) (ds : L
     → char kind q from (x ∷ (c ∷ (d ∷ ds))) ≡ Ok r
     → Parts (λ other y. char kind q other (x ∷ y)) (39 ∷ []) kind (c ∷ (d ∷ ds)) r
 char_parts_at kind q from x c d ds r None e h =
-    absurd (let z : Err (open_char q, x ∷ (c ∷ (d ∷ ds))) ≡ Ok r =
+    absurd (let z : Err (unterminated_char q, x ∷ (c ∷ (d ∷ ds))) ≡ Ok r =
     sym (unended kind q from x (c ∷ (d ∷ ds)) e) ∙ h in cc)
 char_parts_at kind q from x c d ds r (Some end) e h =
     by (char_found c d ds end (closes (c ∷ (d ∷ ds))) refl e)
@@ -224,7 +230,7 @@ single_end c end false false e s h =
 pub single_at : (kind : LitKind) (q : _) (from : List ℕ) (x c : ℕ) (r : Shape × List ℕ) (o : Option (List ℕ))
     → from_char_end (c ∷ []) ≡ o → char kind q from (x ∷ (c ∷ [])) ≡ Ok r → ⊥
 single_at kind q from x c r None e h =
-    let fault : Token = Err (open_char q, x ∷ (c ∷ [])) in
+    let fault : RustTokenResult = Err (unterminated_char q, x ∷ (c ∷ [])) in
     let z : fault ≡ Ok r = sym (unended kind q from x (c ∷ []) e) ∙ h in absurd (cc)
 single_at kind q from x c r (Some end) e h =
     let no = and_no (not (c == 92)) in
@@ -232,8 +238,8 @@ single_at kind q from x c r (Some end) e h =
     let is = single_end c end (c == 39) (stops c []) refl refl (sym w ∙ e) in
     let before : char kind q from (x ∷ (c ∷ [])) ≡ char_until kind q from (c ∷ []) end =
     rw (char, e) refl in
-    let fails : char_until kind q from (c ∷ []) (c ∷ []) ≡ Err (wrong.EmptyChar, c ∷ []) = refl in
-    let fault : Token = Err (wrong.EmptyChar, c ∷ []) in
+    let fails : char_until kind q from (c ∷ []) (c ∷ []) ≡ Err (fault_kind.EmptyChar, c ∷ []) = refl in
+    let fault : RustTokenResult = Err (fault_kind.EmptyChar, c ∷ []) in
     let z : fault ≡ Ok r = sym (before ∙ (ap (char_until kind q from (c ∷ [])) is ∙ fails)) ∙ h in absurd (cc)
 
 pub char_parts : (kind : LitKind) (q : _) (from : List ℕ) (x : ℕ) (cs : List ℕ) (r : Shape × List ℕ)
@@ -268,40 +274,41 @@ abbrev is_literal : Shape → Bool
 is_literal (literal_of text suffix n kind) = true
 is_literal _ = false
 
-abbrev reads_literal : Token → Bool
+abbrev reads_literal : RustTokenResult → Bool
 reads_literal (Ok r) = is_literal r.0
 reads_literal (Err at) = false
 
-if_no : (b : Bool) (x y : Token) → reads_literal x ≡ false → reads_literal y ≡ false
+if_no : (b : Bool) (x y : RustTokenResult) → reads_literal x ≡ false → reads_literal y ≡ false
     → reads_literal (if b then x else y) ≡ false
 if_no true x y h k = h
 if_no false x y h k = k
 
 -- each of its ends is another token, or a fault
 plain_ends : (e : Edition) (from cs rest : List ℕ) (digit : Bool)
-    → reads_literal (if begins_with (codes "'") rest then Err (wrong.SeveralChars, from)
-    else if digit then Err (wrong.LifetimeDigit, from)
-    else if at_least_2021 e && begins_with (codes "#") rest then Err (wrong.Prefix, from)
+    → reads_literal (if begins_with (codes "'") rest then Err (fault_kind.MultipleChars, from)
+    else if digit then Err (fault_kind.LifetimeDigit, from)
+    else if at_least_2021 e && begins_with (codes "#") rest then Err (fault_kind.Prefix, from)
     else Ok (lifetime_of (bytes_before cs rest) raw.No, rest)) ≡ false
 plain_ends e from cs rest digit =
-    let name : Token = Ok (lifetime_of (bytes_before cs rest) raw.No, rest) in
-    let last : Token = if at_least_2021 e && begins_with (codes "#") rest then Err (wrong.Prefix, from) else name in
-    let more : Token = if digit then Err (wrong.LifetimeDigit, from) else last in
-    if_no (begins_with (codes "'") rest) (Err (wrong.SeveralChars, from)) more refl
-    (if_no digit (Err (wrong.LifetimeDigit, from)) last refl
-    (if_no (at_least_2021 e && begins_with (codes "#") rest) (Err (wrong.Prefix, from)) name refl refl))
+    let name : RustTokenResult = Ok (lifetime_of (bytes_before cs rest) raw.No, rest) in
+    let last : RustTokenResult = if at_least_2021 e
+    && begins_with (codes "#") rest then Err (fault_kind.Prefix, from) else name in
+    let more : RustTokenResult = if digit then Err (fault_kind.LifetimeDigit, from) else last in
+    if_no (begins_with (codes "'") rest) (Err (fault_kind.MultipleChars, from)) more refl
+    (if_no digit (Err (fault_kind.LifetimeDigit, from)) last refl
+    (if_no (at_least_2021 e && begins_with (codes "#") rest) (Err (fault_kind.Prefix, from)) name refl refl))
 
 plain_no : (e : Edition) (from cs : List ℕ) → reads_literal (plain_lifetime e from cs) ≡ false
-plain_no e from [] = plain_ends e from [] (past_word []) false
-plain_no e from (c ∷ cs) = plain_ends e from (c ∷ cs) (past_word (c ∷ cs)) (is_ascii_digit c)
+plain_no e from [] = plain_ends e from [] (past_identifier []) false
+plain_no e from (c ∷ cs) = plain_ends e from (c ∷ cs) (past_identifier (c ∷ cs)) (is_ascii_digit c)
 
 raw_no : (from cs : List ℕ) → reads_literal (raw_lifetime from cs) ≡ false
 raw_no from cs =
-    let rest : List ℕ = past_word cs in
-    let name : Token = Ok (lifetime_of (bytes_before cs rest) raw.Yes, rest) in
-    let wrong_name : Token = Err (wrong.RawName, from) in
-    let last : Token = if may_be_raw (bytes_before cs rest) then name else wrong_name in
-    if_no (begins_with (codes "'") rest) (Err (wrong.SeveralChars, from)) last refl
+    let rest : List ℕ = past_identifier cs in
+    let name : RustTokenResult = Ok (lifetime_of (bytes_before cs rest) raw.Yes, rest) in
+    let wrong_name : RustTokenResult = Err (fault_kind.InvalidRawIdentifier, from) in
+    let last : RustTokenResult = if may_be_raw (bytes_before cs rest) then name else wrong_name in
+    if_no (begins_with (codes "'") rest) (Err (fault_kind.MultipleChars, from)) last refl
     (if_no (may_be_raw (bytes_before cs rest)) name wrong_name refl refl)
 
 lifetime_ends : (plain : Bool) (e : Edition) (cs : List ℕ)
@@ -309,8 +316,8 @@ lifetime_ends : (plain : Bool) (e : Edition) (cs : List ℕ)
     else if at_least_2021 e then raw_lifetime cs (drop 3 cs)
     else Ok (lifetime_of (bytes_before (drop 1 cs) (drop 2 cs)) raw.No, drop 2 cs)) ≡ false
 lifetime_ends plain e cs =
-    let short : Token = Ok (lifetime_of (bytes_before (drop 1 cs) (drop 2 cs)) raw.No, drop 2 cs) in
-    let last : Token = if at_least_2021 e then raw_lifetime cs (drop 3 cs) else short in
+    let short : RustTokenResult = Ok (lifetime_of (bytes_before (drop 1 cs) (drop 2 cs)) raw.No, drop 2 cs) in
+    let last : RustTokenResult = if at_least_2021 e then raw_lifetime cs (drop 3 cs) else short in
     if_no plain (plain_lifetime e cs (drop 1 cs)) last (plain_no e cs (drop 1 cs))
     (if_no (at_least_2021 e) (raw_lifetime cs (drop 3 cs)) short (raw_no cs (drop 3 cs)) refl)
 
@@ -324,7 +331,8 @@ lifetime_no e (a ∷ (b ∷ (c ∷ (d ∷ cs)))) =
     lifetime_ends (not (begins_with (codes "'r#") (a ∷ (b ∷ (c ∷ (d ∷ cs)))) && is_start d)) e (a ∷ (b ∷ (c ∷
     (d ∷ cs))))
 
-no_literal : (t : Token) (text suffix : List ℕ) (n : ℕ) (kind : LitKind) (rest : List ℕ) → reads_literal t ≡ false
+no_literal : (t : RustTokenResult) (text suffix : List ℕ) (n : ℕ) (kind : LitKind) (rest : List ℕ) → reads_literal t
+    ≡ false
     → t ≡ Ok (literal_of text suffix n kind, rest) → ⊥
 no_literal t text suffix n kind rest h e = let z : true ≡ false = sym (ap reads_literal e) ∙ h in absurd (cc)
 

@@ -1,5 +1,6 @@
 -- Doc comments among flat tokens.
-use Rattle.std.proofs.Common.{◌≡◌, ℕ, zero, suc, ◌+◌, ◌==◌, not, ◌&&◌, if◌then◌else◌, Bool, true, false, List, [], ◌∷◌, ◌++◌, refl, sym, ap, ◌∙◌, arith, codes, Option, Some, None, append_assoc, subst}
+use Rattle.std.proofs.Common.{◌≡◌, ℕ, zero, suc, ◌+◌, ◌==◌, not, ◌&&◌, if◌then◌else◌, Bool, true, false, List, [], ◌∷◌}
+use Rattle.std.proofs.Common.{◌++◌, refl, sym, ap, ◌∙◌, arith, codes, Option, Some, None, append_assoc, subst}
 use Rattle.std.proofs.lemmas.Bool.Decides.{nat_tests}
 use Rattle.std.proofs.lemmas.Slice.Eq.{bytes_eq-Decides}
 use Rattle.std.specs.Prelude.{option_and_then}
@@ -16,15 +17,17 @@ use Rattle.mbe_tt.specs.declared.tt.LitKind.TheVariants.{StrRaw}
 use Rattle.mbe_tt.specs.Trees.Leaf.{Ident, Literal, literal, punct, ident}
 use Rattle.mbe_tt.specs.Trees.Tree.{Forest, none, leaf, group, FlatToken, token, opening, closing, flat, flat_len}
 use Rattle.mbe_text.specs.RustText.Gaps.{is_joint, may_precede_comment}
-use Rattle.mbe_text.specs.RustText.Comments.{Comment, has_line_end, is_comment, is_plain, is_raw_string, is_setting, comment_inside, is_bracket, in_brackets, after_hash, after_punct, more_trees}
-use Rattle.mbe_text.specs.RustText.Writing.{State, next_comment}
+use Rattle.mbe_text.specs.RustText.DocComments.{DocComment, has_line_end, is_comment, is_not_raw, is_raw_string}
+use Rattle.mbe_text.specs.RustText.DocComments.{is_doc_assignment, comment_inside, is_bracket, bracketed_comment}
+use Rattle.mbe_text.specs.RustText.DocComments.{comment_after_hash, after_punct, more_trees}
+use Rattle.mbe_text.specs.RustText.Printer.{PrinterState, next_comment}
 use Rattle.mbe_text.specs.Tokens.{most_guards}
-use Rattle.mbe_text.specs.Laws.Rust.{next_place, set_flat, brackets_flat, hash_flat, punct_flat, more_tokens}
+use Rattle.mbe_text.specs.Laws.RustTrees.{next_place, set_flat, brackets_flat, hash_flat, punct_flat, more_tokens}
 
 -- ---- a comment at the front of flat tokens
 
 -- the comment that begins with this punct, after what was written
-abbrev pub comment_next : Punct → List FlatToken → State → Option Comment
+abbrev pub comment_next : Punct → List FlatToken → PrinterState → Option DocComment
 comment_next p ts s = if may_precede_comment s.last then punct_flat p ts else None
 
 -- ---- it is the comment at the front of trees
@@ -48,7 +51,7 @@ set_same b d (leaf (ident i) (leaf (punct q) (leaf (literal l) (leaf m r)))) ts 
 set_same b d (leaf (ident i) (leaf (punct q) (leaf (literal l) (group k j r)))) ts = refl
 
 -- no tree of the same group follows
-at_end : (P : List FlatToken → Option Comment) (ts : List FlatToken) → None ≡ next_place ts → P [] ≡ None
+at_end : (P : List FlatToken → Option DocComment) (ts : List FlatToken) → None ≡ next_place ts → P [] ≡ None
     → ((d : Delimiter) (us : List FlatToken) → P (closing d ∷ us) ≡ None) → P ts ≡ None
 at_end P [] h a k = a
 at_end P (token l ∷ ts) h a k = absurd (cc)
@@ -56,18 +59,18 @@ at_end P (opening d ∷ ts) h a k = absurd (cc)
 at_end P (closing d ∷ ts) h a k = k d ts
 
 brackets_same : (b : Bool) (f : Forest) (ts : List FlatToken) → None ≡ next_place ts
-    → brackets_flat b (flat f ++ ts) ≡ in_brackets b f
+    → brackets_flat b (flat f ++ ts) ≡ bracketed_comment b f
 brackets_same b none ts h = at_end (brackets_flat b) ts h refl (λ d us. refl)
 brackets_same b (leaf l r) ts h = refl
 brackets_same b (group d inside r) ts h =
     ap (λ (x : List FlatToken). if is_bracket d.kind then set_flat b x else None) (append_assoc (flat inside)
     (closing d ∷ flat r) ts)
-    ∙ ap (λ (o : Option Comment). if is_bracket d.kind then o else None) (set_same b d inside (flat r ++ ts))
+    ∙ ap (λ (o : Option DocComment). if is_bracket d.kind then o else None) (set_same b d inside (flat r ++ ts))
 
-hash_same : (f : Forest) (ts : List FlatToken) → None ≡ next_place ts → hash_flat (flat f ++ ts) ≡ after_hash f
+hash_same : (f : Forest) (ts : List FlatToken) → None ≡ next_place ts → hash_flat (flat f ++ ts) ≡ comment_after_hash f
 hash_same none ts h = at_end hash_flat ts h refl (λ d us. refl)
 hash_same (leaf (punct q) r) ts h =
-    ap (λ (o : Option Comment). if q.char == 33 && not (is_joint q.spacing) then o else None)
+    ap (λ (o : Option DocComment). if q.char == 33 && not (is_joint q.spacing) then o else None)
     (brackets_same true r ts h)
 hash_same (leaf (literal l) r) ts h = refl
 hash_same (leaf (ident i) r) ts h = refl
@@ -76,19 +79,21 @@ hash_same (group d inside r) ts h = refl
 punct_same : (p : Punct) (f : Forest) (ts : List FlatToken) → None ≡ next_place ts
     → punct_flat p (flat f ++ ts) ≡ after_punct p f
 punct_same p f ts h =
-    ap (λ (o : Option Comment). if not (p.char == 35) then None else if is_joint p.spacing then o else brackets_flat
+    ap (λ (o : Option DocComment). if not (p.char == 35) then None else if is_joint p.spacing then o else brackets_flat
     false (flat f ++ ts))
     (hash_same f ts h)
-    ∙ ap (λ (o : Option Comment). if not (p.char == 35) then None else if is_joint p.spacing then after_hash f else o)
+    ∙ ap (λ (o : Option DocComment). if not (p.char == 35) then None else if is_joint p.spacing then comment_after_hash
+    f else o)
     (brackets_same false f ts h)
 
-if_may : (b : Bool) (o : Option Comment) → (if b then o else None) ≡ option_and_then (λ c. if b then Some c else None) o
+if_may : (b : Bool) (o : Option DocComment) → (if b then o else None)
+    ≡ option_and_then (λ c. if b then Some c else None) o
 if_may true None = refl
 if_may true (Some c) = refl
 if_may false None = refl
 if_may false (Some c) = refl
 
-pub comment_same : (p : Punct) (f : Forest) (ts : List FlatToken) (s : State) → None ≡ next_place ts
+pub comment_same : (p : Punct) (f : Forest) (ts : List FlatToken) (s : PrinterState) → None ≡ next_place ts
     → comment_next p (flat f ++ ts) s ≡ next_comment s (leaf (punct p) f)
 comment_same p f ts s h =
     if_may (may_precede_comment s.last) (punct_flat p (flat f ++ ts))
@@ -96,16 +101,17 @@ comment_same p f ts s h =
 
 -- ---- its tokens
 
-if_some : (b : Bool) (o : Option Comment) (c : Comment) → (if b then o else None) ≡ Some c → (b ≡ true) × (o ≡ Some c)
+if_some : (b : Bool) (o : Option DocComment) (c : DocComment) → (if b then o else None) ≡ Some c → (b ≡ true)
+    × (o ≡ Some c)
 if_some true o c h = (refl, h)
 if_some false o c h = absurd (cc)
 
-if_none : (b : Bool) (o : Option Comment) (c : Comment) → (if not b then None else o) ≡ Some c
+if_none : (b : Bool) (o : Option DocComment) (c : DocComment) → (if not b then None else o) ≡ Some c
     → (b ≡ true) × (o ≡ Some c)
 if_none true o c h = (refl, h)
 if_none false o c h = absurd (cc)
 
-some_same : (x y : Comment) → Some x ≡ Some y → x ≡ y
+some_same : (x y : DocComment) → Some x ≡ Some y → x ≡ y
 some_same x y h = cc
 
 both : (a b : Bool) → (a && b) ≡ true → (a ≡ true) × (b ≡ true)
@@ -127,7 +133,7 @@ pub record IsSetting (i : Ident) (q : Punct) (l : Literal) : Type 0 where
   pub no_suffix : l.suffix_len ≡ 0
   pub raw : l.kind ≡ StrRaw (most_guards 0 l.text_and_suffix)
 
-plain_is : (r : IdentIsRaw) → is_plain r ≡ true → r ≡ No
+plain_is : (r : IdentIsRaw) → is_not_raw r ≡ true → r ≡ No
 plain_is No h = refl
 plain_is Yes h = absurd (cc)
 
@@ -135,7 +141,7 @@ raw_is : (n : ℕ) (k : LitKind) → is_raw_string n k ≡ true → k ≡ StrRaw
 raw_is n (StrRaw m) h = ap StrRaw (is_same m n h)
 raw_is n k h = absurd (cc)
 
-setting_is : (i : Ident) (q : Punct) (l : Literal) → is_setting i q l ≡ true → IsSetting i q l
+setting_is : (i : Ident) (q : Punct) (l : Literal) → is_doc_assignment i q l ≡ true → IsSetting i q l
 setting_is i q l h =
     let abc = both _ _ h in
     let ab = both _ _ abc.0 in
@@ -151,7 +157,7 @@ setting_is i q l h =
       raw = raw_is (most_guards 0 l.text_and_suffix) l.kind three.1;
     }
 
-abbrev pub set_of : Bool → Literal → Comment
+abbrev pub set_of : Bool → Literal → DocComment
 set_of b l = record { is_inner = b; is_block = has_line_end l.text_and_suffix; text = l.text_and_suffix }
 
 -- it may be written as one
@@ -159,17 +165,17 @@ abbrev pub may_be_comment : Bool → List ℕ → Bool
 may_be_comment b text = is_comment b (has_line_end text) text
 
 -- what holds of a comment's tokens
-abbrev pub Setting : (List FlatToken → Comment → Type 0) → Bool → Type 0
+abbrev pub Setting : (List FlatToken → DocComment → Type 0) → Bool → Type 0
 Setting P b =
     (i : Ident) (q : Punct) (l : Literal) (e : Delimiter) (ts : List FlatToken) → IsSetting i q l
     → may_be_comment b l.text_and_suffix ≡ true
     → P (token (ident i) ∷ (token (punct q) ∷ (token (literal l) ∷ (closing e ∷ ts)))) (set_of b l)
 
-set_case : (P : List FlatToken → Comment → Type 0) (b : Bool) (ts : List FlatToken) (c : Comment) → Setting P b
+set_case : (P : List FlatToken → DocComment → Type 0) (b : Bool) (ts : List FlatToken) (c : DocComment) → Setting P b
     → set_flat b ts ≡ Some c → P ts c
 set_case P b (token (ident i) ∷ (token (punct q) ∷ (token (literal l) ∷ (closing e ∷ ts)))) c k h =
-    let t = if_some (is_setting i q l && may_be_comment b l.text_and_suffix) (Some (set_of b l)) c h in
-    let u = both (is_setting i q l) (may_be_comment b l.text_and_suffix) t.0 in
+    let t = if_some (is_doc_assignment i q l && may_be_comment b l.text_and_suffix) (Some (set_of b l)) c h in
+    let u = both (is_doc_assignment i q l) (may_be_comment b l.text_and_suffix) t.0 in
     let is = some_same (set_of b l) c t.1 in
     subst (λ x. P (token (ident i) ∷ (token (punct q) ∷ (token (literal l) ∷ (closing e ∷ ts)))) x) is
     (k i q l e ts (setting_is i q l u.0) u.1)
@@ -181,14 +187,14 @@ bracket_is Parenthesis h = absurd (cc)
 bracket_is Brace h = absurd (cc)
 bracket_is Invisible h = absurd (cc)
 
-brackets_case : (P : List FlatToken → Comment → Type 0) (b : Bool) (ts : List FlatToken) (c : Comment)
+brackets_case : (P : List FlatToken → DocComment → Type 0) (b : Bool) (ts : List FlatToken) (c : DocComment)
     → ((d : Delimiter) → d.kind ≡ Bracket → Setting (λ us. P (opening d ∷ us)) b) → brackets_flat b ts ≡ Some c → P ts c
 brackets_case P b (opening d ∷ ts) c k h =
     let t = if_some (is_bracket d.kind) (set_flat b ts) c h in
     set_case (λ us. P (opening d ∷ us)) b ts c (k d (bracket_is d.kind t.0)) t.1
 brackets_case P b ts c k h = absurd (cc)
 
-hash_case : (P : List FlatToken → Comment → Type 0) (ts : List FlatToken) (c : Comment)
+hash_case : (P : List FlatToken → DocComment → Type 0) (ts : List FlatToken) (c : DocComment)
     → ((q : Punct) (d : Delimiter) → q.char ≡ 33 → q.spacing ≡ Alone → d.kind ≡ Bracket
     → Setting (λ us. P (token (punct q) ∷ (opening d ∷ us))) true)
     → hash_flat ts ≡ Some c → P ts c
@@ -200,16 +206,17 @@ hash_case P (token (punct q) ∷ ts) c k h =
 hash_case P ts c k h = absurd (cc)
 
 -- the punct that a comment begins with, and its tokens after that
-abbrev pub Outer : (List FlatToken → Comment → Type 0) → Punct → Type 0
+abbrev pub Outer : (List FlatToken → DocComment → Type 0) → Punct → Type 0
 Outer P p =
     (d : Delimiter) → p.char ≡ 35 → p.spacing ≡ Alone → d.kind ≡ Bracket → Setting (λ us. P (opening d ∷ us)) false
 
-abbrev pub Inner : (List FlatToken → Comment → Type 0) → Punct → Type 0
+abbrev pub Inner : (List FlatToken → DocComment → Type 0) → Punct → Type 0
 Inner P p =
     (q : Punct) (d : Delimiter) → p.char ≡ 35 → p.spacing ≡ Joint → q.char ≡ 33 → q.spacing ≡ Alone → d.kind ≡ Bracket
     → Setting (λ us. P (token (punct q) ∷ (opening d ∷ us))) true
 
-pub comment_case : (P : List FlatToken → Comment → Type 0) (p : Punct) (ts : List FlatToken) (s : State) (c : Comment)
+pub comment_case : (P : List FlatToken → DocComment
+    → Type 0) (p : Punct) (ts : List FlatToken) (s : PrinterState) (c : DocComment)
     → Outer P p → Inner P p → comment_next p ts s ≡ Some c → P ts c
 comment_case P p ts s c outer inner h =
     let may = if_some (may_precede_comment s.last) (punct_flat p ts) c h in
@@ -222,10 +229,11 @@ comment_case P p ts s c outer inner h =
     by Alone e m n = brackets_case P false ts c (λ d k. outer d n e k) m
 
 -- only a `#` begins one
-pub no_comment_at : (p : Punct) (ts : List FlatToken) (s : State) → (p.char == 35) ≡ false → comment_next p ts s ≡ None
+pub no_comment_at : (p : Punct) (ts : List FlatToken) (s : PrinterState) → (p.char == 35) ≡ false → comment_next p ts s
+    ≡ None
 no_comment_at p ts s h = rw h (same (may_precede_comment s.last) None)
   where
-    same : (b : Bool) (o : Option Comment) → (if b then o else o) ≡ o
+    same : (b : Bool) (o : Option DocComment) → (if b then o else o) ≡ o
     same true o = refl
     same false o = refl
 
@@ -236,35 +244,36 @@ flat_count (suc n) none = 0
 flat_count (suc n) (leaf l rest) = suc (flat_count n rest)
 flat_count (suc n) (group d inside rest) = suc (flat_len inside + suc (flat_count n rest))
 
-inside_len : (b : Bool) (f : Forest) (c : Comment) → comment_inside b f ≡ Some c → (flat_len f ≡ 3) × (c.is_inner ≡ b)
+inside_len : (b : Bool) (f : Forest) (c : DocComment) → comment_inside b f ≡ Some c → (flat_len f ≡ 3)
+    × (c.is_inner ≡ b)
 inside_len b (leaf (ident i) (leaf (punct q) (leaf (literal l) none))) c h =
-    let t = if_some (is_setting i q l && may_be_comment b l.text_and_suffix) (Some (set_of b l)) c h in
-    let same = some_same (set_of b l) c t.1 in (omega arith, sym (ap (λ (x : Comment). x.is_inner) same))
+    let t = if_some (is_doc_assignment i q l && may_be_comment b l.text_and_suffix) (Some (set_of b l)) c h in
+    let same = some_same (set_of b l) c t.1 in (omega arith, sym (ap (λ (x : DocComment). x.is_inner) same))
 inside_len b f c h = absurd (cc)
 
-brackets_count : (b : Bool) (f : Forest) (c : Comment) → in_brackets b f ≡ Some c
+brackets_count : (b : Bool) (f : Forest) (c : DocComment) → bracketed_comment b f ≡ Some c
     → (flat_count 1 f ≡ 5) × (c.is_inner ≡ b)
 brackets_count b (group d inside rest) c h =
     let t = if_some (is_bracket d.kind) (comment_inside b inside) c h in
     let n = inside_len b inside c t.1 in (omega (arith, n.0), n.1)
 brackets_count b f c h = absurd (cc)
 
-hash_count : (f : Forest) (c : Comment) → after_hash f ≡ Some c → (flat_count 2 f ≡ 6) × (c.is_inner ≡ true)
+hash_count : (f : Forest) (c : DocComment) → comment_after_hash f ≡ Some c → (flat_count 2 f ≡ 6) × (c.is_inner ≡ true)
 hash_count (leaf (punct q) rest) c h =
-    let t = if_some (q.char == 33 && not (is_joint q.spacing)) (in_brackets true rest) c h in
+    let t = if_some (q.char == 33 && not (is_joint q.spacing)) (bracketed_comment true rest) c h in
     let n = brackets_count true rest c t.1 in (ap suc n.0, n.1)
 hash_count f c h = absurd (cc)
 
-punct_count : (p : Punct) (f : Forest) (c : Comment) → after_punct p f ≡ Some c
+punct_count : (p : Punct) (f : Forest) (c : DocComment) → after_punct p f ≡ Some c
     → flat_count (more_trees c.is_inner) f ≡ more_tokens c.is_inner
 punct_count p f c h = by p.spacing (if_none (p.char == 35) _ c h).1
   where
-    by : (sp : Spacing) → (if is_joint sp then after_hash f else in_brackets false f) ≡ Some c
+    by : (sp : Spacing) → (if is_joint sp then comment_after_hash f else bracketed_comment false f) ≡ Some c
         → flat_count (more_trees c.is_inner) f ≡ more_tokens c.is_inner
     by Joint m = let n = hash_count f c m in rw (n.1) n.0
     by Alone m = let n = brackets_count false f c m in rw (n.1) n.0
 
-and_then_some : (b : Bool) (o : Option Comment) (c : Comment)
+and_then_some : (b : Bool) (o : Option DocComment) (c : DocComment)
     → option_and_then (λ x. if b then Some x else None) o ≡ Some c
     → o ≡ Some c
 and_then_some b None c h = absurd (cc)
@@ -272,6 +281,7 @@ and_then_some true (Some x) c h = h
 and_then_some false (Some x) c h = absurd (cc)
 
 -- a comment's trees are its tokens
-pub comment_count : (p : Punct) (f : Forest) (s : State) (c : Comment) → next_comment s (leaf (punct p) f) ≡ Some c
+pub comment_count : (p : Punct) (f : Forest) (s : PrinterState) (c : DocComment) → next_comment s (leaf (punct p) f)
+    ≡ Some c
     → flat_count (more_trees c.is_inner) f ≡ more_tokens c.is_inner
 comment_count p f s c h = punct_count p f c (and_then_some (may_precede_comment s.last) (after_punct p f) c h)

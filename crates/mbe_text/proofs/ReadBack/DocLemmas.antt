@@ -1,10 +1,13 @@
 -- A doc comment is read.
-use Rattle.std.proofs.Common.{◌≡◌, ℕ, zero, suc, ◌==◌, ◌<◌, not, ◌&&◌, ◌||◌, Bool, true, false, List, [], ◌∷◌, ◌++◌, length, refl, sym, ap, ◌∙◌, arith, Option, Some, None, Ok, IsUtf8, IsAscii, chars, encode_utf8, encode_utf8_all, subst, append_assoc, append-nil}
+use Rattle.std.proofs.Common.{◌≡◌, ℕ, zero, suc, ◌==◌, ◌<◌, not, ◌&&◌, ◌||◌, Bool, true, false, List, [], ◌∷◌, ◌++◌}
+use Rattle.std.proofs.Common.{length, refl, sym, ap, ◌∙◌, arith, Option, Some, None, Ok, IsUtf8, IsAscii, chars}
+use Rattle.std.proofs.Common.{encode_utf8, encode_utf8_all, subst, append_assoc, append-nil}
 use Rattle.std.specs.Prelude.{replicate}
 use Rattle.std.specs.List.{list_any}
 use Rattle.std.proofs.lemmas.Bool.Decides.{nat_tests}
 use Rattle.std.proofs.lemmas.List.Folds.{list_any-append}
-use Rattle.std.proofs.lemmas.Str.{chars-append, chars-IsAscii, encodes-chars, encode_ascii, IsUtf8-append, IsUtf8-nil, IsUtf8-past_char, IsUtf8-take, IsUtf8-from_ascii, IsCharBoundary-at_seam}
+use Rattle.std.proofs.lemmas.Str.{chars-append, chars-IsAscii, encodes-chars, encode_ascii, IsUtf8-append, IsUtf8-nil}
+use Rattle.std.proofs.lemmas.Str.{IsUtf8-past_char, IsUtf8-take, IsUtf8-from_ascii, IsCharBoundary-at_seam}
 use Rattle.std.proofs.Math.Seq.{take-append_seam}
 use Rattle.unicode_ident.proofs.Computing.{unicode_ident}
 use Rattle.mbe_tt.specs.declared.span.Edition.{Edition}
@@ -13,18 +16,20 @@ use Rattle.mbe_tt.specs.declared.tt.LitKind.TheVariants.{StrRaw}
 use Rattle.mbe_tt.specs.Trees.Editions.{at_least_2024}
 use Rattle.mbe_tt.specs.Trees.Leaf.{Literal}
 use Rattle.mbe_tt.specs.Trees.Literals as marks
-use Rattle.mbe_text.specs.RustText.Comments.{Comment, is_comment, is_closed, is_line_end, begins_with_mark, begins_with_slash}
+use Rattle.mbe_text.specs.RustText.DocComments.{DocComment, is_comment, is_closed, is_line_end, begins_with_mark}
+use Rattle.mbe_text.specs.RustText.DocComments.{begins_with_slash}
 use Rattle.mbe_text.specs.RustText.Gaps.{indent}
-use Rattle.mbe_text.specs.RustText.Writing.{comment_end, comment_marks, comment_text}
+use Rattle.mbe_text.specs.RustText.Printer.{comment_closer, comment_opener, comment_text}
 use Rattle.mbe_text.specs.declared.dialect.Dialect.TheVariants.{Rust}
-use Rattle.mbe_text.specs.Dialect.{or_sign}
-use Rattle.mbe_text.specs.Rust.{Token, read_rust, is_guard, begins_doc, block_doc, doc_until, from_return}
+use Rattle.mbe_text.specs.Dialect.{or_punctuation}
+use Rattle.mbe_text.specs.RustTokens.{RustTokenResult, read_rust, is_guard, begins_doc, block_doc, doc_until}
+use Rattle.mbe_text.specs.RustTokens.{from_carriage_return}
 use Rattle.mbe_text.specs.Shapes.{doc_of}
-use Rattle.mbe_text.specs.Trivia.{past_blanks}
+use Rattle.mbe_text.specs.Trivia.{past_trivia}
 use Rattle.mbe_text.proofs.LineDocs.{last_mark, line_doc_is}
 use Rattle.mbe_text.proofs.Reading.{literal_written}
 use Rattle.mbe_text.specs.Laws.Gaps.{before}
-use Rattle.mbe_text.specs.Laws.Rust.{is_start}
+use Rattle.mbe_text.specs.Laws.RustTrees.{is_start}
 use Rattle.mbe_text.proofs.ReadBack.BlockLemmas.{closed_no_return, ends_after, mark_is_byte}
 use Rattle.mbe_text.proofs.ReadBack.GapLemmas.{nothing_is_ascii, one_more, gap_is_ascii}
 use Rattle.mbe_text.proofs.ReadBack.QuoteLemmas.{front_of}
@@ -87,10 +92,10 @@ doc_read e b cs tail h k =
     let all : List ℕ = 47 ∷ (last_mark b ∷ (cs ++ (10 ∷ tail))) in
     let guard = no_guard e all in
     let is = is_a_doc b cs tail h in
-    rw (slash_not_start, guard, is) (ap (λ (t : Token). Some t) (line_doc_is b cs tail k))
+    rw (slash_not_start, guard, is) (ap (λ (t : RustTokenResult). Some t) (line_doc_is b cs tail k))
 
 not_blank : (e : Edition) (total : ℕ) (cs : List ℕ) → begins_doc (47 ∷ cs) ≡ true
-    → past_blanks (Rust e) total (length (47 ∷ cs)) (47 ∷ cs) ≡ Ok (47 ∷ cs)
+    → past_trivia (Rust e) total (length (47 ∷ cs)) (47 ∷ cs) ≡ Ok (47 ∷ cs)
 not_blank e total cs h = rw h refl
 
 doc_reads : (e : Edition) (total : ℕ) (b : Bool) (cs tail : List ℕ) → begins_right b cs ≡ true → ends cs ≡ false
@@ -100,7 +105,7 @@ doc_reads e total b cs tail h k =
       from = 47 ∷ all;
       is = read_here e total 47 all (10 ∷ tail) (doc_of (encode_utf8_all cs) b)
           (not_blank e total all (is_a_doc b cs tail h))
-          (ap (λ (o : Option Token). or_sign total (47 ∷ all) o) (doc_read e b cs tail h k));
+          (ap (λ (o : Option RustTokenResult). or_punctuation total (47 ∷ all) o) (doc_read e b cs tail h k));
     }
 
 -- ---- one of several lines
@@ -120,7 +125,7 @@ is_a_block true cs tail h = refl
 is_a_block false [] tail h = absurd (cc)
 is_a_block false (c ∷ cs) tail h = grind (arith, nat_tests, h)
 
-text_until : (b : Bool) (cs end rest : List ℕ) → from_return cs ≡ None
+text_until : (b : Bool) (cs end rest : List ℕ) → from_carriage_return cs ≡ None
     → doc_until b (cs ++ end) end rest ≡ Ok (doc_of (encode_utf8_all cs) b, rest)
 text_until b cs end rest h = rw (doc_until, front_of cs end, h, bytes_front cs end) refl
 
@@ -137,7 +142,7 @@ block_read e b cs tail h k =
     let all : List ℕ = 42 ∷ (block_mark b ∷ (cs ++ (42 ∷ (47 ∷ tail)))) in
     let guard = no_guard e all in
     let is = is_a_block b cs tail h in
-    rw (slash_not_start, guard, is) (ap (λ (t : Token). Some t) (block_of b cs tail k
+    rw (slash_not_start, guard, is) (ap (λ (t : RustTokenResult). Some t) (block_of b cs tail k
     ∙ text_until b cs (42 ∷ (47 ∷ tail)) tail (closed_no_return 0 0 cs k)))
 
 block_reads : (e : Edition) (total : ℕ) (b : Bool) (cs tail : List ℕ) → begins_block b cs ≡ true
@@ -148,7 +153,7 @@ block_reads e total b cs tail h k =
       from = 47 ∷ all;
       is = read_here e total 47 all tail (doc_of (encode_utf8_all cs) b)
           (not_blank e total all (is_a_block b cs tail h))
-          (ap (λ (o : Option Token). or_sign total (47 ∷ all) o) (block_read e b cs tail h k));
+          (ap (λ (o : Option RustTokenResult). or_punctuation total (47 ∷ all) o) (block_read e b cs tail h k));
     }
 
 -- ---- bytes
@@ -166,20 +171,20 @@ three_ascii : (b c : ℕ) → b < 128 → c < 128 → IsAscii (47 ∷ (b ∷ (c 
 three_ascii b c h k =
     one_more 47 (b ∷ (c ∷ [])) (omega arith) (one_more b (c ∷ []) h (one_more c [] k nothing_is_ascii))
 
-marks_are_ascii : (inner block : Bool) → IsAscii (comment_marks inner block)
+marks_are_ascii : (inner block : Bool) → IsAscii (comment_opener inner block)
 marks_are_ascii true false = three_ascii 47 33 (omega arith) (omega arith)
 marks_are_ascii false false = three_ascii 47 47 (omega arith) (omega arith)
 marks_are_ascii true true = three_ascii 42 33 (omega arith) (omega arith)
 marks_are_ascii false true = three_ascii 42 42 (omega arith) (omega arith)
 
 marks_are : (inner block : Bool)
-    → chars (comment_marks inner block) ≡ 47 ∷ (second_mark block ∷ (third_mark inner block ∷ []))
-marks_are true false = chars-IsAscii (comment_marks true false) (marks_are_ascii true false)
-marks_are false false = chars-IsAscii (comment_marks false false) (marks_are_ascii false false)
-marks_are true true = chars-IsAscii (comment_marks true true) (marks_are_ascii true true)
-marks_are false true = chars-IsAscii (comment_marks false true) (marks_are_ascii false true)
+    → chars (comment_opener inner block) ≡ 47 ∷ (second_mark block ∷ (third_mark inner block ∷ []))
+marks_are true false = chars-IsAscii (comment_opener true false) (marks_are_ascii true false)
+marks_are false false = chars-IsAscii (comment_opener false false) (marks_are_ascii false false)
+marks_are true true = chars-IsAscii (comment_opener true true) (marks_are_ascii true true)
+marks_are false true = chars-IsAscii (comment_opener false true) (marks_are_ascii false true)
 
-end_is_ascii : (block : Bool) → IsAscii (comment_end block)
+end_is_ascii : (block : Bool) → IsAscii (comment_closer block)
 end_is_ascii false = nothing_is_ascii
 end_is_ascii true = one_more 42 (47 ∷ []) (omega arith) (one_more 47 [] (omega arith) nothing_is_ascii)
 
@@ -191,31 +196,32 @@ line_is_ascii depth = gap_is_ascii depth true false false
 
 -- what follows a comment's text
 abbrev after_text : Bool → ℕ → List ℕ
-after_text block depth = comment_end block ++ line_gap depth
+after_text block depth = comment_closer block ++ line_gap depth
 
 after_utf8 : (block : Bool) (depth : ℕ) → IsUtf8 (after_text block depth)
 after_utf8 block depth =
-    IsUtf8-append (comment_end block) (line_gap depth) (IsUtf8-from_ascii (comment_end block) (end_is_ascii block))
+    IsUtf8-append (comment_closer block) (line_gap depth)
+    (IsUtf8-from_ascii (comment_closer block) (end_is_ascii block))
     (IsUtf8-from_ascii (line_gap depth) (line_is_ascii depth))
 
 after_chars : (block : Bool) (depth : ℕ) → chars (after_text block depth) ≡ after_text block depth
 after_chars block depth =
-    chars-append (comment_end block) (line_gap depth) (IsUtf8-from_ascii (comment_end block) (end_is_ascii block))
-    ∙ (ap (λ (x : List ℕ). x ++ chars (line_gap depth)) (chars-IsAscii (comment_end block) (end_is_ascii block))
-    ∙ ap (λ (x : List ℕ). comment_end block ++ x) (chars-IsAscii (line_gap depth) (line_is_ascii depth)))
+    chars-append (comment_closer block) (line_gap depth) (IsUtf8-from_ascii (comment_closer block) (end_is_ascii block))
+    ∙ (ap (λ (x : List ℕ). x ++ chars (line_gap depth)) (chars-IsAscii (comment_closer block) (end_is_ascii block))
+    ∙ ap (λ (x : List ℕ). comment_closer block ++ x) (chars-IsAscii (line_gap depth) (line_is_ascii depth)))
 
-pub comment_utf8 : (c : Comment) (depth : ℕ) → IsUtf8 c.text → IsUtf8 (comment_text c depth)
+pub comment_utf8 : (c : DocComment) (depth : ℕ) → IsUtf8 c.text → IsUtf8 (comment_text c depth)
 comment_utf8 c depth h =
-    IsUtf8-append (comment_marks c.is_inner c.is_block) (c.text ++ after_text c.is_block depth)
-    (IsUtf8-from_ascii (comment_marks c.is_inner c.is_block) (marks_are_ascii c.is_inner c.is_block))
+    IsUtf8-append (comment_opener c.is_inner c.is_block) (c.text ++ after_text c.is_block depth)
+    (IsUtf8-from_ascii (comment_opener c.is_inner c.is_block) (marks_are_ascii c.is_inner c.is_block))
     (IsUtf8-append c.text (after_text c.is_block depth) h (after_utf8 c.is_block depth))
 
-pub comment_chars : (c : Comment) (depth : ℕ) (rest : List ℕ) → IsUtf8 c.text
+pub comment_chars : (c : DocComment) (depth : ℕ) (rest : List ℕ) → IsUtf8 c.text
     → chars (comment_text c depth) ++ rest
     ≡ 47 ∷ (second_mark c.is_block ∷ (third_mark c.is_inner c.is_block ∷ (chars c.text
-    ++ (comment_end c.is_block ++ (line_gap depth ++ rest)))))
+    ++ (comment_closer c.is_block ++ (line_gap depth ++ rest)))))
 comment_chars c depth rest h =
-    let marks : List ℕ = comment_marks c.is_inner c.is_block in
+    let marks : List ℕ = comment_opener c.is_inner c.is_block in
     let end : List ℕ = after_text c.is_block depth in
     let second : ℕ = second_mark c.is_block in
     let third : ℕ = third_mark c.is_inner c.is_block in
@@ -226,7 +232,7 @@ comment_chars c depth rest h =
     ∙ ap (λ (x : List ℕ). chars c.text ++ x) (after_chars c.is_block depth))) in
     ap (λ (x : List ℕ). x ++ rest) shown
     ∙ ap (λ (x : List ℕ). 47 ∷ (second ∷ (third ∷ x))) (append_assoc (chars c.text) end rest
-    ∙ ap (λ (x : List ℕ). chars c.text ++ x) (append_assoc (comment_end c.is_block) (line_gap depth) rest))
+    ∙ ap (λ (x : List ℕ). chars c.text ++ x) (append_assoc (comment_closer c.is_block) (line_gap depth) rest))
 
 -- a `/` is one byte
 slash_is_byte : (cs : List ℕ) → begins_with_slash (encode_utf8_all cs) ≡ false → begins_with_slash cs ≡ false
@@ -257,7 +263,7 @@ both false y h = absurd (cc)
 -- the characters of a comment's text
 abbrev IsRead : Edition → ℕ → Bool → Bool → List ℕ → ℕ → List ℕ → Type 0
 IsRead e total inner block cs depth rest =
-    Reads e total (47 ∷ (second_mark block ∷ (third_mark inner block ∷ (cs ++ (comment_end block ++ (line_gap
+    Reads e total (47 ∷ (second_mark block ∷ (third_mark inner block ∷ (cs ++ (comment_closer block ++ (line_gap
     depth ++ rest)))))) (doc_of (encode_utf8_all cs) inner) (line_gap depth ++ rest)
 
 text_reads : (e : Edition) (total : ℕ) (inner block : Bool) (text cs : List ℕ) (depth : ℕ) (rest : List ℕ)
@@ -279,7 +285,7 @@ text_reads e total inner true text cs depth rest same shown h =
     (ap (λ (x : List ℕ). is_closed 0 0 x) (sym shown) ∙ two.1)
 
 -- a comment that is written is read, up to its line's end
-pub comment_reads : (e : Edition) (total : ℕ) (c : Comment) (depth : ℕ) (rest : List ℕ) → IsUtf8 c.text
+pub comment_reads : (e : Edition) (total : ℕ) (c : DocComment) (depth : ℕ) (rest : List ℕ) → IsUtf8 c.text
     → is_comment c.is_inner c.is_block c.text ≡ true
     → Reads e total (chars (comment_text c depth) ++ rest) (doc_of c.text c.is_inner) (line_gap depth ++ rest)
 comment_reads e total c depth rest u h =
@@ -288,7 +294,7 @@ comment_reads e total c depth rest u h =
     subst (λ (x : List ℕ). Reads e total (chars (comment_text c depth) ++ rest) (doc_of x c.is_inner)
     (line_gap depth ++ rest)) same
     (reads_same e total (chars (comment_text c depth) ++ rest) (47 ∷ (second_mark c.is_block ∷ (third_mark
-    c.is_inner c.is_block ∷ (cs ++ (comment_end c.is_block ++ (line_gap depth ++ rest))))))
+    c.is_inner c.is_block ∷ (cs ++ (comment_closer c.is_block ++ (line_gap depth ++ rest))))))
     (line_gap depth ++ rest) (doc_of (encode_utf8_all cs) c.is_inner) (comment_chars c depth rest u)
     (text_reads e total c.is_inner c.is_block c.text cs depth rest same refl h))
 

@@ -1,12 +1,13 @@
 -- The raw string of a doc comment is spelled as a literal.
-use Rattle.std.proofs.Common.{◌≡◌, ℕ, zero, suc, List, [], ◌∷◌, ◌++◌, refl, sym, ap, ◌∙◌, arith, true, encode_utf8_all, chars, IsUtf8, subst}
+use Rattle.std.proofs.Common.{◌≡◌, ℕ, zero, suc, List, [], ◌∷◌, ◌++◌, refl, sym, ap, ◌∙◌, arith, true, encode_utf8_all}
+use Rattle.std.proofs.Common.{chars, IsUtf8, subst}
 use Rattle.std.proofs.Math.Utf8.{scalars}
 use Rattle.std.proofs.lemmas.Str.{chars-encodes, chars-append, chars-nil, IsUtf8-append, IsUtf8-nil}
 use Rattle.mbe_tt.specs.Trees.Leaf.{Literal}
 use Rattle.mbe_tt.specs.Trees.Literals as marks
 use Rattle.mbe_tt.specs.declared.tt.LitKind.TheVariants.{StrRaw}
 use Rattle.mbe_text.specs.Tokens.{most_guards}
-use Rattle.mbe_text.specs.Laws.Rust.{IsSpelled, begins_literal}
+use Rattle.mbe_text.specs.Laws.RustTrees.{IsSpelled, begins_literal}
 use Rattle.mbe_text.proofs.ReadBack.EndLemmas.{r_is_start}
 use Rattle.mbe_text.proofs.ReadBack.TextLemmas.{ascii_utf8}
 use Rattle.mbe_text.proofs.ReadBack.QuoteLemmas.{one_char, letter_begins}

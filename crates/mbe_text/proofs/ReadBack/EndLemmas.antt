@@ -6,8 +6,8 @@ use Rattle.unicode_ident.specs.Ident.{is_xid_continue}
 use Rattle.unicode_ident.proofs.IdentLemmas.{is_xid_start-ascii, is_xid_continue-ascii}
 use Rattle.unicode_ident.proofs.Computing.{unicode_ident}
 use Rattle.mbe_text.specs.Characters.{is_space}
-use Rattle.mbe_text.specs.Rust.{begins_reserved}
-use Rattle.mbe_text.specs.Laws.Rust.{is_start, continues_word, ends_literal}
+use Rattle.mbe_text.specs.RustTokens.{begins_reserved}
+use Rattle.mbe_text.specs.Laws.RustTrees.{is_start, continues_word, ends_literal}
 use Rattle.mbe_text.specs.Laws.Gaps.{is_punct}
 
 -- nothing, a space or a line feed

@@ -1,5 +1,6 @@
 -- What a token is written before ends it.
-use Rattle.std.proofs.Common.{◌≡◌, ◌≢◌, ℕ, ◌==◌, ◌<◌, not, ◌&&◌, Bool, true, false, List, [], ◌∷◌, ◌++◌, refl, sym, ap, ◌∙◌, arith, codes, Option, Some, None, IsUtf8, chars, encode_utf8, subst}
+use Rattle.std.proofs.Common.{◌≡◌, ◌≢◌, ℕ, ◌==◌, ◌<◌, not, ◌&&◌, Bool, true, false, List, [], ◌∷◌, ◌++◌, refl, sym, ap}
+use Rattle.std.proofs.Common.{◌∙◌, arith, codes, Option, Some, None, IsUtf8, chars, encode_utf8, subst}
 use Rattle.std.proofs.lemmas.Bool.Decides.{nat_tests}
 use Rattle.std.proofs.lemmas.Str.{chars-append, IsUtf8-append, encode_ascii}
 use Rattle.std.specs.List.{list_any}
@@ -15,17 +16,22 @@ use Rattle.mbe_tt.specs.declared.tt.IdentIsRaw.TheVariants.{Yes, No}
 use Rattle.mbe_tt.specs.Trees.Leaf.{Ident, literal, punct, ident, is_text}
 use Rattle.mbe_tt.specs.Trees.Literals.{raw_prefix, literal_output}
 use Rattle.mbe_tt.specs.Trees.Tree.{FlatToken, token, opening, closing}
-use Rattle.mbe_text.specs.RustText.Gaps.{is_word_apart, joins_word, is_literal_apart, joins_literal, is_punct_apart, stays_with, is_one_of, keywords, indent, is_beside, is_before, is_same_place, is_colon, is_line_start}
-use Rattle.mbe_text.specs.RustText.Comments.{Comment}
-use Rattle.mbe_text.specs.RustText.Writing.{State, word, a_punct, a_comment, comment_text, name_text}
+use Rattle.mbe_text.specs.RustText.Gaps.{separates_word, merges_with_word, separates_literal, merges_with_literal}
+use Rattle.mbe_text.specs.RustText.Gaps.{separates_punct, may_touch_punct, is_one_of, keywords, indent, is_adjacent}
+use Rattle.mbe_text.specs.RustText.Gaps.{is_adjacent_to_next, has_same_span, is_colon, is_line_start}
+use Rattle.mbe_text.specs.RustText.DocComments.{DocComment}
+use Rattle.mbe_text.specs.RustText.Printer.{PrinterState, word, with_punct, with_comment, comment_text, name_text}
 use Rattle.mbe_tt.specs.declared.span.Span.{Span}
 use Rattle.mbe_text.specs.Characters.{begins_with}
 use Rattle.mbe_text.specs.Tokens.{opening_text, closing_text}
 use Rattle.mbe_text.specs.Laws.Gaps.{before, is_punct}
-use Rattle.mbe_text.specs.Laws.Rust.{next_place, more_tokens, AreRust, IsWord, IsIdent, IsSign, IsPunct, is_start, begins_word, begins_literal}
-use Rattle.mbe_text.proofs.ReadBack.EndLemmas.{begins_gap, ends_word, ends_punct, gap_ends_word, punct_not_continue, punct_not_start, punct_small, r_is_start, is_not, quotes_not_start}
+use Rattle.mbe_text.specs.Laws.RustTrees.{next_place, more_tokens, AreRust, IsWord, IsIdent, IsSign, IsPunct, is_start}
+use Rattle.mbe_text.specs.Laws.RustTrees.{begins_word, begins_literal}
+use Rattle.mbe_text.proofs.ReadBack.EndLemmas.{begins_gap, ends_word, ends_punct, gap_ends_word, punct_not_continue}
+use Rattle.mbe_text.proofs.ReadBack.EndLemmas.{punct_not_start, punct_small, r_is_start, is_not, quotes_not_start}
 use Rattle.mbe_text.proofs.ReadBack.CommentLemmas.{comment_next}
-use Rattle.mbe_text.proofs.ReadBack.TextLemmas.{after, ahead, next_written, token_or_comment, the_gap, gap_of, ascii_utf8, ascii_chars, word_text}
+use Rattle.mbe_text.proofs.ReadBack.TextLemmas.{after, ahead, next_written, token_or_comment, the_gap, gap_of}
+use Rattle.mbe_text.proofs.ReadBack.TextLemmas.{ascii_utf8, ascii_chars, word_text}
 
 -- ---- what a token begins with
 
@@ -102,7 +108,7 @@ gapped P false true false depth cs g k = g (32 ∷ cs) refl
 gapped P false false beside depth cs g k = k refl
 
 -- a property of gaps is one of a text if it is one of the next token's where no gap is before it
-pub follows : (P : List ℕ → Bool) (t : FlatToken) (ts : List FlatToken) (s : State) → ((xs : List ℕ)
+pub follows : (P : List ℕ → Bool) (t : FlatToken) (ts : List FlatToken) (s : PrinterState) → ((xs : List ℕ)
     → begins_gap xs ≡ true → P xs ≡ true)
     → (((next_written t ts s).gap.apart && not (next_written t ts s).gap.beside) ≡ false
     → P (chars (next_written t ts s).text ++ ahead (next_written t ts s).more ts (next_written t ts s).state) ≡ true)
@@ -118,7 +124,7 @@ on_a_line P true depth cs g h = absurd (cc)
 on_a_line P false depth cs g h = g (10 ∷ (indent depth ++ cs)) refl
 
 -- A comment begins a line, but at the start of one.
-pub follows_punct : (P : List ℕ → Bool) (p : Punct) (ts : List FlatToken) (s : State) → ((xs : List ℕ)
+pub follows_punct : (P : List ℕ → Bool) (p : Punct) (ts : List FlatToken) (s : PrinterState) → ((xs : List ℕ)
     → begins_gap xs ≡ true → P xs ≡ true)
     → is_line_start s.last ≡ false
     → (((the_gap (token (punct p)) ts s).apart && not (the_gap (token (punct p)) ts s).beside) ≡ false
@@ -126,20 +132,20 @@ pub follows_punct : (P : List ℕ → Bool) (p : Punct) (ts : List FlatToken) (s
     → P (ahead 0 (token (punct p) ∷ ts) s) ≡ true
 follows_punct P p ts s g begun k = by (comment_next p ts s) refl
   where
-    here : Option Comment → Type 0
+    here : Option DocComment → Type 0
     here o =
         P (gap_of (token_or_comment o (token (punct p)) ts s).gap (token_or_comment o (token (punct p)) ts s).depth
         ++ (chars (token_or_comment o (token (punct p)) ts s).text ++ ahead
         (token_or_comment o (token (punct p)) ts s).more ts (token_or_comment o (token (punct p)) ts s).state)) ≡ true
 
-    by : (o : Option Comment) → comment_next p ts s ≡ o → P (ahead 0 (token (punct p) ∷ ts) s) ≡ true
+    by : (o : Option DocComment) → comment_next p ts s ≡ o → P (ahead 0 (token (punct p) ∷ ts) s) ≡ true
     by None e =
         let t = the_gap (token (punct p)) ts s in
         subst here (sym e) (gapped P t.line t.apart t.beside s.depth (chars (encode_utf8 p.char) ++ ahead 0 ts
         (after (token (punct p)) ts s)) g k)
     by (Some c) e =
         subst here (sym e) (on_a_line P (is_line_start s.last) s.depth (chars (comment_text c s.depth) ++ ahead
-        (more_tokens c.is_inner) ts (a_comment s c)) g begun)
+        (more_tokens c.is_inner) ts (with_comment s c)) g begun)
 
 -- tokens that are to be apart and may not stay side by side are kept apart
 pub never : (a b c : Bool) → a ≡ true → c ≡ false → (a && not (b && c)) ≡ false → ⊥
@@ -150,20 +156,20 @@ never false b c p q h = absurd (cc)
 
 -- ---- after a word
 
-pub record WordLike (s : State) : Type 0 where
-  pub words : is_word_apart s.last ≡ true
-  pub joined_words : not (joins_word s.last) ≡ false
-  pub literals : is_literal_apart s.last ≡ true
-  pub joined_literals : not (joins_literal s.last) ≡ false
-  pub puncts : (one_place : Bool) (c : ℕ) (sp : Spacing) → is_one_of c (codes "#'") ≡ true
-      → is_punct_apart s.last one_place c sp ≡ true
-  pub stay : (c : ℕ) (b : Bool) → is_one_of c (codes "#'") ≡ true → stays_with s.last c b ≡ false
+pub record WordLike (s : PrinterState) : Type 0 where
+  pub words : separates_word s.last ≡ true
+  pub joined_words : not (merges_with_word s.last) ≡ false
+  pub literals : separates_literal s.last ≡ true
+  pub joined_literals : not (merges_with_literal s.last) ≡ false
+  pub puncts : (same_span : Bool) (c : ℕ) (sp : Spacing) → is_one_of c (codes "#'") ≡ true
+      → separates_punct s.last same_span c sp ≡ true
+  pub stay : (c : ℕ) (b : Bool) → is_one_of c (codes "#'") ≡ true → may_touch_punct s.last c b ≡ false
   pub begun : is_line_start s.last ≡ false
 
 marks : (c : ℕ) → is_one_of c (codes "#'") ≡ true → not (is_one_of c (codes ",;?.:!")) ≡ true
 marks c h = grind (arith, nat_tests, h)
 
-word_like_of : (s : State) (i : Ident) (b : Bool) → list_any (is_text (name_text i.sym)) (map codes keywords) ≡ b
+word_like_of : (s : PrinterState) (i : Ident) (b : Bool) → list_any (is_text (name_text i.sym)) (map codes keywords) ≡ b
     → WordLike (word s i)
 word_like_of s i true e = record {
   words = rw e refl;
@@ -184,7 +190,7 @@ word_like_of s i false e = record {
   begun = rw e refl;
 }
 
-pub word_like : (s : State) (i : Ident) → WordLike (word s i)
+pub word_like : (s : PrinterState) (i : Ident) → WordLike (word s i)
 word_like s i = word_like_of s i (list_any (is_text (name_text i.sym)) (map codes keywords)) refl
 
 pub side_ends_word : (c : ℕ) (cs : List ℕ) → is_side c ≡ true → ends_word (c ∷ cs) ≡ true
@@ -210,10 +216,10 @@ mark_is : (e : Edition) (p : Punct) (ts : List FlatToken) (b : Bool) → (p.char
 mark_is e p ts true h s n = absurd (let y = not_tick p.char h in let z : true ≡ false = sym y ∙ n in cc)
 mark_is e p ts false h s n = s.0
 
-word_before_punct : (e : Edition) (s : State) (p : Punct) (ts : List FlatToken) (rest : List ℕ)
-    (one_place b side : Bool) (m : Bool) → is_one_of p.char (codes "#'") ≡ m
-    → WordLike s → IsPunct e p ts → (is_punct_apart s.last one_place p.char p.spacing && not
-    (b && stays_with s.last p.char side)) ≡ false
+word_before_punct : (e : Edition) (s : PrinterState) (p : Punct) (ts : List FlatToken) (rest : List ℕ)
+    (same_span b side : Bool) (m : Bool) → is_one_of p.char (codes "#'") ≡ m
+    → WordLike s → IsPunct e p ts → (separates_punct s.last same_span p.char p.spacing && not
+    (b && may_touch_punct s.last p.char side)) ≡ false
     → ends_word (chars (encode_utf8 p.char) ++ rest) ≡ true
 word_before_punct e s p ts rest o b side true m w h k = absurd (never _ b _ (w.puncts o p.char p.spacing m)
     (w.stay p.char side m) k)
@@ -221,7 +227,7 @@ word_before_punct e s p ts rest o b side false m w h k =
     fronted ends_word p.char (encode_utf8 p.char) rest (is_sign e p ts h)
     (punct_ends_word p.char rest (mark_is e p ts (p.char == 39) refl h m) m)
 
-pub word_ends : (e : Edition) (ts : List FlatToken) (s : State) → WordLike s → AreRust e ts
+pub word_ends : (e : Edition) (ts : List FlatToken) (s : PrinterState) → WordLike s → AreRust e ts
     → ends_word (ahead 0 ts s) ≡ true
 word_ends e [] s w h = refl
 word_ends e (token (ident i) ∷ ts) s w h =
@@ -230,9 +236,9 @@ word_ends e (token (literal l) ∷ ts) s w h =
     follows ends_word (token (literal l)) ts s gap_ends_word (λ k. absurd (never _ _ _ w.literals w.joined_literals k))
 word_ends e (token (punct p) ∷ ts) s w h =
     follows_punct ends_word p ts s gap_ends_word w.begun (λ k.
-    word_before_punct e s p ts (ahead 0 ts (after (token (punct p)) ts s)) (is_same_place s.place p.span)
-    (is_beside s.place p.span)
-    (is_before p.span (next_place ts)) (is_one_of p.char (codes "#'")) refl w h.0 k)
+    word_before_punct e s p ts (ahead 0 ts (after (token (punct p)) ts s)) (has_same_span s.token_span p.span)
+    (is_adjacent s.token_span p.span)
+    (is_adjacent_to_next p.span (next_place ts)) (is_one_of p.char (codes "#'")) refl w h.0 k)
 word_ends e (opening d ∷ ts) s w h =
     let o = opening_is d.kind h.0 in
     follows ends_word (opening d) ts s gap_ends_word (λ k. fronted ends_word o.char (opening_text d.kind) (ahead 0 ts
@@ -250,28 +256,28 @@ word_ends e (closing d ∷ ts) s w h =
 abbrev pub ends_alone : ℕ → List ℕ → Bool
 ends_alone c rest = ends_punct rest && not (c == 35 && begins_with (codes "\"") rest)
 
-pub record AloneLike (c : ℕ) (s : State) : Type 0 where
-  pub puncts : (one_place : Bool) (d : ℕ) (sp : Spacing) → is_punct_apart s.last one_place d sp ≡ true
-  pub stay : (d : ℕ) (b : Bool) → stays_with s.last d b ≡ (d == 39)
-  pub literals : (c == 35) ≡ true → is_literal_apart s.last ≡ true
-  pub joined_literals : (c == 35) ≡ true → not (joins_literal s.last) ≡ false
+pub record AloneLike (c : ℕ) (s : PrinterState) : Type 0 where
+  pub puncts : (same_span : Bool) (d : ℕ) (sp : Spacing) → separates_punct s.last same_span d sp ≡ true
+  pub stay : (d : ℕ) (b : Bool) → may_touch_punct s.last d b ≡ (d == 39)
+  pub literals : (c == 35) ≡ true → separates_literal s.last ≡ true
+  pub joined_literals : (c == 35) ≡ true → not (merges_with_literal s.last) ≡ false
   pub begun : is_line_start s.last ≡ false
 
 hash_is_alone : (c : ℕ) → (c == 35) ≡ true → ((c == 59) ≡ false) × ((c == 58) ≡ false) × (not (c == 46) ≡ true)
 hash_is_alone c h = (grind (arith, nat_tests, h), grind (arith, nat_tests, h), grind (arith, nat_tests, h))
 
-alone_like_of : (c : ℕ) (place : Span) (next : Option Span) (s : State) (semicolon colons : Bool)
+alone_like_of : (c : ℕ) (token_span : Span) (next : Option Span) (s : PrinterState) (semicolon colons : Bool)
     → (c == 59) ≡ semicolon
-    → (c == 58 && is_colon s.last) ≡ colons → AloneLike c (a_punct s
-    (record { char = c; spacing = Alone; span = place }) next)
-alone_like_of c place next s true colons e f = record {
+    → (c == 58 && is_colon s.last) ≡ colons → AloneLike c (with_punct s
+    (record { char = c; spacing = Alone; span = token_span }) next)
+alone_like_of c token_span next s true colons e f = record {
   puncts = λ o d sp. rw e refl;
   stay = λ d b. rw e refl;
   literals = λ h. absurd (let z : true ≡ false = sym e ∙ (hash_is_alone c h).0 in cc);
   joined_literals = λ h. absurd (let z : true ≡ false = sym e ∙ (hash_is_alone c h).0 in cc);
   begun = rw e refl;
 }
-alone_like_of c place next s false true e f = record {
+alone_like_of c token_span next s false true e f = record {
   puncts = λ o d sp. rw (e, f) refl;
   stay = λ d b. rw (e, f) refl;
   literals = λ h. absurd (let z : true ≡ false = sym f ∙ ap (λ (b : Bool). b && is_colon s.last)
@@ -280,7 +286,7 @@ alone_like_of c place next s false true e f = record {
       (hash_is_alone c h).1 in cc);
   begun = rw (e, f) refl;
 }
-alone_like_of c place next s false false e f = record {
+alone_like_of c token_span next s false false e f = record {
   puncts = λ o d sp. rw (e, f) refl;
   stay = λ d b. rw (e, f) refl;
   literals = λ h. rw (e, f) (hash_is_alone c h).2;
@@ -288,9 +294,9 @@ alone_like_of c place next s false false e f = record {
   begun = rw (e, f) refl;
 }
 
-pub alone_like : (c : ℕ) (place : Span) (next : Option Span) (s : State)
-    → AloneLike c (a_punct s (record { char = c; spacing = Alone; span = place }) next)
-alone_like c place next s = alone_like_of c place next s (c == 59) (c == 58 && is_colon s.last) refl refl
+pub alone_like : (c : ℕ) (token_span : Span) (next : Option Span) (s : PrinterState)
+    → AloneLike c (with_punct s (record { char = c; spacing = Alone; span = token_span }) next)
+alone_like c token_span next s = alone_like_of c token_span next s (c == 59) (c == 58 && is_colon s.last) refl refl
 
 gap_ends_alone : (c : ℕ) (cs : List ℕ) → begins_gap cs ≡ true → ends_alone c cs ≡ true
 gap_ends_alone c [] h = grind (arith, nat_tests)
@@ -325,16 +331,17 @@ literal_ends_alone c [] rest h f = absurd (cc)
 literal_ends_alone c (d ∷ ds) rest h f = let n = literal_not_punct d (is_start d) refl f in grind
     (arith, nat_tests, h, n)
 
-alone_before_literal : (c : ℕ) (b : Bool) (s : State) (text rest : List ℕ) (side : Bool) → (c == 35) ≡ b
+alone_before_literal : (c : ℕ) (b : Bool) (s : PrinterState) (text rest : List ℕ) (side : Bool) → (c == 35) ≡ b
     → AloneLike c s → begins_literal text ≡ true
-    → (is_literal_apart s.last && not (side && not (joins_literal s.last))) ≡ false → ends_alone c (text ++ rest) ≡ true
+    → (separates_literal s.last && not (side && not (merges_with_literal s.last))) ≡ false → ends_alone c (text ++ rest)
+    ≡ true
 alone_before_literal c true s text rest side e w f k = absurd (never _ side _ (w.literals e) (w.joined_literals e) k)
 alone_before_literal c false s text rest side e w f k = literal_ends_alone c text rest e f
 
-alone_before_punct : (e : Edition) (c : ℕ) (s : State) (p : Punct) (ts : List FlatToken) (rest : List ℕ)
-    (one_place b side : Bool) (m : Bool) → (p.char == 39) ≡ m
-    → AloneLike c s → IsPunct e p ts → (is_punct_apart s.last one_place p.char p.spacing && not
-    (b && stays_with s.last p.char side)) ≡ false
+alone_before_punct : (e : Edition) (c : ℕ) (s : PrinterState) (p : Punct) (ts : List FlatToken) (rest : List ℕ)
+    (same_span b side : Bool) (m : Bool) → (p.char == 39) ≡ m
+    → AloneLike c s → IsPunct e p ts → (separates_punct s.last same_span p.char p.spacing && not
+    (b && may_touch_punct s.last p.char side)) ≡ false
     → ends_alone c (chars (encode_utf8 p.char) ++ rest) ≡ true
 alone_before_punct e c s p ts rest o b side false m w h k = absurd (never _ b _ (w.puncts o p.char p.spacing)
     (w.stay p.char side ∙ m) k)
@@ -352,7 +359,7 @@ word_front P i rest w k = elim i.is_raw as (λ r. P (chars (raw_prefix r ++ name
       ∙ k 114 (35 ∷ (chars (name_text i.sym) ++ rest)) r_is_start
 ]
 
-pub alone_ends : (e : Edition) (c : ℕ) (ts : List FlatToken) (s : State) → AloneLike c s → AreRust e ts
+pub alone_ends : (e : Edition) (c : ℕ) (ts : List FlatToken) (s : PrinterState) → AloneLike c s → AreRust e ts
     → ends_alone c (ahead 0 ts s) ≡ true
 alone_ends e c [] s w h = gap_ends_alone c [] refl
 alone_ends e c (token (ident i) ∷ ts) s w h =
@@ -361,12 +368,12 @@ alone_ends e c (token (ident i) ∷ ts) s w h =
 alone_ends e c (token (literal l) ∷ ts) s w h =
     follows (ends_alone c) (token (literal l)) ts s (gap_ends_alone c) (λ k.
     alone_before_literal c (c == 35) s (chars (literal_output l)) (ahead 0 ts (after (token (literal l)) ts s))
-    (is_beside s.place l.span) refl w h.0.0.1 k)
+    (is_adjacent s.token_span l.span) refl w h.0.0.1 k)
 alone_ends e c (token (punct p) ∷ ts) s w h =
     follows_punct (ends_alone c) p ts s (gap_ends_alone c) w.begun (λ k.
-    alone_before_punct e c s p ts (ahead 0 ts (after (token (punct p)) ts s)) (is_same_place s.place p.span)
-    (is_beside s.place p.span)
-    (is_before p.span (next_place ts)) (p.char == 39) refl w h.0 k)
+    alone_before_punct e c s p ts (ahead 0 ts (after (token (punct p)) ts s)) (has_same_span s.token_span p.span)
+    (is_adjacent s.token_span p.span)
+    (is_adjacent_to_next p.span (next_place ts)) (p.char == 39) refl w h.0 k)
 alone_ends e c (opening d ∷ ts) s w h =
     let o = opening_is d.kind h.0 in
     follows (ends_alone c) (opening d) ts s (gap_ends_alone c) (λ k. fronted (ends_alone c) o.char

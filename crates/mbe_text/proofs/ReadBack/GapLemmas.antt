@@ -1,52 +1,53 @@
 -- Gaps are white space, by one character after another.
-use Rattle.std.proofs.Common.{◌≡◌, ℕ, zero, suc, ◌<◌, Bool, true, false, List, [], ◌∷◌, ◌++◌, length, refl, ap, ◌∙◌, arith, chars, IsAscii, get_or}
+use Rattle.std.proofs.Common.{◌≡◌, ℕ, zero, suc, ◌<◌, Bool, true, false, List, [], ◌∷◌, ◌++◌, length, refl, ap, ◌∙◌}
+use Rattle.std.proofs.Common.{arith, chars, IsAscii, get_or}
 use Rattle.std.proofs.lemmas.Str.{chars-append, chars-IsAscii, IsUtf8-from_ascii}
 use Rattle.mbe_text.specs.RustText.Gaps.{indent}
 use Rattle.mbe_tt.specs.declared.tt.Spacing.TheVariants.{Alone, Joint}
 use Rattle.std.specs.Prelude.{not, ◌&&◌, if◌then◌else◌}
 use Rattle.mbe_text.specs.declared.dialect.Dialect.{Dialect}
 use Rattle.mbe_text.specs.declared.dialect.Dialect.TheVariants.{Sample, Rust}
-use Rattle.mbe_text.specs.Blanks.{begins_comment, blank}
+use Rattle.mbe_text.specs.Whitespace.{begins_comment, whitespace_class}
 use Rattle.mbe_text.specs.Characters.{has}
-use Rattle.mbe_text.specs.Division.{next_token}
-use Rattle.mbe_text.specs.Trivia.{past_blanks}
-use Rattle.mbe_text.specs.Laws.Gaps.{before, GapsAreBlank, GapsAreInBytes, GapsPartPuncts, PunctsJoin}
+use Rattle.mbe_text.specs.LexedTrees.{next_token}
+use Rattle.mbe_text.specs.Trivia.{past_trivia}
+use Rattle.mbe_text.specs.Laws.Gaps.{before, GapsAreBlank, GapsAreInBytes, GapsSeparatePuncts, PunctsJoin}
 
 -- a space and a line feed are white space in each dialect
-space_is_blank : (dialect : Dialect) → has (blank dialect) 32 ≡ true
+space_is_blank : (dialect : Dialect) → has (whitespace_class dialect) 32 ≡ true
 space_is_blank Sample = refl
 space_is_blank (Rust edition) = refl
 
-line_is_blank : (dialect : Dialect) → has (blank dialect) 10 ≡ true
+line_is_blank : (dialect : Dialect) → has (whitespace_class dialect) 10 ≡ true
 line_is_blank Sample = refl
 line_is_blank (Rust edition) = refl
 
-one_blank : (dialect : Dialect) (total n c : ℕ) (cs : List ℕ) → has (blank dialect) c ≡ true
-    → past_blanks dialect total (suc n) (c ∷ cs) ≡ past_blanks dialect total n cs
+one_blank : (dialect : Dialect) (total n c : ℕ) (cs : List ℕ) → has (whitespace_class dialect) c ≡ true
+    → past_trivia dialect total (suc n) (c ∷ cs) ≡ past_trivia dialect total n cs
 one_blank dialect total n c cs h = rw h refl
 
 space : (dialect : Dialect) (total : ℕ) (cs : List ℕ)
-    → past_blanks dialect total (length (32 ∷ cs)) (32 ∷ cs) ≡ past_blanks dialect total (length cs) cs
+    → past_trivia dialect total (length (32 ∷ cs)) (32 ∷ cs) ≡ past_trivia dialect total (length cs) cs
 space dialect total cs = one_blank dialect total (length cs) 32 cs (space_is_blank dialect)
 
 four_spaces : (dialect : Dialect) (total : ℕ) (cs : List ℕ)
-    → past_blanks dialect total (length (32 ∷ (32 ∷ (32 ∷ (32 ∷ cs))))) (32 ∷ (32 ∷ (32 ∷ (32 ∷ cs))))
-    ≡ past_blanks dialect total (length cs) cs
+    → past_trivia dialect total (length (32 ∷ (32 ∷ (32 ∷ (32 ∷ cs))))) (32 ∷ (32 ∷ (32 ∷ (32 ∷ cs))))
+    ≡ past_trivia dialect total (length cs) cs
 four_spaces dialect total cs =
     space dialect total (32 ∷ (32 ∷ (32 ∷ cs))) ∙ (space dialect total (32 ∷ (32 ∷ cs))
     ∙ (space dialect total (32 ∷ cs) ∙ space dialect total cs))
 
 indented : (dialect : Dialect) (total depth : ℕ) (cs : List ℕ)
-    → past_blanks dialect total (length (indent depth ++ cs)) (indent depth ++ cs)
-    ≡ past_blanks dialect total (length cs) cs
+    → past_trivia dialect total (length (indent depth ++ cs)) (indent depth ++ cs)
+    ≡ past_trivia dialect total (length cs) cs
 unfolding indent
 indented dialect total zero cs = refl
 indented dialect total (suc depth) cs =
     four_spaces dialect total (indent depth ++ cs) ∙ indented dialect total depth cs
 
 passed : (dialect : Dialect) (total depth : ℕ) (line apart beside : Bool) (cs : List ℕ)
-    → past_blanks dialect total (length (before line apart beside depth ++ cs)) (before line apart beside depth ++ cs)
-    ≡ past_blanks dialect total (length cs) cs
+    → past_trivia dialect total (length (before line apart beside depth ++ cs)) (before line apart beside depth ++ cs)
+    ≡ past_trivia dialect total (length cs) cs
 passed dialect total depth true apart beside cs =
     one_blank dialect total (length (indent depth ++ cs)) 10 (indent depth ++ cs) (line_is_blank dialect)
     ∙ indented dialect total depth cs
@@ -91,11 +92,11 @@ gaps_are_in_bytes depth line apart beside text =
 
 -- ---- puncts
 
-pub gaps_part_puncts : GapsPartPuncts
-gaps_part_puncts depth true apart beside cs h = refl
-gaps_part_puncts depth false true true cs h = cc
-gaps_part_puncts depth false true false cs h = refl
-gaps_part_puncts depth false false beside cs h = cc
+pub gaps_separate_puncts : GapsSeparatePuncts
+gaps_separate_puncts depth true apart beside cs h = refl
+gaps_separate_puncts depth false true true cs h = cc
+gaps_separate_puncts depth false true false cs h = refl
+gaps_separate_puncts depth false false beside cs h = cc
 
 pub puncts_join : PunctsJoin
 puncts_join c cs h other =

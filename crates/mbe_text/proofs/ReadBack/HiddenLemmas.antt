@@ -1,5 +1,6 @@
 -- Flat tokens without the spans of the other side of a group.
-use Rattle.std.proofs.Common.{◌≡◌, ℕ, zero, suc, ◌==◌, ◌⊎◌, not, ◌&&◌, if◌then◌else◌, Bool, true, false, List, [], ◌∷◌, ◌++◌, refl, ap, ◌∙◌, Option, None, subst}
+use Rattle.std.proofs.Common.{◌≡◌, ℕ, zero, suc, ◌==◌, ◌⊎◌, not, ◌&&◌, if◌then◌else◌, Bool, true, false, List, [], ◌∷◌}
+use Rattle.std.proofs.Common.{◌++◌, refl, ap, ◌∙◌, Option, None, subst}
 use Rattle.mbe_tt.specs.Trees.Leaf.{Literal, literal, punct, ident}
 use Rattle.mbe_tt.specs.Trees.Tree.{Forest, none, leaf, group, append, one_leaf, FlatToken, token, flat, is_same_kind}
 use Rattle.mbe_tt.specs.Trees.Tree as tree
@@ -8,9 +9,11 @@ use Rattle.mbe_tt.specs.declared.span.Span.{Span}
 use Rattle.mbe_tt.specs.declared.tt.Punct.{Punct}
 use Rattle.mbe_tt.specs.declared.tt.Spacing.{Spacing}
 use Rattle.mbe_tt.specs.declared.tt.Spacing.TheVariants.{Alone, Joint}
-use Rattle.mbe_text.specs.RustText.Comments.{Comment, is_bracket}
-use Rattle.mbe_text.specs.RustText.Gaps.{are_beside, is_before, is_joint}
-use Rattle.mbe_text.specs.Laws.Rust.{next_place, goes_on, IsBeforeDot, IsJoined, HasSpacing, IsLifetime, IsSign, AreRust, MayHaveFields, MayPrecedeDots, AreRead, set_flat, brackets_flat, hash_flat, comment_after, skipped, joint_after}
+use Rattle.mbe_text.specs.RustText.DocComments.{DocComment, is_bracket}
+use Rattle.mbe_text.specs.RustText.Gaps.{are_adjacent, is_adjacent_to_next, is_joint}
+use Rattle.mbe_text.specs.Laws.RustTrees.{next_place, may_follow_dot, IsBeforeDot, IsJoined, HasSpacing, IsLifetime}
+use Rattle.mbe_text.specs.Laws.RustTrees.{IsSign, AreRust, MayHaveFields, MayPrecedeDots, AreRead, set_flat}
+use Rattle.mbe_text.specs.Laws.RustTrees.{brackets_flat, hash_flat, comment_after, skipped, joint_after}
 use Rattle.mbe_text.proofs.ReadBack.TokenLemmas.{hidden, hidden_all}
 
 pub hidden_append : (xs ys : List FlatToken) → hidden_all (xs ++ ys) ≡ hidden_all xs ++ hidden_all ys
@@ -23,7 +26,7 @@ hidden_place (token l ∷ ts) = refl
 hidden_place (tree.opening d ∷ ts) = refl
 hidden_place (tree.closing d ∷ ts) = refl
 
-hidden_goes : (sp : Spacing) (ts : List FlatToken) → goes_on sp (hidden_all ts) ≡ goes_on sp ts
+hidden_goes : (sp : Spacing) (ts : List FlatToken) → may_follow_dot sp (hidden_all ts) ≡ may_follow_dot sp ts
 hidden_goes Joint [] = refl
 hidden_goes Joint (token (literal l) ∷ ts) = refl
 hidden_goes Joint (token (punct p) ∷ ts) = refl
@@ -44,7 +47,7 @@ shown_dot e l (token (ident i) ∷ ts) h = tt
 shown_dot e l (tree.opening d ∷ ts) h = tt
 shown_dot e l (tree.closing d ∷ ts) h = tt
 shown_dot e l (token (punct p) ∷ ts) h = λ k.
-    let was = ap (λ (x : Option Span). p.char == 46 && (are_beside l.span p.span && is_before p.span x))
+    let was = ap (λ (x : Option Span). p.char == 46 && (are_adjacent l.span p.span && is_adjacent_to_next p.span x))
     (hidden_place ts) ∙ k in
     subst (λ (b : Bool). MayPrecedeDots e l ⊎ (MayHaveFields e l × (b ≡ true))) (hidden_goes p.spacing ts) (h was)
 
@@ -118,7 +121,7 @@ hidden_brackets b (token (punct p) ∷ ts) = refl
 hidden_brackets b (token (ident i) ∷ ts) = refl
 hidden_brackets b (tree.closing d ∷ ts) = refl
 hidden_brackets b (tree.opening d ∷ ts) =
-    ap (λ (o : Option Comment). if is_bracket d.kind then o else None) (hidden_set b ts)
+    ap (λ (o : Option DocComment). if is_bracket d.kind then o else None) (hidden_set b ts)
 
 hidden_hash : (ts : List FlatToken) → hash_flat (hidden_all ts) ≡ hash_flat ts
 hidden_hash [] = refl
@@ -127,15 +130,17 @@ hidden_hash (token (ident i) ∷ ts) = refl
 hidden_hash (tree.opening d ∷ ts) = refl
 hidden_hash (tree.closing d ∷ ts) = refl
 hidden_hash (token (punct q) ∷ ts) =
-    ap (λ (o : Option Comment). if q.char == 33 && not (is_joint q.spacing) then o else None) (hidden_brackets true ts)
+    ap (λ (o : Option DocComment). if q.char == 33
+    && not (is_joint q.spacing) then o else None) (hidden_brackets true ts)
 
 hidden_comment : (joint : Bool) (p : Punct) (ts : List FlatToken)
     → comment_after joint p (hidden_all ts) ≡ comment_after joint p ts
 hidden_comment true p ts = refl
 hidden_comment false p ts =
-    ap (λ (o : Option Comment). if not (p.char == 35) then None else if is_joint p.spacing then o else brackets_flat
+    ap (λ (o : Option DocComment). if not (p.char == 35) then None else if is_joint p.spacing then o else brackets_flat
     false (hidden_all ts)) (hidden_hash ts)
-    ∙ ap (λ (o : Option Comment). if not (p.char == 35) then None else if is_joint p.spacing then hash_flat ts else o)
+    ∙ ap (λ (o : Option DocComment). if not (p.char == 35) then None else if is_joint p.spacing then hash_flat ts
+    else o)
     (hidden_brackets false ts)
 
 pub shown_read : (e : Edition) (n : ℕ) (joint : Bool) (ts : List FlatToken) → AreRead e n joint (hidden_all ts)
@@ -147,7 +152,8 @@ shown_read e zero joint (token (literal l) ∷ ts) h = (h.0, shown_read e 0 fals
 shown_read e zero joint (token (punct p) ∷ ts) h =
     let o = comment_after joint p ts in
     shown_read e (skipped o) (joint_after o p) ts
-    (subst (λ (x : Option Comment). AreRead e (skipped x) (joint_after x p) (hidden_all ts)) (hidden_comment joint p ts)
+    (subst (λ (x : Option DocComment). AreRead e (skipped x) (joint_after x p) (hidden_all ts))
+    (hidden_comment joint p ts)
     h)
 shown_read e zero joint (tree.opening d ∷ ts) h = shown_read e 0 false ts h
 shown_read e zero joint (tree.closing d ∷ ts) h = shown_read e 0 false ts h

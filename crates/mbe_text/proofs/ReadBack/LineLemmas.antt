@@ -1,5 +1,6 @@
 -- Each literal that the lexer makes is read whole, or is a doc comment's.
-use Rattle.std.proofs.Common.{◌≡◌, ℕ, ◌==◌, ◌+◌, not, ◌&&◌, if◌then◌else◌, Bool, true, false, List, [], ◌∷◌, ◌++◌, refl, sym, ap, ◌∙◌, codes, Option, Some, None, subst}
+use Rattle.std.proofs.Common.{◌≡◌, ℕ, ◌==◌, ◌+◌, not, ◌&&◌, if◌then◌else◌, Bool, true, false, List, [], ◌∷◌, ◌++◌, refl}
+use Rattle.std.proofs.Common.{sym, ap, ◌∙◌, codes, Option, Some, None, subst}
 use Rattle.mbe_tt.specs.Trees.Leaf.{Literal, literal, punct, ident}
 use Rattle.mbe_tt.specs.Trees.Tree.{Forest, none, leaf, group, append, one_leaf, FlatToken, token, flat, is_same_kind}
 use Rattle.mbe_tt.specs.Trees.Tree as tree
@@ -12,22 +13,23 @@ use Rattle.mbe_tt.specs.declared.tt.IdentIsRaw.TheVariants.{No}
 use Rattle.mbe_tt.specs.declared.tt.Punct.{Punct}
 use Rattle.mbe_tt.specs.declared.tt.Spacing.{Spacing}
 use Rattle.mbe_tt.specs.declared.tt.Spacing.TheVariants.{Alone, Joint}
-use Rattle.mbe_text.specs.RustText.Comments.{Comment, comment_set, is_setting}
+use Rattle.mbe_text.specs.RustText.DocComments.{DocComment, assigned_comment, is_doc_assignment}
 use Rattle.mbe_text.specs.RustText.Gaps.{is_joint}
-use Rattle.mbe_text.specs.RustText.Writing.{start}
-use Rattle.mbe_text.specs.Blanks.{begins_comment}
+use Rattle.mbe_text.specs.RustText.Printer.{start}
+use Rattle.mbe_text.specs.Whitespace.{begins_comment}
 use Rattle.mbe_text.specs.Characters.{offset}
-use Rattle.mbe_text.specs.Division.{Taken}
-use Rattle.mbe_text.specs.Rust.{begins_doc}
+use Rattle.mbe_text.specs.LexedTrees.{ScannedToken}
+use Rattle.mbe_text.specs.RustTokens.{begins_doc}
 use Rattle.mbe_text.specs.Shapes.{Shape, identifier, literal_of, punct_of, lifetime_of, doc_of, opening, closing}
-use Rattle.mbe_text.specs.Signs.{spacing_before}
+use Rattle.mbe_text.specs.Punctuation.{spacing_before}
 use Rattle.mbe_text.specs.Tokens.{bytes_of, punct_leaf, ident_leaf, most_guards}
 use Rattle.mbe_text.specs.Laws.Gaps.{is_punct}
-use Rattle.mbe_text.specs.Laws.Rust.{AreRead, punct_flat, more_tokens, comment_after, skipped, joint_after}
+use Rattle.mbe_text.specs.Laws.RustTrees.{AreRead, punct_flat, more_tokens, comment_after, skipped, joint_after}
 use Rattle.mbe_text.proofs.ReadBack.CommentLemmas.{comment_case, may_be_comment, set_of}
 use Rattle.mbe_text.proofs.ReadBack.StepLemmas.{no_doc}
 use Rattle.mbe_text.proofs.ReadBack.ShapeLemmas.{Lexed}
-use Rattle.mbe_text.proofs.ReadBack.TokenLemmas.{tokens_of, Tokens, last, more, Next, here_of, punct_past, next_cut, next_tail, Fits, fits_tail}
+use Rattle.mbe_text.proofs.ReadBack.TokenLemmas.{tokens_of, Tokens, last, more, Next, here_of, punct_past, next_cut}
+use Rattle.mbe_text.proofs.ReadBack.TokenLemmas.{next_tail, Fits, fits_tail}
 use Rattle.mbe_text.proofs.ReadBack.AfterLemmas.{self}
 use Rattle.mbe_text.proofs.ReadBack.RustLemmas.{doc_leaf}
 
@@ -42,12 +44,12 @@ past_setting e q l d ts h r =
     let us : List FlatToken = token (literal l) ∷ (tree.closing d ∷ ts) in
     let plain = no_hash false q us (ap (λ (x : ℕ). x == 35) h) in
     let read : AreRead e 0 (is_joint q.spacing) us =
-    subst (λ (o : Option Comment). AreRead e (skipped o) (joint_after o q) us) plain r in
+    subst (λ (o : Option DocComment). AreRead e (skipped o) (joint_after o q) us) plain r in
     read.1
 
-past_comment : (e : Edition) (p : Punct) (ts : List FlatToken) (c : Comment) → punct_flat p ts ≡ Some c
+rest_after_comment : (e : Edition) (p : Punct) (ts : List FlatToken) (c : DocComment) → punct_flat p ts ≡ Some c
     → AreRead e 0 (is_joint p.spacing) ts → AreRead e (more_tokens c.is_inner) false ts
-past_comment e p ts c m r =
+rest_after_comment e p ts c m r =
     comment_case (λ us x. AreRead e 0 (is_joint p.spacing) us → AreRead e (more_tokens x.is_inner) false us) p ts
     (start 0) c
     (λ d hash alone k i q l end us is line are. past_setting e q l end us is.equals are)
@@ -56,11 +58,11 @@ past_comment e p ts c m r =
     (literal l) ∷ (tree.closing end ∷ us)))) in
     let plain = no_hash (is_joint p.spacing) o next (ap (λ (x : ℕ). x == 35) bang) in
     let read : AreRead e 0 (is_joint o.spacing) next =
-    subst (λ (y : Option Comment). AreRead e (skipped y) (joint_after y o) next) plain are in
+    subst (λ (y : Option DocComment). AreRead e (skipped y) (joint_after y o) next) plain are in
     past_setting e q l end us is.equals read)
     m r
 
-after_some : (joint : Bool) (o : Option Comment) (c : Comment) → (if joint then None else o) ≡ Some c → o ≡ Some c
+after_some : (joint : Bool) (o : Option DocComment) (c : DocComment) → (if joint then None else o) ≡ Some c → o ≡ Some c
 after_some true o c h = absurd (cc)
 after_some false o c h = h
 
@@ -69,28 +71,28 @@ punct_read : (e : Edition) (p : Punct) (ts : List FlatToken) (joint : Bool) → 
     → AreRead e 0 joint (token (punct p) ∷ ts)
 punct_read e p ts joint r = by (comment_after joint p ts) refl
   where
-    by : (o : Option Comment) → comment_after joint p ts ≡ o → AreRead e (skipped o) (joint_after o p) ts
+    by : (o : Option DocComment) → comment_after joint p ts ≡ o → AreRead e (skipped o) (joint_after o p) ts
     by None m = r
-    by (Some c) m = past_comment e p ts c (after_some joint (punct_flat p ts) c m) r
+    by (Some c) m = rest_after_comment e p ts c (after_some joint (punct_flat p ts) c m) r
 
 -- one that does
-comment_read : (e : Edition) (p : Punct) (ts : List FlatToken) (c : Comment) → comment_after false p ts ≡ Some c
+comment_read : (e : Edition) (p : Punct) (ts : List FlatToken) (c : DocComment) → comment_after false p ts ≡ Some c
     → AreRead e (more_tokens c.is_inner) false ts → AreRead e 0 false (token (punct p) ∷ ts)
 comment_read e p ts c m r =
-    subst (λ (o : Option Comment). AreRead e (skipped o) (joint_after o p) ts) (sym m) r
+    subst (λ (o : Option DocComment). AreRead e (skipped o) (joint_after o p) ts) (sym m) r
 
 setting_is : (file a b : ℕ) (text : List ℕ)
-    → is_setting (record { sym = codes "doc"; is_raw = No; span = bytes_of file a b })
+    → is_doc_assignment (record { sym = codes "doc"; is_raw = No; span = bytes_of file a b })
     (record { char = 61; spacing = Alone; span = bytes_of file a b }) (doc_leaf (bytes_of file a b) text) ≡ true
 setting_is file a b text = rw (self (most_guards 0 text), self file, self a, self b) refl
 
 -- a doc comment is written as one
 is_set : (file a b : ℕ) (inner : Bool) (text : List ℕ) → may_be_comment inner text ≡ true
-    → comment_set inner (record { sym = codes "doc"; is_raw = No; span = bytes_of file a b })
+    → assigned_comment inner (record { sym = codes "doc"; is_raw = No; span = bytes_of file a b })
     (record { char = 61; spacing = Alone; span = bytes_of file a b }) (doc_leaf (bytes_of file a b) text)
     ≡ Some (set_of inner (doc_leaf (bytes_of file a b) text))
 is_set file a b inner text may =
-    let c : Comment = set_of inner (doc_leaf (bytes_of file a b) text) in
+    let c : DocComment = set_of inner (doc_leaf (bytes_of file a b) text) in
     ap (λ (x : Bool). if x && may_be_comment inner text then Some c else None) (setting_is file a b text)
     ∙ ap (λ (x : Bool). if x then Some c else None) may
 
@@ -144,7 +146,7 @@ joint_next sp (c ∷ cs) i j = by (is_punct c) (begins_comment (c ∷ cs)) refl 
         (c ∷ cs)) then Joint else Alone)) p) ∙ was in cc)
 
 -- so no doc comment is right after a joint punct
-no_doc_next : (e : Edition) (total : ℕ) (cs : List ℕ) (t : Taken) → JointNext cs → Next e total cs t
+no_doc_next : (e : Edition) (total : ℕ) (cs : List ℕ) (t : ScannedToken) → JointNext cs → Next e total cs t
     → begins_doc t.from ≡ true → ⊥
 no_doc_next e total cs t j x d =
     let y : Next e total (j.first ∷ j.left) t = subst (λ (l : List ℕ). Next e total l t) j.is x in

@@ -1,5 +1,7 @@
 -- The literals that the lexer makes: each is read by itself.
-use Rattle.std.proofs.Common.{◌≡◌, ℕ, suc, ◌==◌, ◌<◌, ◌⊎◌, inl, inr, ◌&&◌, if◌then◌else◌, Bool, true, false, List, [], ◌∷◌, ◌++◌, length, refl, sym, ap, ◌∙◌, arith, codes, Option, Some, Ok, Err, append_assoc, append-nil, length-append, encode_utf8_all, chars, IsUtf8, subst}
+use Rattle.std.proofs.Common.{◌≡◌, ℕ, suc, ◌==◌, ◌<◌, ◌⊎◌, inl, inr, ◌&&◌, if◌then◌else◌, Bool, true, false, List, []}
+use Rattle.std.proofs.Common.{◌∷◌, ◌++◌, length, refl, sym, ap, ◌∙◌, arith, codes, Option, Some, Ok, Err, append_assoc}
+use Rattle.std.proofs.Common.{append-nil, length-append, encode_utf8_all, chars, IsUtf8, subst}
 use Rattle.std.specs.Char.{is_ascii_digit}
 use Rattle.std.specs.Prelude.{nat_le}
 use Rattle.std.proofs.Math.Utf8.{scalars}
@@ -10,17 +12,20 @@ use Rattle.mbe_tt.specs.declared.span.Edition.{Edition}
 use Rattle.mbe_tt.specs.declared.span.Span.{Span}
 use Rattle.mbe_tt.specs.declared.tt.LitKind.{LitKind}
 use Rattle.mbe_tt.specs.declared.tt.LitKind.TheVariants as kinds
-use Rattle.mbe_text.specs.declared.wrong.Wrong.TheVariants as wrong
+use Rattle.mbe_text.specs.declared.fault_kind.LexFaultKind.TheVariants as fault_kind
 use Rattle.mbe_text.specs.Characters.{has, past, begins_with}
-use Rattle.mbe_text.specs.Extents.{from_string_end, from_char_end, from_raw_end}
-use Rattle.mbe_text.specs.Rust.{Token, read_rust, string, char, number, raw_kind, raw_body, raw_string, begins_lifetime, lifetime}
+use Rattle.mbe_text.specs.QuoteEnds.{from_string_end, from_char_end, from_raw_end}
+use Rattle.mbe_text.specs.RustTokens.{RustTokenResult, read_rust, string, char, number, raw_kind, raw_body, raw_string}
+use Rattle.mbe_text.specs.RustTokens.{begins_lifetime, lifetime}
 use Rattle.mbe_text.specs.Shapes.{Shape, literal_of}
 use Rattle.mbe_text.proofs.Reading.{literal_written}
-use Rattle.mbe_text.specs.Laws.Back.{is_string, is_char, is_raw, is_bare_integer, ends_with_dot}
-use Rattle.mbe_text.specs.Laws.Rust.{begins_number, begins_field, IsLiteral, IsReadBefore, MayHaveFields, MayPrecedeDots}
+use Rattle.mbe_text.specs.Laws.RoundTrip.{is_string, is_char, is_raw, is_bare_integer, ends_with_dot}
+use Rattle.mbe_text.specs.Laws.RustTrees.{begins_number, begins_field, IsLiteral, IsReadBefore, MayHaveFields}
+use Rattle.mbe_text.specs.Laws.RustTrees.{MayPrecedeDots}
 use Rattle.mbe_text.proofs.ReadBack.QuoteLemmas.{same_char, string_parts, strings_are_read}
 use Rattle.mbe_text.proofs.ReadBack.CharLemmas.{single_at, char_parts, chars_are_read}
-use Rattle.mbe_text.proofs.ReadBack.RawLemmas.{marked, marks_are, raw_from, string_is, body_parts, raw_strings_are_read, length_marked}
+use Rattle.mbe_text.proofs.ReadBack.RawLemmas.{marked, marks_are, raw_from, string_is, body_parts, raw_strings_are_read}
+use Rattle.mbe_text.proofs.ReadBack.RawLemmas.{length_marked}
 use Rattle.mbe_text.proofs.ReadBack.NumberLemmas.{is_bare, digit_read, numbers_are_read}
 use Rattle.mbe_text.proofs.ReadBack.PartLemmas.{Own, parts_cut}
 use Rattle.mbe_text.proofs.ReadBack.NumberPartLemmas.{number_cut}
@@ -171,13 +176,14 @@ raw_law : (e : Edition) (kind : LitKind) → is_raw kind ≡ true → Law e kind
 raw_law e kind h l k u b = raw_strings_are_read e l (ap is_raw k ∙ h) u b
 
 -- what is in quotes, which these characters precede
-between : (e : Edition) (first end : List ℕ) (kind : LitKind) (read : List ℕ → List ℕ → Token) (cs rest : List ℕ)
+gap_between : (e : Edition) (first end : List ℕ) (kind : LitKind) (read : List ℕ → List ℕ
+    → RustTokenResult) (cs rest : List ℕ)
     (shape : Shape) → (o : Own read end kind cs rest shape) → marks.opening kind ≡ first → marks.closing kind ≡ end
     → encode_utf8_all first ≡ first → encode_utf8_all end ≡ end → 0 < length first → scalars (first ++ cs) ≡ true
     → Law e kind
     → read_rust e (first ++ (o.body ++ (end ++ o.suffix))) ≡ Some (Ok (shape, []))
     → LexedAs e (first ++ cs) rest shape
-between e first end kind read cs rest shape o opens closes f n some u law is =
+gap_between e first end kind read cs rest shape o opens closes f n some u law is =
     let content : List ℕ = o.body ++ (end ++ o.suffix) in
     quoted e (first ++ cs) (first ++ content) rest shape
     (record {
@@ -201,7 +207,7 @@ pub one_byte : (c : ℕ) (cs : List ℕ) → c < 128 → encode_utf8_all cs ≡ 
 one_byte c cs small h =
     ap (λ (x : List ℕ). x ++ encode_utf8_all cs) (encode_ascii c small) ∙ ap (λ (x : List ℕ). c ∷ x) h
 
-pub some_token : (a b : Token) → (let x : Option Token = Some a in x) ≡ Some b → a ≡ b
+pub some_token : (a b : RustTokenResult) → (let x : Option RustTokenResult = Some a in x) ≡ Some b → a ≡ b
 some_token a b h = cc
 
 -- A string, from its quote on. What kind of quotes it has is last, since that type is the lexer's own.
@@ -212,10 +218,10 @@ pub lexed_string : (e : Edition) (kind : LitKind) (first cs rest : List ℕ) (sh
     → ((y : List ℕ) → read_rust e (first ++ y) ≡ Some (string kind q (34 ∷ y)))
     → LexedAs e (first ++ cs) rest shape
 lexed_string e kind first cs rest shape k opens closes f some u q h reads =
-    let read : List ℕ → List ℕ → Token = λ from y. string kind q (34 ∷ y) in
+    let read : List ℕ → List ℕ → RustTokenResult = λ from y. string kind q (34 ∷ y) in
     let o = parts_cut read (34 ∷ []) kind cs rest shape
     (string_parts kind q 34 cs (shape, rest) (from_string_end false cs) refl (some_token _ _ h)) in
-    between e first (34 ∷ []) kind read cs rest shape o opens closes f (one_byte 34 [] (omega arith) refl) some u
+    gap_between e first (34 ∷ []) kind read cs rest shape o opens closes f (one_byte 34 [] (omega arith) refl) some u
     (string_law e kind k) (reads (o.body ++ ((34 ∷ []) ++ o.suffix)) ∙ ap Some (o.alone []))
 
 -- a lifetime begins in the same way before whatever follows a quote
@@ -243,14 +249,14 @@ pub lexed_char : (e : Edition) (kind : LitKind) (first from cs rest : List ℕ) 
     → read_rust e (first ++ y) ≡ Some (char kind q (first ++ y) (39 ∷ y)))
     → LexedAs e (first ++ cs) rest shape
 lexed_char e kind first from cs rest shape k opens closes f some u q h reads =
-    let read : List ℕ → List ℕ → Token = λ other y. char kind q other (39 ∷ y) in
+    let read : List ℕ → List ℕ → RustTokenResult = λ other y. char kind q other (39 ∷ y) in
     let o = parts_cut read (39 ∷ []) kind cs rest shape (char_parts kind q from 39 cs (shape, rest)
     (some_token _ _ h)) in
     let content : List ℕ = o.body ++ ((39 ∷ []) ++ o.suffix) in
     let same : begins_lifetime content ≡ begins_lifetime cs =
     lifetime_same o.body o.suffix (o.suffix ++ rest) (some_char kind q cs rest shape o)
     ∙ sym (ap begins_lifetime (o.is ∙ append_assoc o.body (39 ∷ o.suffix) rest)) in
-    between e first (39 ∷ []) kind read cs rest shape o opens closes f (one_byte 39 [] (omega arith) refl) some u
+    gap_between e first (39 ∷ []) kind read cs rest shape o opens closes f (one_byte 39 [] (omega arith) refl) some u
     (char_law e kind k) (reads content same ∙ ap Some (o.alone (first ++ content)))
 
 -- the char of a `'` that begins no lifetime
@@ -289,7 +295,7 @@ hashes_of : (k : _) (cs : List ℕ) → ((c : ℕ) → has k c ≡ true → c �
 hashes_of k [] is = (0, refl)
 hashes_of k (c ∷ cs) is = hashes_if k c cs (has k c) refl (is c) (hashes_of k cs is)
 
-quote_after : (from : List ℕ) (body : List ℕ → List ℕ → Token) (cs quote : List ℕ) (r : Shape × List ℕ)
+quote_after : (from : List ℕ) (body : List ℕ → List ℕ → RustTokenResult) (cs quote : List ℕ) (r : Shape × List ℕ)
     → raw_from from body cs quote ≡ Ok r → (more : List ℕ) × (quote ≡ 34 ∷ more)
 quote_after from body cs [] r h = absurd (cc)
 quote_after from body cs (c ∷ more) r h = by (c == 34) refl
@@ -297,8 +303,8 @@ quote_after from body cs (c ∷ more) r h = by (c == 34) refl
     by : (b : Bool) → (c == 34) ≡ b → (left : List ℕ) × (c ∷ more ≡ 34 ∷ left)
     by true e = (more, ap (λ (x : ℕ). x ∷ more) (same_char c 34 e))
     by false e =
-        absurd (let w : raw_from from body cs (c ∷ more) ≡ Err (wrong.RawStringStart, from) = rw e refl in
-        let z : Err (wrong.RawStringStart, from) ≡ Ok r = sym w ∙ h in cc)
+        absurd (let w : raw_from from body cs (c ∷ more) ≡ Err (fault_kind.RawStringStart, from) = rw e refl in
+        let z : Err (fault_kind.RawStringStart, from) ≡ Ok r = sym w ∙ h in cc)
 
 pub raw_opened : (cs : List ℕ) (r : Shape × List ℕ) (k q : _) (from : List ℕ)
     → raw_from from (raw_body q from) cs (past k cs) ≡ Ok r → ((c : ℕ) → has k c ≡ true → c ≡ 35) → Opened cs
@@ -319,7 +325,7 @@ pub lexed_raw : (e : Edition) (before : List ℕ) (n : ℕ) (cs rest : List ℕ)
 lexed_raw e before n cs rest shape b u q from h opens closes raw reads =
     let size : ℕ = length (marked n) in
     let kind = raw_kind q size in
-    let read : List ℕ → List ℕ → Token = λ other y. raw_body q other (marked n) y in
+    let read : List ℕ → List ℕ → RustTokenResult = λ other y. raw_body q other (marked n) y in
     let first : List ℕ = before ++ (marked n ++ (34 ∷ [])) in
     let end : List ℕ = 34 ∷ marked n in
     let first_is = λ (y : List ℕ). append_assoc before (marked n ++ (34 ∷ [])) y
@@ -339,7 +345,7 @@ lexed_raw e before n cs rest shape b u q from h opens closes raw reads =
     let some : 0 < length first =
     omega (arith, length-append before (marked n ++ (34 ∷ [])), length-append (marked n) (34 ∷ [])) in
     subst (λ (x : List ℕ). LexedAs e x rest shape) (first_is cs)
-    (between e first end kind read cs rest shape o
+    (gap_between e first end kind read cs rest shape o
     (opens size ∙ ap (λ (m : ℕ). before ++ (marked m ++ (34 ∷ []))) (length_marked n))
     (closes size ∙ ap (λ (m : ℕ). 34 ∷ marked m) (length_marked n))
     bytes (one_byte 34 (marked n) (omega arith) (marks_are n)) some (ap scalars (first_is cs) ∙ u)

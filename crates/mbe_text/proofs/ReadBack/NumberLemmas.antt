@@ -1,5 +1,7 @@
 -- A number that is read by itself is read before whatever doesn't go on with it.
-use Rattle.std.proofs.Common.{◌≡◌, ℕ, ◌==◌, ◌-◌, ◌<◌, ◌&&◌, ◌||◌, if◌then◌else◌, Bool, true, false, List, [], ◌∷◌, ◌++◌, length, take, refl, sym, ap, ◌∙◌, arith, codes, Option, Some, None, Result, Ok, Err, append-nil, length-append, encode_utf8_all, chars}
+use Rattle.std.proofs.Common.{◌≡◌, ℕ, ◌==◌, ◌-◌, ◌<◌, ◌&&◌, ◌||◌, if◌then◌else◌, Bool, true, false, List, [], ◌∷◌, ◌++◌}
+use Rattle.std.proofs.Common.{length, take, refl, sym, ap, ◌∙◌, arith, codes, Option, Some, None, Result, Ok, Err}
+use Rattle.std.proofs.Common.{append-nil, length-append, encode_utf8_all, chars}
 use Rattle.std.specs.Prelude.{unwrap_or}
 use Rattle.std.specs.Char.{is_ascii_digit, is_ascii_hexdigit, char_set_contains}
 use Rattle.std.proofs.lemmas.Bool.Decides.{nat_tests}
@@ -10,14 +12,18 @@ use Rattle.mbe_tt.specs.Trees.Leaf.{Literal}
 use Rattle.mbe_tt.specs.Trees.Literals.{literal_output}
 use Rattle.mbe_tt.specs.declared.span.Edition.{Edition}
 use Rattle.mbe_tt.specs.declared.tt.LitKind.TheVariants as kinds
-use Rattle.mbe_text.specs.declared.wrong.Wrong.TheVariants as wrong
+use Rattle.mbe_text.specs.declared.fault_kind.LexFaultKind.TheVariants as fault_kind
 use Rattle.mbe_text.specs.Characters.{has, begins, begins_with, past, bytes_before}
-use Rattle.mbe_text.specs.Escapes.{At}
-use Rattle.mbe_text.specs.Rust.{Token, read_rust, literal, base_of, digit_of, has_digit, past_exponent, past_digits, past_fraction, large_digit, is_too_large, is_ten, float, integer, number_of, number}
+use Rattle.mbe_text.specs.Escapes.{SeenFault}
+use Rattle.mbe_text.specs.RustTokens.{RustTokenResult, read_rust, literal, base_of, digit_of, has_digit, past_exponent}
+use Rattle.mbe_text.specs.RustTokens.{past_digits, past_fraction, large_digit, is_too_large, is_ten, float, integer}
+use Rattle.mbe_text.specs.RustTokens.{number_of, number}
 use Rattle.mbe_text.specs.Shapes.{Shape, literal_of}
-use Rattle.mbe_text.specs.Laws.Back.{NumbersAreRead, ends_with_dot, is_bare_integer}
-use Rattle.mbe_text.specs.Laws.Rust.{is_start, continues_word, begins_word, begins_number, begins_literal, begins_field, ends_literal, IsReadBefore}
-use Rattle.mbe_text.proofs.ReadBack.QuoteLemmas.{literal_on, ended, field_ended, dot_ended, not_start_of, token_of, shape_of}
+use Rattle.mbe_text.specs.Laws.RoundTrip.{NumbersAreRead, ends_with_dot, is_bare_integer}
+use Rattle.mbe_text.specs.Laws.RustTrees.{is_start, continues_word, begins_word, begins_number, begins_literal}
+use Rattle.mbe_text.specs.Laws.RustTrees.{begins_field, ends_literal, IsReadBefore}
+use Rattle.mbe_text.proofs.ReadBack.QuoteLemmas.{literal_on, ended, field_ended, dot_ended, not_start_of, token_of}
+use Rattle.mbe_text.proofs.ReadBack.QuoteLemmas.{shape_of}
 
 -- ---- what goes on with no word
 
@@ -167,7 +173,7 @@ more rest None = None
 more rest (Some cs) = Some (cs ++ rest)
 
 abbrev pub Passed : Type 0
-Passed = Result (Option (List ℕ)) At
+Passed = Result (Option (List ℕ)) SeenFault
 
 ok_same : (x y : Option (List ℕ)) → (let a : Passed = Ok x in a) ≡ Ok y → x ≡ y
 ok_same x y h = cc
@@ -192,7 +198,7 @@ sign_if true d ds rest = refl
 sign_if false d ds rest = refl
 
 abbrev pub signed : Bool → List ℕ → List ℕ → Passed
-signed b from digits = if b then Ok (Some (past_ten digits)) else Err (wrong.Exponent, from)
+signed b from digits = if b then Ok (Some (past_ten digits)) else Err (fault_kind.Exponent, from)
 
 signed_on : (from other digits rest : List ℕ) (o : Option (List ℕ)) (b : Bool) → has_ten digits ≡ b → Ends rest
     → signed b from digits ≡ Ok o
@@ -210,8 +216,8 @@ exponent_at from other c ds rest o false e n h =
     to_more None o rest (past_exponent other (c ∷ (ds ++ rest))) (rw (past_exponent, e) refl)
     (sym (no_exponent from (c ∷ ds) e) ∙ h)
 exponent_at from other c [] rest o true e n h =
-    absurd (let k : past_exponent from (c ∷ []) ≡ Err (wrong.Exponent, from) = rw (past_exponent, e) refl in
-    let z : Err (wrong.Exponent, from) ≡ Ok o = sym k ∙ h in cc)
+    absurd (let k : past_exponent from (c ∷ []) ≡ Err (fault_kind.Exponent, from) = rw (past_exponent, e) refl in
+    let z : Err (fault_kind.Exponent, from) ≡ Ok o = sym k ∙ h in cc)
 exponent_at from other c (d ∷ ds) rest o true e n h =
     let was : past_exponent from (c ∷ (d ∷ ds)) ≡ signed (has_ten (past_sign (d ∷ ds))) from
     (past_sign (d ∷ ds)) = rw (past_exponent, e) refl in
@@ -318,8 +324,8 @@ integer_on : (base : _) (cs digits r rest : List ℕ) (shape : Shape) (l : Optio
     → integer base cs digits r ≡ Ok (shape, []) → integer base (cs ++ rest) (digits ++ rest) (r ++ rest) ≡ Ok
     (shape, rest)
 integer_on base cs digits r rest shape (Some at) e n k h =
-    absurd (let w : integer base cs digits r ≡ Err (wrong.Digit, at) = rw (integer, e) refl in
-    let z : Err (wrong.Digit, at) ≡ Ok (shape, []) = sym w ∙ h in cc)
+    absurd (let w : integer base cs digits r ≡ Err (fault_kind.Digit, at) = rw (integer, e) refl in
+    let z : Err (fault_kind.Digit, at) ≡ Ok (shape, []) = sym w ∙ h in cc)
 integer_on base cs digits r rest shape None e n k h =
     let was : integer base cs digits r ≡ literal kinds.Integer (bytes_before cs r) r = rw (integer, e) refl in
     let large = large_on base digits rest n.large e in
@@ -332,8 +338,8 @@ float_on : (base : _) (cs end rest : List ℕ) (shape : Shape) (b : Bool) → is
     → continues_word rest ≡ false → float base cs end ≡ Ok (shape, [])
     → float base (cs ++ rest) (end ++ rest) ≡ Ok (shape, rest)
 float_on base cs end rest shape false e k h =
-    absurd (let w : float base cs end ≡ Err (wrong.FloatBase, cs) = rw e refl in
-    let z : Err (wrong.FloatBase, cs) ≡ Ok (shape, []) = sym w ∙ h in cc)
+    absurd (let w : float base cs end ≡ Err (fault_kind.FloatBase, cs) = rw e refl in
+    let z : Err (fault_kind.FloatBase, cs) ≡ Ok (shape, []) = sym w ∙ h in cc)
 float_on base cs end rest shape true e k h =
     let was : float base cs end ≡ literal kinds.Float (bytes_before cs end) end = rw e refl in
     let is : float base (cs ++ rest) (end ++ rest)
@@ -342,7 +348,7 @@ float_on base cs end rest shape true e k h =
     ∙ literal_on kinds.Float (bytes_before cs end) end rest shape (sym was ∙ h) k)
 
 -- a number whose fraction and exponent are passed
-abbrev pub finish : Token → (List ℕ → Token) → Passed → Token
+abbrev pub finish : RustTokenResult → (List ℕ → RustTokenResult) → Passed → RustTokenResult
 finish integer float (Err at) = Err at
 finish integer float (Ok None) = integer
 finish integer float (Ok (Some end)) = float end
@@ -394,8 +400,8 @@ bare_of base cs d ds shape l e g q h =
     by : (o : Option (List ℕ)) → large_digit base (d ∷ ds) ≡ o → integer base cs (d ∷ ds) [] ≡ Ok (shape, [])
         → is_bare shape ≡ true
     by (Some at) k z =
-        absurd (let w : integer base cs (d ∷ ds) [] ≡ Err (wrong.Digit, at) = rw (integer, k) refl in
-        let y : Err (wrong.Digit, at) ≡ Ok (shape, []) = sym w ∙ z in cc)
+        absurd (let w : integer base cs (d ∷ ds) [] ≡ Err (fault_kind.Digit, at) = rw (integer, k) refl in
+        let y : Err (fault_kind.Digit, at) ≡ Ok (shape, []) = sym w ∙ z in cc)
     by None k z =
         let w : integer base cs (d ∷ ds) [] ≡ Ok (literal_of (bytes_before cs []) [] 0 kinds.Integer, []) =
         rw (integer, k) refl in
@@ -428,8 +434,8 @@ number_if : (base : _) (cs : List ℕ) (d : ℕ) (ds rest : List ℕ) (shape : S
     → number_of base cs (d ∷ ds) ≡ Ok (shape, [])
     → number_of base (cs ++ rest) (d ∷ (ds ++ rest)) ≡ Ok (shape, rest)
 number_if base cs d ds rest shape false e m n f p k h =
-    absurd (let w : number_of base cs (d ∷ ds) ≡ Err (wrong.NoDigits, cs) = rw (number_of, e) refl in
-    let z : Err (wrong.NoDigits, cs) ≡ Ok (shape, []) = sym w ∙ h in cc)
+    absurd (let w : number_of base cs (d ∷ ds) ≡ Err (fault_kind.NoDigits, cs) = rw (number_of, e) refl in
+    let z : Err (fault_kind.NoDigits, cs) ≡ Ok (shape, []) = sym w ∙ h in cc)
 number_if base cs d ds rest shape true e m n f p k h =
     number_at base cs d ds rest shape (past_fraction cs (past (digit_of base) ds)) e refl m n f p k h
 

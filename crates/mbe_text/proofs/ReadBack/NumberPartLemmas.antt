@@ -1,5 +1,7 @@
 -- A number that is read before a rest is read by itself.
-use Rattle.std.proofs.Common.{◌≡◌, ℕ, ◌==◌, ◌<◌, ◌⊎◌, inl, inr, ◌&&◌, ◌||◌, if◌then◌else◌, Bool, true, false, List, [], ◌∷◌, ◌++◌, length, refl, sym, ap, ◌∙◌, arith, codes, Option, Some, None, Ok, Err, append_assoc, append-nil, encode_utf8_all}
+use Rattle.std.proofs.Common.{◌≡◌, ℕ, ◌==◌, ◌<◌, ◌⊎◌, inl, inr, ◌&&◌, ◌||◌, if◌then◌else◌, Bool, true, false, List, []}
+use Rattle.std.proofs.Common.{◌∷◌, ◌++◌, length, refl, sym, ap, ◌∙◌, arith, codes, Option, Some, None, Ok, Err}
+use Rattle.std.proofs.Common.{append_assoc, append-nil, encode_utf8_all}
 use Rattle.std.specs.Char.{is_ascii_digit, char_set_contains}
 use Rattle.std.proofs.lemmas.Bool.Decides.{nat_tests}
 use Rattle.std.proofs.lemmas.Str.{length-le-encodes}
@@ -9,18 +11,21 @@ use Rattle.unicode_ident.proofs.Computing.{unicode_ident}
 use Rattle.mbe_tt.specs.Trees.Literals as marks
 use Rattle.mbe_tt.specs.declared.tt.LitKind.{LitKind}
 use Rattle.mbe_tt.specs.declared.tt.LitKind.TheVariants as kinds
-use Rattle.mbe_text.specs.declared.wrong.Wrong.TheVariants as wrong
+use Rattle.mbe_text.specs.declared.fault_kind.LexFaultKind.TheVariants as fault_kind
 use Rattle.mbe_text.specs.Characters.{has, begins, begins_with, past, bytes_before}
-use Rattle.mbe_text.specs.Rust.{literal, base_of, digit_of, has_digit, past_exponent, past_digits, past_fraction, large_digit, is_too_large, is_ten, float, integer, number_of, number}
+use Rattle.mbe_text.specs.RustTokens.{literal, base_of, digit_of, has_digit, past_exponent, past_digits, past_fraction}
+use Rattle.mbe_text.specs.RustTokens.{large_digit, is_too_large, is_ten, float, integer, number_of, number}
 use Rattle.mbe_text.specs.Shapes.{Shape, literal_of}
-use Rattle.mbe_text.specs.Words.{past_word}
-use Rattle.mbe_text.specs.Laws.Back.{ends_with_dot}
-use Rattle.mbe_text.specs.Laws.Rust.{is_start, begins_field}
+use Rattle.mbe_text.specs.Identifiers.{past_identifier}
+use Rattle.mbe_text.specs.Laws.RoundTrip.{ends_with_dot}
+use Rattle.mbe_text.specs.Laws.RustTrees.{is_start, begins_field}
 use Rattle.mbe_text.proofs.ReadBack.EndLemmas.{is_not}
 use Rattle.mbe_text.proofs.ReadBack.StepLemmas.{or_left, or_right, all_continue, bytes_front}
 use Rattle.mbe_text.proofs.ReadBack.QuoteLemmas.{same_char}
 use Rattle.mbe_text.proofs.ReadBack.PartLemmas.{Run, run, is_suffix, literal_cut}
-use Rattle.mbe_text.proofs.ReadBack.NumberLemmas.{has_ten, past_ten, past_on, has_digit_on, Passed, no_exponent, past_sign, signed, no_point, number_is, is_bare, number_one, is_two, is_eight, is_sixteen, in_two, in_eight, in_sixteen, in_ten}
+use Rattle.mbe_text.proofs.ReadBack.NumberLemmas.{has_ten, past_ten, past_on, has_digit_on, Passed, no_exponent}
+use Rattle.mbe_text.proofs.ReadBack.NumberLemmas.{past_sign, signed, no_point, number_is, is_bare, number_one, is_two}
+use Rattle.mbe_text.proofs.ReadBack.NumberLemmas.{is_eight, is_sixteen, in_two, in_eight, in_sixteen, in_ten}
 
 -- ---- what ends with no `.`
 
@@ -64,17 +69,18 @@ continue_no_dot c true e h =
     absurd (let n = is_xid_continue-ascii 46 (omega arith) in
     let z : true ≡ false = sym h ∙ (ap is_xid_continue (same_char c 46 e) ∙ n) in cc)
 
-word_no_dot : (w : List ℕ) → past_word (0 ∷ w) ≡ [] → ends_with_dot w ≡ false
+word_no_dot : (w : List ℕ) → past_identifier (0 ∷ w) ≡ [] → ends_with_dot w ≡ false
 word_no_dot [] h = refl
 word_no_dot (c ∷ []) h = continue_no_dot c (c == 46) refl (all_continue c [] (is_xid_continue c) refl h).0
 word_no_dot (c ∷ (d ∷ ds)) h = word_no_dot (d ∷ ds) (all_continue c (d ∷ ds) (is_xid_continue c) refl h).1
 
-start_word_no_dot : (c : ℕ) (w : List ℕ) → is_start c ≡ true → past_word (0 ∷ w) ≡ [] → ends_with_dot (c ∷ w) ≡ false
+start_word_no_dot : (c : ℕ) (w : List ℕ) → is_start c ≡ true → past_identifier (0 ∷ w) ≡ [] → ends_with_dot (c ∷ w)
+    ≡ false
 start_word_no_dot c [] s h = start_not_dot c s
 start_word_no_dot c (d ∷ ds) s h = word_no_dot (d ∷ ds) h
 
 -- with a suffix
-suffix_no_dot : (a s : List ℕ) → is_suffix s ≡ true → past_word s ≡ [] → (s ≡ [] → ends_with_dot a ≡ false)
+suffix_no_dot : (a s : List ℕ) → is_suffix s ≡ true → past_identifier s ≡ [] → (s ≡ [] → ends_with_dot a ≡ false)
     → ends_with_dot (a ++ s) ≡ false
 suffix_no_dot a [] f w go = ap ends_with_dot (append-nil a) ∙ go refl
 suffix_no_dot a (c ∷ cs) f w go = dot_last a c cs ∙ start_word_no_dot c cs f w
@@ -143,7 +149,7 @@ exponent_opens : (from : List ℕ) (c d : ℕ) (ds : List ℕ) → char_set_cont
 exponent_opens from c d ds e = rw (past_exponent, e) refl
 
 exponent_short : (from : List ℕ) (c : ℕ) → char_set_contains (codes "eE") c ≡ true
-    → past_exponent from (c ∷ []) ≡ Err (wrong.Exponent, from)
+    → past_exponent from (c ∷ []) ≡ Err (fault_kind.Exponent, from)
 exponent_short from c e = rw (past_exponent, e) refl
 
 -- where no exponent is, none is in less
@@ -151,7 +157,7 @@ exponent_none_at : (from other : List ℕ) (c : ℕ) (more less : List ℕ) (b :
     → past_exponent from (c ∷ more) ≡ Ok None → past_exponent other (c ∷ less) ≡ Ok None
 exponent_none_at from other c more less false e h = no_exponent other (c ∷ less) e
 exponent_none_at from other c [] less true e h =
-    absurd (let z : Err (wrong.Exponent, from) ≡ Ok None = sym (exponent_short from c e) ∙ h in cc)
+    absurd (let z : Err (fault_kind.Exponent, from) ≡ Ok None = sym (exponent_short from c e) ∙ h in cc)
 exponent_none_at from other c (d ∷ ds) less true e h =
     let s = signed_some from (past_sign (d ∷ ds)) (has_ten (past_sign (d ∷ ds))) None
     (sym (exponent_opens from c d ds e) ∙ h) in absurd (let z : None ≡ Some (past_ten (past_sign (d ∷ ds))) = s.1 in cc)
@@ -256,7 +262,7 @@ exponent_at : (from : List ℕ) (c : ℕ) (cs end : List ℕ) (letter sign : Boo
 exponent_at from c cs end false sign e p h =
     absurd (let z : Ok None ≡ Ok (Some end) = sym (no_exponent from (c ∷ cs) e) ∙ h in cc)
 exponent_at from c [] end true sign e p h =
-    absurd (let z : Err (wrong.Exponent, from) ≡ Ok (Some end) = sym (exponent_short from c e) ∙ h in cc)
+    absurd (let z : Err (fault_kind.Exponent, from) ≡ Ok (Some end) = sym (exponent_short from c e) ∙ h in cc)
 exponent_at from c (d ∷ ds) end true true e p h = exponent_with from c d ds end e (p d ds refl) h
 exponent_at from c (d ∷ ds) end true false e p h = exponent_without from c d ds end e (p d ds refl) h
 
@@ -512,9 +518,9 @@ integer_own : (base : _) (before : List ℕ) (d : ℕ) (ds rest : List ℕ) (sha
     → integer base (before ++ (d ∷ ds)) (d ∷ ds) (past (digit_of base) ds) ≡ Ok (shape, rest)
     → DigitsOwn base before d ds rest shape
 integer_own base before d ds rest shape (Some at) dg e l g h =
-    absurd (let w : integer base (before ++ (d ∷ ds)) (d ∷ ds) (past (digit_of base) ds) ≡ Err (wrong.Digit, at) =
+    absurd (let w : integer base (before ++ (d ∷ ds)) (d ∷ ds) (past (digit_of base) ds) ≡ Err (fault_kind.Digit, at) =
     rw (integer, l) refl in
-    let z : Err (wrong.Digit, at) ≡ Ok (shape, rest) = sym w ∙ h in cc)
+    let z : Err (fault_kind.Digit, at) ≡ Ok (shape, rest) = sym w ∙ h in cc)
 integer_own base before d ds rest shape None dg e l g h =
     let k = digit_of base in
     let cs : List ℕ = before ++ (d ∷ ds) in
@@ -568,8 +574,8 @@ float_own : (base : _) (before : List ℕ) (d : ℕ) (ds end rest : List ℕ) (s
     → float base (before ++ (d ∷ ds)) end ≡ Ok (shape, rest)
     → DigitsOwn base before d ds rest shape
 float_own base before d ds end rest shape false dg e t g h =
-    absurd (let w : float base (before ++ (d ∷ ds)) end ≡ Err (wrong.FloatBase, before ++ (d ∷ ds)) = rw t refl in
-    let z : Err (wrong.FloatBase, before ++ (d ∷ ds)) ≡ Ok (shape, rest) = sym w ∙ h in cc)
+    absurd (let w : float base (before ++ (d ∷ ds)) end ≡ Err (fault_kind.FloatBase, before ++ (d ∷ ds)) = rw t refl in
+    let z : Err (fault_kind.FloatBase, before ++ (d ∷ ds)) ≡ Ok (shape, rest) = sym w ∙ h in cc)
 float_own base before d ds end rest shape true dg e t g h =
     let k = digit_of base in
     let cs : List ℕ = before ++ (d ∷ ds) in
@@ -638,9 +644,9 @@ digits_own_if : (base : _) (before : List ℕ) (d : ℕ) (ds rest : List ℕ) (s
     → Digits base → has_digit base (d ∷ ds) ≡ b → number_of base (before ++ (d ∷ ds)) (d ∷ ds) ≡ Ok (shape, rest)
     → DigitsOwn base before d ds rest shape
 digits_own_if base before d ds rest shape false dg e h =
-    absurd (let w : number_of base (before ++ (d ∷ ds)) (d ∷ ds) ≡ Err (wrong.NoDigits, before ++ (d ∷ ds)) =
+    absurd (let w : number_of base (before ++ (d ∷ ds)) (d ∷ ds) ≡ Err (fault_kind.NoDigits, before ++ (d ∷ ds)) =
     rw (number_of, e) refl in
-    let z : Err (wrong.NoDigits, before ++ (d ∷ ds)) ≡ Ok (shape, rest) = sym w ∙ h in cc)
+    let z : Err (fault_kind.NoDigits, before ++ (d ∷ ds)) ≡ Ok (shape, rest) = sym w ∙ h in cc)
 digits_own_if base before d ds rest shape true dg e h =
     digits_own_of base before d ds rest shape (past_fraction (before ++ (d ∷ ds)) (past (digit_of base) ds)) dg e refl h
 
@@ -684,8 +690,8 @@ based_number : (base : _) (c d : ℕ) (ds rest : List ℕ) (shape : Shape) → D
     → ((ys : List ℕ) → number (c ∷ (d ∷ ys)) ≡ number_of base (c ∷ (d ∷ ys)) ys)
     → number (c ∷ (d ∷ ds)) ≡ Ok (shape, rest) → NumberOwn c (d ∷ ds) rest shape
 based_number base c d [] rest shape dg is h =
-    absurd (let w : number_of base (c ∷ (d ∷ [])) [] ≡ Err (wrong.NoDigits, c ∷ (d ∷ [])) = refl in
-    let z : Err (wrong.NoDigits, c ∷ (d ∷ [])) ≡ Ok (shape, rest) = sym (is [] ∙ w) ∙ h in cc)
+    absurd (let w : number_of base (c ∷ (d ∷ [])) [] ≡ Err (fault_kind.NoDigits, c ∷ (d ∷ [])) = refl in
+    let z : Err (fault_kind.NoDigits, c ∷ (d ∷ [])) ≡ Ok (shape, rest) = sym (is [] ∙ w) ∙ h in cc)
 based_number base c d (x ∷ xs) rest shape dg is h =
     based base c d x xs rest shape is
     (digits_own base (c ∷ (d ∷ [])) x xs rest shape dg (sym (is (x ∷ xs)) ∙ h))

@@ -1,14 +1,15 @@
 -- What a reader passed of a text is read by itself.
-use Rattle.std.proofs.Common.{◌≡◌, ℕ, if◌then◌else◌, Bool, true, false, List, [], ◌∷◌, ◌++◌, length, refl, sym, ap, ◌∙◌, codes, Ok, append_assoc, append-nil, encode_utf8_all}
+use Rattle.std.proofs.Common.{◌≡◌, ℕ, if◌then◌else◌, Bool, true, false, List, [], ◌∷◌, ◌++◌, length, refl, sym, ap, ◌∙◌}
+use Rattle.std.proofs.Common.{codes, Ok, append_assoc, append-nil, encode_utf8_all}
 use Rattle.std.specs.Prelude.{nat_le, bytes_eq}
 use Rattle.unicode_ident.specs.Ident.{is_xid_continue}
 use Rattle.mbe_tt.specs.declared.tt.LitKind.{LitKind}
-use Rattle.mbe_text.specs.declared.wrong.Wrong.TheVariants as wrong
+use Rattle.mbe_text.specs.declared.fault_kind.LexFaultKind.TheVariants as fault_kind
 use Rattle.mbe_text.specs.Characters.{has, begins, past, bytes_before}
-use Rattle.mbe_text.specs.Rust.{Token, literal, past_suffix}
+use Rattle.mbe_text.specs.RustTokens.{RustTokenResult, literal, past_suffix}
 use Rattle.mbe_text.specs.Shapes.{Shape, literal_of}
-use Rattle.mbe_text.specs.Words.{past_word}
-use Rattle.mbe_text.specs.Laws.Rust.{is_start}
+use Rattle.mbe_text.specs.Identifiers.{past_identifier}
+use Rattle.mbe_text.specs.Laws.RustTrees.{is_start}
 use Rattle.mbe_text.proofs.ReadBack.StepLemmas.{bytes_front}
 use Rattle.mbe_text.proofs.ReadBack.QuoteLemmas.{Parts, picked, left_of, shape_of}
 
@@ -45,15 +46,16 @@ run k (c ∷ cs) = run_more k c cs (has k c) refl (run k cs)
 -- the same of what goes on with a word
 pub record WordRun (cs : List ℕ) : Type 0 where
   pub own : List ℕ
-  pub is : cs ≡ own ++ past_word (0 ∷ cs)
-  pub all : past_word (0 ∷ own) ≡ []
+  pub is : cs ≡ own ++ past_identifier (0 ∷ cs)
+  pub all : past_identifier (0 ∷ own) ≡ []
 
 abbrev suffix_if : Bool → ℕ → List ℕ → List ℕ
-suffix_if b c cs = if b then past_word (0 ∷ cs) else c ∷ cs
+suffix_if b c cs = if b then past_identifier (0 ∷ cs) else c ∷ cs
 
 word_run_more : (c : ℕ) (cs : List ℕ) (b : Bool) → is_xid_continue c ≡ b → WordRun cs → WordRun (c ∷ cs)
 word_run_more c cs true e r =
-    let left : past_word (0 ∷ (c ∷ cs)) ≡ past_word (0 ∷ cs) = ap (λ (b : Bool). suffix_if b c cs) e in record {
+    let left : past_identifier (0 ∷ (c ∷ cs)) ≡ past_identifier (0 ∷ cs) =
+    ap (λ (b : Bool). suffix_if b c cs) e in record {
       own = c ∷ r.own;
       is = ap (λ (x : List ℕ). c ∷ x) r.is ∙ ap (λ (x : List ℕ). (c ∷ r.own) ++ x) (sym left);
       all = ap (λ (b : Bool). suffix_if b c r.own) e ∙ r.all;
@@ -83,12 +85,12 @@ record SuffixFound (cs : List ℕ) : Type 0 where
   is : cs ≡ own ++ past_suffix cs
   none : past_suffix own ≡ []
   front : is_suffix own ≡ true
-  all : past_word own ≡ []
+  all : past_identifier own ≡ []
 
 suffix_found_at : (b : Bool) (c : ℕ) (cs : List ℕ) → is_start c ≡ b → SuffixFound (c ∷ cs)
 suffix_found_at true c cs e =
     let r = word_run cs in
-    let left : past_suffix (c ∷ cs) ≡ past_word (0 ∷ cs) = ap (λ (b : Bool). suffix_if b c cs) e in record {
+    let left : past_suffix (c ∷ cs) ≡ past_identifier (0 ∷ cs) = ap (λ (b : Bool). suffix_if b c cs) e in record {
       own = c ∷ r.own;
       is = ap (λ (x : List ℕ). c ∷ x) r.is ∙ ap (λ (x : List ℕ). (c ∷ r.own) ++ x) (sym left);
       none = ap (λ (b : Bool). suffix_if b c r.own) e ∙ r.all;
@@ -120,15 +122,15 @@ pub record Suffix (kind : LitKind) (text cs rest : List ℕ) (shape : Shape) : T
   pub alone : literal kind text own ≡ Ok (shape, [])
   pub shaped : shape ≡ literal_of text (encode_utf8_all own) (length (encode_utf8_all own)) kind
   pub front : is_suffix own ≡ true
-  pub all : past_word own ≡ []
+  pub all : past_identifier own ≡ []
 
 pub literal_cut : (kind : LitKind) (text cs rest : List ℕ) (shape : Shape) → literal kind text cs ≡ Ok (shape, rest)
     → Suffix kind text cs rest shape
 literal_cut kind text cs rest shape h =
     let f = suffix_found cs in
     let suffix = bytes_before cs (past_suffix cs) in
-    let s = picked (bytes_eq suffix (codes "_")) (nat_le (length suffix) 255) (wrong.UnderscoreSuffix, cs)
-    (wrong.LongSuffix, cs)
+    let s = picked (bytes_eq suffix (codes "_")) (nat_le (length suffix) 255) (fault_kind.UnderscoreSuffix, cs)
+    (fault_kind.LongSuffix, cs)
     (Ok (literal_of text suffix (length suffix) kind, past_suffix cs)) (shape, rest) h in
     let left : past_suffix cs ≡ rest = ap left_of s.2 in
     let was : literal_of text suffix (length suffix) kind ≡ shape = ap (shape_of shape) s.2 in
@@ -152,7 +154,8 @@ literal_cut kind text cs rest shape h =
 -- ---- what is between quotes
 
 -- a literal in quotes, and that it is read by itself
-pub record Own (read : List ℕ → List ℕ → Token) (end : List ℕ) (kind : LitKind) (cs rest : List ℕ) (shape : Shape)
+pub record Own (read : List ℕ → List ℕ → RustTokenResult) (end : List ℕ) (kind : LitKind) (cs rest : List ℕ)
+    (shape : Shape)
     : Type 0 where
   pub body : List ℕ
   pub suffix : List ℕ
@@ -162,7 +165,8 @@ pub record Own (read : List ℕ → List ℕ → Token) (end : List ℕ) (kind :
   pub shaped : shape
       ≡ literal_of (encode_utf8_all body) (encode_utf8_all suffix) (length (encode_utf8_all suffix)) kind
 
-pub parts_cut : (read : List ℕ → List ℕ → Token) (end : List ℕ) (kind : LitKind) (cs rest : List ℕ) (shape : Shape)
+pub parts_cut : (read : List ℕ → List ℕ → RustTokenResult) (end : List ℕ) (kind : LitKind) (cs rest : List ℕ)
+    (shape : Shape)
     → Parts read end kind cs (shape, rest) → Own read end kind cs rest shape
 parts_cut read end kind cs rest shape p =
     let s = literal_cut kind (encode_utf8_all p.body) p.more rest shape p.was in record {

@@ -1,5 +1,7 @@
 -- A literal in quotes that is read by itself is read before whatever doesn't go on with its suffix.
-use Rattle.std.proofs.Common.{◌≡◌, ℕ, ◌==◌, ◌-◌, ◌<◌, ◌&&◌, ◌||◌, if◌then◌else◌, Bool, true, false, List, [], ◌∷◌, ◌++◌, length, take, refl, sym, ap, ◌∙◌, arith, codes, Option, Some, None, Ok, Err, append_assoc, append-nil, length-append, encode_utf8_all}
+use Rattle.std.proofs.Common.{◌≡◌, ℕ, ◌==◌, ◌-◌, ◌<◌, ◌&&◌, ◌||◌, if◌then◌else◌, Bool, true, false, List, [], ◌∷◌, ◌++◌}
+use Rattle.std.proofs.Common.{length, take, refl, sym, ap, ◌∙◌, arith, codes, Option, Some, None, Ok, Err, append_assoc}
+use Rattle.std.proofs.Common.{append-nil, length-append, encode_utf8_all}
 use Rattle.std.specs.Prelude.{nat_le, bytes_eq}
 use Rattle.std.specs.Str.{IsUtf8}
 use Rattle.std.proofs.lemmas.Bool.Decides.{nat_tests}
@@ -16,14 +18,15 @@ use Rattle.mbe_tt.specs.declared.span.Edition.TheVariants.{Edition2015, Edition2
 use Rattle.mbe_tt.specs.declared.tt.LitKind.{LitKind}
 use Rattle.mbe_tt.specs.declared.tt.LitKind.TheVariants as kinds
 use Rattle.mbe_text.specs.Characters.{begins_with, bytes_before}
-use Rattle.mbe_text.specs.declared.wrong.Wrong.TheVariants as wrong
-use Rattle.mbe_text.specs.Escapes.{At, Checked, check_string}
-use Rattle.mbe_text.specs.Extents.{front, from_string_end}
-use Rattle.mbe_text.specs.Rust.{Token, read_rust, literal, past_suffix, string, string_until, within}
+use Rattle.mbe_text.specs.declared.fault_kind.LexFaultKind.TheVariants as fault_kind
+use Rattle.mbe_text.specs.Escapes.{SeenFault, CheckResult, check_string}
+use Rattle.mbe_text.specs.QuoteEnds.{front, from_string_end}
+use Rattle.mbe_text.specs.RustTokens.{RustTokenResult, read_rust, literal, past_suffix, string, string_until, within}
 use Rattle.mbe_text.specs.Shapes.{Shape, identifier, literal_of, punct_of, lifetime_of, doc_of, opening, closing}
-use Rattle.mbe_text.specs.Words.{past_word}
-use Rattle.mbe_text.specs.Laws.Back.{StringsAreRead, is_string}
-use Rattle.mbe_text.specs.Laws.Rust.{is_start, continues_word, begins_literal, begins_field, ends_literal, IsReadBefore, IsLiteral, MayPrecedeDots}
+use Rattle.mbe_text.specs.Identifiers.{past_identifier}
+use Rattle.mbe_text.specs.Laws.RoundTrip.{StringsAreRead, is_string}
+use Rattle.mbe_text.specs.Laws.RustTrees.{is_start, continues_word, begins_literal, begins_field, ends_literal}
+use Rattle.mbe_text.specs.Laws.RustTrees.{IsReadBefore, IsLiteral, MayPrecedeDots}
 use Rattle.mbe_text.proofs.ReadBack.TextLemmas.{ascii_utf8, ascii_chars}
 use Rattle.mbe_text.proofs.ReadBack.StepLemmas.{past_all, bytes_front}
 
@@ -43,10 +46,10 @@ suffix_of : (d : ℕ) (ds rest : List ℕ) (b : Bool) → is_start d ≡ b → p
     → continues_word rest ≡ false
     → past_suffix (d ∷ (ds ++ rest)) ≡ rest
 suffix_of d ds rest true e p h =
-    let q : past_word (0 ∷ ds) ≡ [] = sym (ap (λ (b : Bool). if b then past_word (0 ∷ ds) else d ∷ ds) e)
+    let q : past_identifier (0 ∷ ds) ≡ [] = sym (ap (λ (b : Bool). if b then past_identifier (0 ∷ ds) else d ∷ ds) e)
     ∙ p in rw e (past_all ds rest q h)
 suffix_of d ds rest false e p h =
-    absurd (let z : d ∷ ds ≡ [] = sym (ap (λ (b : Bool). if b then past_word (0 ∷ ds) else d ∷ ds) e) ∙ p in cc)
+    absurd (let z : d ∷ ds ≡ [] = sym (ap (λ (b : Bool). if b then past_identifier (0 ∷ ds) else d ∷ ds) e) ∙ p in cc)
 
 suffix_on : (ds rest : List ℕ) → past_suffix ds ≡ [] → continues_word rest ≡ false → past_suffix (ds ++ rest) ≡ rest
 suffix_on [] [] p h = refl
@@ -54,20 +57,20 @@ suffix_on [] (c ∷ cs) p h = rw (not_start_of c (is_start c) refl h) refl
 suffix_on (d ∷ ds) rest p h = suffix_of d ds rest (is_start d) refl p h
 
 -- a token where neither is wrong
-abbrev pub pick : Bool → Bool → At → Token → At → Token
+abbrev pub pick : Bool → Bool → SeenFault → RustTokenResult → SeenFault → RustTokenResult
 pick low fits x t y = if low then Err x else if fits then t else Err y
 
-pub picked : (low fits : Bool) (x y : At) (t : Token) (r : Shape × List ℕ) → pick low fits x t y ≡ Ok r
+pub picked : (low fits : Bool) (x y : SeenFault) (t : RustTokenResult) (r : Shape × List ℕ) → pick low fits x t y ≡ Ok r
     → (low ≡ false) × (fits ≡ true) × (t ≡ Ok r)
 picked true fits x y t r h = absurd (cc)
 picked false true x y t r h = (refl, refl, h)
 picked false false x y t r h = absurd (cc)
 
-abbrev pub left_of : Token → List ℕ
+abbrev pub left_of : RustTokenResult → List ℕ
 left_of (Ok r) = r.1
 left_of (Err at) = []
 
-abbrev pub shape_of : Shape → Token → Shape
+abbrev pub shape_of : Shape → RustTokenResult → Shape
 shape_of s (Ok r) = r.0
 shape_of s (Err at) = s
 
@@ -76,8 +79,8 @@ pub literal_on : (kind : LitKind) (text ds rest : List ℕ) (shape : Shape) → 
     → literal kind text (ds ++ rest) ≡ Ok (shape, rest)
 literal_on kind text ds rest shape h k =
     let suffix = bytes_before ds (past_suffix ds) in
-    let s = picked (bytes_eq suffix (codes "_")) (nat_le (length suffix) 255) (wrong.UnderscoreSuffix, ds)
-    (wrong.LongSuffix, ds)
+    let s = picked (bytes_eq suffix (codes "_")) (nat_le (length suffix) 255) (fault_kind.UnderscoreSuffix, ds)
+    (fault_kind.LongSuffix, ds)
     (Ok (literal_of text suffix (length suffix) kind, past_suffix ds)) (shape, []) h in
     let none : past_suffix ds ≡ [] = ap left_of s.2 in
     let shaped : literal_of text suffix (length suffix) kind ≡ shape = ap (shape_of shape) s.2 in
@@ -90,7 +93,7 @@ literal_on kind text ds rest shape h k =
 -- ---- what is between quotes
 
 -- A text between quotes, whose second quote is that end, is the same literal before each suffix.
-pub record Parts (read : List ℕ → List ℕ → Token) (end : List ℕ) (kind : LitKind) (cs : List ℕ)
+pub record Parts (read : List ℕ → List ℕ → RustTokenResult) (end : List ℕ) (kind : LitKind) (cs : List ℕ)
     (r : Shape × List ℕ) : Type 0 where
   pub body : List ℕ
   pub more : List ℕ
@@ -98,7 +101,8 @@ pub record Parts (read : List ℕ → List ℕ → Token) (end : List ℕ) (kind
   pub at : (from m : List ℕ) → read from (body ++ (end ++ m)) ≡ literal kind (encode_utf8_all body) m
   pub was : literal kind (encode_utf8_all body) more ≡ Ok r
 
-pub parts_on : (read : List ℕ → List ℕ → Token) (end : List ℕ) (kind : LitKind) (cs rest : List ℕ) (shape : Shape)
+pub parts_on : (read : List ℕ → List ℕ → RustTokenResult) (end : List ℕ) (kind : LitKind) (cs rest : List ℕ)
+    (shape : Shape)
     → Parts read end kind cs (shape, []) → (from : List ℕ) → continues_word rest ≡ false
     → read from (cs ++ rest) ≡ Ok (shape, rest)
 parts_on read end kind cs rest shape p from k =
@@ -179,12 +183,12 @@ string_found (c ∷ cs) end true h =
 string_found (c ∷ cs) end false h = string_found_at (c == 34) c cs end refl (string_found cs end) h
 
 -- what a check finds is the same, and then the literal
-abbrev pub checked : Checked → List ℕ → Token → Token
+abbrev pub checked : CheckResult → List ℕ → RustTokenResult → RustTokenResult
 checked (Ok u) end t = t
 checked (Err at) end t = Err (within end at)
 
-pub checked_is : (c : Checked) (end : List ℕ) (t : Token) (r : Shape × List ℕ) → checked c end t ≡ Ok r
-    → (t ≡ Ok r) × ((d : List ℕ) (u : Token) → checked c d u ≡ u)
+pub checked_is : (c : CheckResult) (end : List ℕ) (t : RustTokenResult) (r : Shape × List ℕ) → checked c end t ≡ Ok r
+    → (t ≡ Ok r) × ((d : List ℕ) (u : RustTokenResult) → checked c d u ≡ u)
 checked_is (Ok u) end t r h = (h, λ d v. refl)
 checked_is (Err at) end t r h = absurd (cc)
 
@@ -193,7 +197,7 @@ front_of own end =
     let n : length (own ++ end) - length end ≡ length own = omega (arith, length-append own end) in
     ap (λ (k : ℕ). take k (own ++ end)) n ∙ take-append_seam own end
 
-until_same : (x : Checked) (end : List ℕ) (t : Token) → (elim x as (λ y. Token) [
+until_same : (x : CheckResult) (end : List ℕ) (t : RustTokenResult) → (elim x as (λ y. RustTokenResult) [
   | Ok u ↦ t
   | Err at ↦ Err
       (within end at)
@@ -212,14 +216,14 @@ until_is kind q own c more =
     ∙ ap (λ (x : List ℕ). checked (check_string q 0 own) (c ∷ more) (literal kind x more)) (bytes_front own (c ∷ more)))
 
 unended : (kind : LitKind) (q : _) (c : ℕ) (cs : List ℕ) → from_string_end false cs ≡ None
-    → string kind q (c ∷ cs) ≡ Err (wrong.OpenString, c ∷ cs)
+    → string kind q (c ∷ cs) ≡ Err (fault_kind.UnterminatedString, c ∷ cs)
 unended kind q c cs e = rw (string, e) refl
 
 pub string_parts : (kind : LitKind) (q : _) (c : ℕ) (cs : List ℕ) (r : Shape × List ℕ) (o : Option (List ℕ))
     → from_string_end false cs ≡ o → string kind q (c ∷ cs) ≡ Ok r
     → Parts (λ from y. string kind q (c ∷ y)) (34 ∷ []) kind cs r
 string_parts kind q c cs r None e h =
-    absurd (let z : Err (wrong.OpenString, c ∷ cs) ≡ Ok r = sym (unended kind q c cs e) ∙ h in cc)
+    absurd (let z : Err (fault_kind.UnterminatedString, c ∷ cs) ≡ Ok r = sym (unended kind q c cs e) ∙ h in cc)
 string_parts kind q c cs r (Some end) e h =
     let f = string_found cs end false e in
     let before : string kind q (c ∷ cs) ≡ string_until kind q cs end = rw (string, e) refl in
@@ -249,7 +253,7 @@ string_on kind q c cs rest shape h k =
 
 -- ---- what a string begins with
 
-abbrev pub token_of : Token → Option Token → Token
+abbrev pub token_of : RustTokenResult → Option RustTokenResult → RustTokenResult
 token_of other (Some t) = t
 token_of other None = other
 
@@ -279,7 +283,7 @@ is_name (doc_of text inner) = false
 is_name (opening k) = false
 is_name (closing k) = false
 
-abbrev pub is_identifier : Token → Bool
+abbrev pub is_identifier : RustTokenResult → Bool
 is_identifier (Ok r) = is_name r.0
 is_identifier (Err at) = false
 
@@ -287,11 +291,11 @@ c_case : (e : Edition) (cs rest : List ℕ) (text suffix : List ℕ) (n : ℕ) (
     → read_rust e (99 ∷ (34 ∷ cs)) ≡ Some (Ok (literal_of text suffix n kind, [])) → continues_word rest ≡ false
     → read_rust e (99 ∷ (34 ∷ (cs ++ rest))) ≡ Some (Ok (literal_of text suffix n kind, rest))
 c_case Edition2015 cs rest text suffix n kind h k =
-    absurd (let z : true ≡ false = ap (λ (o : Option Token). is_identifier (token_of (Err
-    (wrong.OpenString, [])) o)) h in cc)
+    absurd (let z : true ≡ false = ap (λ (o : Option RustTokenResult). is_identifier (token_of (Err
+    (fault_kind.UnterminatedString, [])) o)) h in cc)
 c_case Edition2018 cs rest text suffix n kind h k =
-    absurd (let z : true ≡ false = ap (λ (o : Option Token). is_identifier (token_of (Err
-    (wrong.OpenString, [])) o)) h in cc)
+    absurd (let z : true ≡ false = ap (λ (o : Option RustTokenResult). is_identifier (token_of (Err
+    (fault_kind.UnterminatedString, [])) o)) h in cc)
 c_case Edition2021 cs rest text suffix n kind h k = search (string_some, h, k)
 c_case Edition2024 cs rest text suffix n kind h k = search (string_some, h, k)
 

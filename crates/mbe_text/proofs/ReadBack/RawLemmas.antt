@@ -1,5 +1,7 @@
 -- A raw string that is read by itself is read before whatever doesn't go on with its suffix.
-use Rattle.std.proofs.Common.{◌≡◌, ℕ, zero, suc, ◌==◌, ◌+◌, ◌&&◌, if◌then◌else◌, Bool, true, false, List, [], ◌∷◌, ◌++◌, length, drop, refl, sym, ap, ◌∙◌, arith, codes, Option, Some, None, Ok, Err, append_assoc, encode_utf8_all, chars}
+use Rattle.std.proofs.Common.{◌≡◌, ℕ, zero, suc, ◌==◌, ◌+◌, ◌&&◌, if◌then◌else◌, Bool, true, false, List, [], ◌∷◌, ◌++◌}
+use Rattle.std.proofs.Common.{length, drop, refl, sym, ap, ◌∙◌, arith, codes, Option, Some, None, Ok, Err, append_assoc}
+use Rattle.std.proofs.Common.{encode_utf8_all, chars}
 use Rattle.std.specs.Prelude.{nat_le, replicate}
 use Rattle.std.proofs.Math.Seq.{drop-append_seam}
 use Rattle.std.proofs.lemmas.Str.{encode_ascii}
@@ -10,16 +12,18 @@ use Rattle.mbe_tt.specs.declared.span.Edition.TheVariants.{Edition2015, Edition2
 use Rattle.mbe_tt.specs.declared.tt.LitKind.{LitKind}
 use Rattle.mbe_tt.specs.declared.tt.LitKind.TheVariants as kinds
 use Rattle.mbe_text.specs.Characters.{begins_with, bytes_before, has, past}
-use Rattle.mbe_text.specs.declared.wrong.Wrong.TheVariants as wrong
-use Rattle.mbe_text.specs.Escapes.{Checked, check_raw}
-use Rattle.mbe_text.specs.Extents.{front, from_raw_end}
-use Rattle.mbe_text.specs.Rust.{Token, read_rust, literal, raw_kind, raw_until, raw_body, raw_string}
+use Rattle.mbe_text.specs.declared.fault_kind.LexFaultKind.TheVariants as fault_kind
+use Rattle.mbe_text.specs.Escapes.{CheckResult, check_raw}
+use Rattle.mbe_text.specs.QuoteEnds.{front, from_raw_end}
+use Rattle.mbe_text.specs.RustTokens.{RustTokenResult, read_rust, literal, raw_kind, raw_until, raw_body, raw_string}
 use Rattle.mbe_text.specs.Shapes.{Shape, literal_of}
-use Rattle.mbe_text.specs.Laws.Back.{RawStringsAreRead, is_raw}
-use Rattle.mbe_text.specs.Laws.Rust.{continues_word}
+use Rattle.mbe_text.specs.Laws.RoundTrip.{RawStringsAreRead, is_raw}
+use Rattle.mbe_text.specs.Laws.RustTrees.{continues_word}
 use Rattle.mbe_text.proofs.ReadBack.EndLemmas.{r_is_start}
 use Rattle.mbe_text.proofs.ReadBack.StepLemmas.{bytes_front}
-use Rattle.mbe_text.proofs.ReadBack.QuoteLemmas.{same_char, Parts, parts_on, front_of, token_of, checked, checked_is, is_identifier, extends, one_char, two_chars, letter_begins, b_is_start, c_is_start, AllExtend, all_are_read}
+use Rattle.mbe_text.proofs.ReadBack.QuoteLemmas.{same_char, Parts, parts_on, front_of, token_of, checked, checked_is}
+use Rattle.mbe_text.proofs.ReadBack.QuoteLemmas.{is_identifier, extends, one_char, two_chars, letter_begins, b_is_start}
+use Rattle.mbe_text.proofs.ReadBack.QuoteLemmas.{c_is_start, AllExtend, all_are_read}
 
 -- so many `#`
 abbrev pub marked : ℕ → List ℕ
@@ -101,7 +105,7 @@ raw_found n (c ∷ cs) end h =
 
 -- ---- the string
 
-until_of : (q : _) (n : ℕ) (body end : List ℕ) (x : Checked) → check_raw q (front body end) ≡ x
+until_of : (q : _) (n : ℕ) (body end : List ℕ) (x : CheckResult) → check_raw q (front body end) ≡ x
     → raw_until q n body end ≡ checked x end (literal (raw_kind q n) (bytes_before body end) (drop (n + 1) end))
 until_of q n body end (Ok u) e = rw (raw_until, e) refl
 until_of q n body end (Err at) e = rw (raw_until, e) refl
@@ -124,11 +128,12 @@ pub body_parts : (q : _) (from : List ℕ) (n : ℕ) (cs : List ℕ) (r : Shape 
     → raw_body q from (marked n) cs ≡ Ok r
     → Parts (λ other y. raw_body q other (marked n) y) (34 ∷ marked n) (raw_kind q (length (marked n))) cs r
 body_parts q from n cs r None b e le h =
-    absurd (let w : raw_body q from (marked n) cs ≡ Err (wrong.OpenRawString, from) = rw (raw_body, e) refl in
-    let z : Err (wrong.OpenRawString, from) ≡ Ok r = sym w ∙ h in cc)
+    absurd (let w : raw_body q from (marked n) cs
+    ≡ Err (fault_kind.UnterminatedRawString, from) = rw (raw_body, e) refl in
+    let z : Err (fault_kind.UnterminatedRawString, from) ≡ Ok r = sym w ∙ h in cc)
 body_parts q from n cs r (Some end) false e le h =
-    absurd (let w : raw_body q from (marked n) cs ≡ Err (wrong.RawStringHashes, from) = rw (raw_body, e, le) refl in
-    let z : Err (wrong.RawStringHashes, from) ≡ Ok r = sym w ∙ h in cc)
+    absurd (let w : raw_body q from (marked n) cs ≡ Err (fault_kind.TooManyHashes, from) = rw (raw_body, e, le) refl in
+    let z : Err (fault_kind.TooManyHashes, from) ≡ Ok r = sym w ∙ h in cc)
 body_parts q from n cs r (Some end) true e le h =
     let m : ℕ = length (marked n) in
     let f = raw_found n cs end e in
@@ -175,12 +180,13 @@ marks_are (suc n) =
     ∙ ap (λ (x : List ℕ). 35 ∷ x) (marks_are n)
 
 -- a raw string, where that passes its `#`
-abbrev pub raw_from : List ℕ → (List ℕ → List ℕ → Token) → List ℕ → List ℕ → Token
+abbrev pub raw_from : List ℕ → (List ℕ → List ℕ → RustTokenResult) → List ℕ → List ℕ → RustTokenResult
 raw_from from body cs quote =
     if begins_with (codes "\"") quote then body (bytes_before cs quote) (drop 1 quote) else Err
-    (wrong.RawStringStart, from)
+    (fault_kind.RawStringStart, from)
 
-raw_is : (from : List ℕ) (body : List ℕ → List ℕ → Token) (n : ℕ) (cs : List ℕ) (quote : List ℕ) → quote ≡ 34 ∷ cs
+raw_is : (from : List ℕ) (body : List ℕ → List ℕ → RustTokenResult) (n : ℕ) (cs : List ℕ) (quote : List ℕ) → quote ≡ 34
+    ∷ cs
     → raw_from from body (marked n ++ (34 ∷ cs)) quote ≡ body (marked n) cs
 raw_is from body n cs quote e =
     ap (raw_from from body (marked n ++ (34 ∷ cs))) e
@@ -257,11 +263,11 @@ c_case : (e : Edition) (n : ℕ) (cs rest : List ℕ) (text suffix : List ℕ) (
     → continues_word rest ≡ false
     → read_rust e (99 ∷ (114 ∷ (marked n ++ (34 ∷ (cs ++ rest))))) ≡ Some (Ok (literal_of text suffix len kind, rest))
 c_case Edition2015 n cs rest text suffix len kind h k =
-    absurd (let z : true ≡ false = ap (λ (o : Option Token). is_identifier (token_of (Err
-    (wrong.OpenString, [])) o)) h in cc)
+    absurd (let z : true ≡ false = ap (λ (o : Option RustTokenResult). is_identifier (token_of (Err
+    (fault_kind.UnterminatedString, [])) o)) h in cc)
 c_case Edition2018 n cs rest text suffix len kind h k =
-    absurd (let z : true ≡ false = ap (λ (o : Option Token). is_identifier (token_of (Err
-    (wrong.OpenString, [])) o)) h in cc)
+    absurd (let z : true ≡ false = ap (λ (o : Option RustTokenResult). is_identifier (token_of (Err
+    (fault_kind.UnterminatedString, [])) o)) h in cc)
 c_case Edition2021 zero cs rest text suffix len kind h k =
     search (raw_none cs rest (literal_of text suffix len kind), h, k)
 c_case Edition2021 (suc n) cs rest text suffix len kind h k =

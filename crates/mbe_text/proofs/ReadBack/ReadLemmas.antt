@@ -1,5 +1,6 @@
 -- Each token that is written is read.
-use Rattle.std.proofs.Common.{◌≡◌, ◌≢◌, ℕ, ◌==◌, ◌<◌, ◌&&◌, Bool, true, false, List, [], ◌∷◌, ◌++◌, refl, sym, ap, ◌∙◌, arith, Option, Some, None, Ok, chars, encode_utf8_all, subst}
+use Rattle.std.proofs.Common.{◌≡◌, ◌≢◌, ℕ, ◌==◌, ◌<◌, ◌&&◌, Bool, true, false, List, [], ◌∷◌, ◌++◌, refl, sym, ap, ◌∙◌}
+use Rattle.std.proofs.Common.{arith, Option, Some, None, Ok, chars, encode_utf8_all, subst}
 use Rattle.std.proofs.lemmas.Bool.Decides.{nat_tests}
 use Rattle.std.proofs.lemmas.Str.{encodes-chars}
 use Rattle.std.specs.Char.{is_ascii_digit}
@@ -14,19 +15,21 @@ use Rattle.mbe_tt.specs.Trees.Editions.{at_least_2024}
 use Rattle.mbe_tt.specs.Trees.Leaf.{Literal}
 use Rattle.mbe_tt.specs.Trees.Literals.{raw_prefix, literal_output}
 use Rattle.mbe_text.specs.declared.dialect.Dialect.TheVariants.{Rust}
-use Rattle.mbe_text.specs.Blanks.{begins_comment}
+use Rattle.mbe_text.specs.Whitespace.{begins_comment}
 use Rattle.mbe_text.specs.Characters.{is_space}
-use Rattle.mbe_text.specs.Dialect.{or_sign}
-use Rattle.mbe_text.specs.Division.{next_token}
-use Rattle.mbe_text.specs.Rust.{read_rust, is_guard, Token}
+use Rattle.mbe_text.specs.Dialect.{or_punctuation}
+use Rattle.mbe_text.specs.LexedTrees.{next_token}
+use Rattle.mbe_text.specs.RustTokens.{read_rust, is_guard, RustTokenResult}
 use Rattle.mbe_text.specs.Shapes.{Shape, identifier, literal_of, lifetime_of, punct_of, opening, closing}
-use Rattle.mbe_text.specs.Signs.{read_sign, side, spacing_before}
+use Rattle.mbe_text.specs.Punctuation.{read_punctuation, side, spacing_before}
 use Rattle.mbe_text.specs.Tokens.{opening_text, closing_text}
-use Rattle.mbe_text.specs.Words.{past_word}
+use Rattle.mbe_text.specs.Identifiers.{past_identifier}
 use Rattle.mbe_text.specs.Laws.Gaps.{is_punct}
-use Rattle.mbe_text.specs.Laws.Rust.{IsWord, may_be, may_be_lifetime, IsLiteral, IsReadBefore, is_start, begins_literal}
+use Rattle.mbe_text.specs.Laws.RustTrees.{IsWord, may_be, may_be_lifetime, IsLiteral, IsReadBefore, is_start}
+use Rattle.mbe_text.specs.Laws.RustTrees.{begins_literal}
 use Rattle.mbe_text.proofs.ReadBack.EndLemmas.{ends_word, space_not_start, start_not_slash, punct_not_start}
-use Rattle.mbe_text.proofs.ReadBack.StepLemmas.{taken, read_here, no_blank, no_comment, no_doc, word_read, raw_read, lifetime_read, raw_lifetime_read, sign_read}
+use Rattle.mbe_text.proofs.ReadBack.StepLemmas.{taken, read_here, no_blank, no_comment, no_doc, word_read, raw_read}
+use Rattle.mbe_text.proofs.ReadBack.StepLemmas.{lifetime_read, raw_lifetime_read, sign_read}
 use Rattle.mbe_text.proofs.ReadBack.TextLemmas.{ascii_chars}
 use Rattle.mbe_text.proofs.ReadBack.FollowLemmas.{Letters, letters, raw_chars}
 use Rattle.mbe_text.proofs.ReadBack.NextLemmas.{IsPunctBefore}
@@ -40,7 +43,8 @@ reads_at : (e : Edition) (total c : ℕ) (cs rest : List ℕ) (shape : Shape) �
     → read_rust e (c ∷ cs) ≡ Some (Ok (shape, rest)) → Reads e total (c ∷ cs) shape rest
 reads_at e total c cs rest shape b n r = record {
   from = c ∷ cs;
-  is = read_here e total c cs rest shape (no_blank e total c cs b n) (ap (λ (o : Option Token). or_sign total
+  is = read_here e total c cs rest shape (no_blank e total c cs b n)
+      (ap (λ (o : Option RustTokenResult). or_punctuation total
       (c ∷ cs) o) r);
 }
 
@@ -61,7 +65,7 @@ pub word_reads : (e : Edition) (total : ℕ) (r : IdentIsRaw) (name rest : List 
     → Reads e total (chars (raw_prefix r ++ name) ++ rest) (identifier name r) rest
 word_reads e total No name rest w m h =
     let a = letters name w in
-    let p : past_word (0 ∷ a.more) ≡ [] = sym (ap past_word a.are) ∙ w.2 in
+    let p : past_identifier (0 ∷ a.more) ≡ [] = sym (ap past_identifier a.are) ∙ w.2 in
     reads_same e total (chars name ++ rest) (a.first ∷ (a.more ++ rest)) rest (identifier name No) (ap (λ
     (x : List ℕ). x ++ rest) a.are)
     (subst (λ (x : List ℕ). Reads e total (a.first ∷ (a.more ++ rest)) (identifier x No) rest) (name_is name a w)
@@ -70,7 +74,7 @@ word_reads e total No name rest w m h =
     (word_read e a.first a.more rest a.starts p h)))
 word_reads e total Yes name rest w m h =
     let a = letters name w in
-    let p : past_word (0 ∷ a.more) ≡ [] = sym (ap past_word a.are) ∙ w.2 in
+    let p : past_identifier (0 ∷ a.more) ≡ [] = sym (ap past_identifier a.are) ∙ w.2 in
     let n = name_is name a w in
     reads_same e total (chars (raw_prefix Yes ++ name) ++ rest) (114 ∷ (35 ∷ (a.first ∷ (a.more ++ rest)))) rest
     (identifier name Yes)
@@ -84,7 +88,7 @@ pub lifetime_reads : (e : Edition) (total : ℕ) (r : IdentIsRaw) (name rest : L
     → ends_word rest ≡ true → Reads e total (39 ∷ (chars (raw_prefix r ++ name) ++ rest)) (lifetime_of name r) rest
 lifetime_reads e total No name rest w m l h =
     let a = letters name w in
-    let p : past_word (0 ∷ a.more) ≡ [] = sym (ap past_word a.are) ∙ w.2 in
+    let p : past_identifier (0 ∷ a.more) ≡ [] = sym (ap past_identifier a.are) ∙ w.2 in
     reads_same e total (39 ∷ (chars name ++ rest)) (39 ∷ (a.first ∷ (a.more ++ rest))) rest (lifetime_of name No)
     (ap (λ (x : List ℕ). 39 ∷ (x ++ rest)) a.are)
     (subst (λ (x : List ℕ). Reads e total (39 ∷ (a.first ∷ (a.more ++ rest))) (lifetime_of x No) rest)
@@ -93,7 +97,7 @@ lifetime_reads e total No name rest w m l h =
     (lifetime_read e a.first a.more rest a.starts p h)))
 lifetime_reads e total Yes name rest w m l h =
     let a = letters name w in
-    let p : past_word (0 ∷ a.more) ≡ [] = sym (ap past_word a.are) ∙ w.2 in
+    let p : past_identifier (0 ∷ a.more) ≡ [] = sym (ap past_identifier a.are) ∙ w.2 in
     let n = name_is name a w in
     reads_same e total (39 ∷ (chars (raw_prefix Yes ++ name) ++ rest)) (39 ∷ (114 ∷ (35 ∷ (a.first ∷
     (a.more ++ rest))))) rest (lifetime_of name Yes)
@@ -125,11 +129,12 @@ literal_reads e total l rest lit b =
 
 sign_at : (e : Edition) (total c : ℕ) (cs rest : List ℕ) (shape : Shape) → is_space c ≡ false
     → begins_comment (c ∷ cs) ≡ false
-    → read_rust e (c ∷ cs) ≡ None → read_sign total (c ∷ cs) ≡ Ok (shape, rest) → Reads e total (c ∷ cs) shape rest
+    → read_rust e (c ∷ cs) ≡ None → read_punctuation total (c ∷ cs) ≡ Ok (shape, rest)
+    → Reads e total (c ∷ cs) shape rest
 sign_at e total c cs rest shape b n r s = record {
   from = c ∷ cs;
   is = read_here e total c cs rest shape (no_comment e total c cs b n (no_doc c cs n)) (ap (λ
-      (o : Option Token). or_sign total (c ∷ cs) o) r ∙ s);
+      (o : Option RustTokenResult). or_punctuation total (c ∷ cs) o) r ∙ s);
 }
 
 pub record NoLetter (c : ℕ) : Type 0 where
@@ -165,9 +170,9 @@ punct_no_side c h = (
 )
 
 pub punct_sign : (total c : ℕ) (sp : Spacing) (rest : List ℕ) → is_punct c ≡ true → spacing_before rest ≡ sp
-    → read_sign total (c ∷ rest) ≡ Ok (punct_of c sp, rest)
+    → read_punctuation total (c ∷ rest) ≡ Ok (punct_of c sp, rest)
 punct_sign total c sp rest h e =
-    let n = punct_no_side c h in rw (read_sign, side, n.0, n.1, n.2, n.3, n.4, n.5, h) (ap (λ (x : Spacing). Ok
+    let n = punct_no_side c h in rw (read_punctuation, side, n.0, n.1, n.2, n.3, n.4, n.5, h) (ap (λ (x : Spacing). Ok
     (punct_of c x, rest)) e)
 
 pub punct_reads : (e : Edition) (total c : ℕ) (sp : Spacing) (rest : List ℕ) → is_punct c ≡ true
@@ -186,7 +191,7 @@ no_and false = refl
 -- a side of a group
 side_at : (e : Edition) (total c : ℕ) (shape : Shape) (rest : List ℕ) → NoLetter c → is_start c ≡ false
     → (c == 35) ≡ false → (c == 47) ≡ false
-    → c < 128 → read_sign total (c ∷ rest) ≡ Ok (shape, rest) → Reads e total (chars (c ∷ []) ++ rest) shape rest
+    → c < 128 → read_punctuation total (c ∷ rest) ≡ Ok (shape, rest) → Reads e total (chars (c ∷ []) ++ rest) shape rest
 side_at e total c shape rest n s h l small sign =
     let comment : begins_comment (c ∷ rest) ≡ false = rw l refl in
     let guard : is_guard e (c ∷ rest) ≡ false = rw h (no_and (at_least_2024 e)) in

@@ -1,5 +1,6 @@
 -- Each token that the lexer makes is one of Rust.
-use Rattle.std.proofs.Common.{◌≡◌, ℕ, ◌&&◌, Bool, true, false, List, [], ◌∷◌, ◌++◌, refl, sym, ap, ◌∙◌, arith, codes, encode_utf8_all, chars}
+use Rattle.std.proofs.Common.{◌≡◌, ℕ, ◌&&◌, Bool, true, false, List, [], ◌∷◌, ◌++◌, refl, sym, ap, ◌∙◌, arith, codes}
+use Rattle.std.proofs.Common.{encode_utf8_all, chars}
 use Rattle.unicode_ident.proofs.Computing.{unicode_ident}
 use Rattle.std.proofs.lemmas.Str.{chars-encodes}
 use Rattle.mbe_tt.specs.Trees.Editions.{at_least_2024}
@@ -16,8 +17,8 @@ use Rattle.mbe_tt.specs.declared.tt.Spacing.TheVariants.{Alone}
 use Rattle.mbe_text.specs.Characters.{offset}
 use Rattle.mbe_text.specs.Shapes.{Shape, identifier, literal_of, punct_of, lifetime_of, doc_of, opening, closing}
 use Rattle.mbe_text.specs.Tokens.{bytes_of, punct_leaf, ident_leaf, raw_string_leaf, most_guards}
-use Rattle.mbe_text.specs.Words.{past_word}
-use Rattle.mbe_text.specs.Laws.Rust.{is_start, begins_word, are_together, IsWord, AreRust}
+use Rattle.mbe_text.specs.Identifiers.{past_identifier}
+use Rattle.mbe_text.specs.Laws.RustTrees.{is_start, begins_word, are_together, IsWord, AreRust}
 use Rattle.mbe_text.proofs.ReadBack.DocTextLemmas.{doc_literal, doc_spelled}
 use Rattle.mbe_text.proofs.ReadBack.LiteralLemmas.{the_literal, one_byte}
 use Rattle.mbe_text.proofs.ReadBack.ShapeLemmas.{Lexed, IsDocText}
@@ -30,7 +31,7 @@ d_is_start : is_start 100 ≡ true
 unfolding unicode_ident
 d_is_start = refl
 
-doc_past : past_word (codes "doc") ≡ []
+doc_past : past_identifier (codes "doc") ≡ []
 unfolding unicode_ident
 doc_past = refl
 
@@ -42,7 +43,7 @@ doc_bytes =
 doc_word : IsWord (codes "doc")
 doc_word =
     let known : chars (codes "doc") ≡ codes "doc" = ap chars (sym doc_bytes) ∙ chars-encodes (codes "doc") refl in
-    ((codes "doc", (refl, doc_bytes)), ap begins_word known ∙ d_is_start, ap past_word known ∙ doc_past)
+    ((codes "doc", (refl, doc_bytes)), ap begins_word known ∙ d_is_start, ap past_identifier known ∙ doc_past)
 
 self_place : (file a b : ℕ) → are_together (bytes_of file a b) (bytes_of file a b) ≡ true
 self_place file a b = rw (self file, self a, self b) refl
@@ -119,7 +120,7 @@ pub are_rust : (e : Edition) (file total : ℕ) (cs : List ℕ) (ts : List FlatT
 are_rust e file total _ _ (last cs n) f = tt
 are_rust e file total _ _ (more cs t us n tokens) f =
     let x = next_cut e total cs t f.right n in
-    let from = fits_tail total cs t.from x.blanks f in
+    let from = fits_tail total cs t.from x.whitespace f in
     let rest = fits_tail total cs t.rest (next_tail e total cs t x) f in
     shape_is e file total t.from t.rest t.shape us x.step.lexed tokens from rest
     (are_rust e file total t.rest us tokens rest)

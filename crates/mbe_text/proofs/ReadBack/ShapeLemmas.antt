@@ -1,5 +1,7 @@
 -- What one step of the lexer returned: which token it is, and what it passed.
-use Rattle.std.proofs.Common.{◌≡◌, ◌≢◌, ℕ, zero, suc, ◌==◌, ◌+◌, ◌-◌, ◌<◌, not, ◌&&◌, ◌||◌, if◌then◌else◌, Bool, true, false, List, [], ◌∷◌, ◌++◌, length, take, drop, refl, sym, ap, ◌∙◌, arith, codes, Option, Some, None, Ok, Err, append_assoc, length-append, encode_utf8_all, chars, subst}
+use Rattle.std.proofs.Common.{◌≡◌, ◌≢◌, ℕ, zero, suc, ◌==◌, ◌+◌, ◌-◌, ◌<◌, not, ◌&&◌, ◌||◌, if◌then◌else◌, Bool, true}
+use Rattle.std.proofs.Common.{false, List, [], ◌∷◌, ◌++◌, length, take, drop, refl, sym, ap, ◌∙◌, arith, codes, Option}
+use Rattle.std.proofs.Common.{Some, None, Ok, Err, append_assoc, length-append, encode_utf8_all, chars, subst}
 use Rattle.std.specs.Char.{is_ascii_digit, char_set_contains}
 use Rattle.std.proofs.Math.Utf8.{scalars}
 use Rattle.std.proofs.lemmas.Bool.Decides.{nat_tests}
@@ -14,22 +16,27 @@ use Rattle.mbe_tt.specs.declared.tt.IdentIsRaw.{IdentIsRaw}
 use Rattle.mbe_tt.specs.declared.tt.IdentIsRaw.TheVariants.{Yes, No}
 use Rattle.mbe_tt.specs.declared.tt.LitKind.TheVariants as kinds
 use Rattle.mbe_tt.specs.Trees.Editions.{at_least_2021}
-use Rattle.mbe_text.specs.RustText.Comments.{has_line_end, begins_with_slash}
+use Rattle.mbe_text.specs.RustText.DocComments.{has_line_end, begins_with_slash}
 use Rattle.mbe_text.specs.declared.dialect.Dialect.TheVariants.{Rust}
-use Rattle.mbe_text.specs.declared.wrong.Wrong.TheVariants as wrong
-use Rattle.mbe_text.specs.Blanks.{begins_comment}
+use Rattle.mbe_text.specs.declared.fault_kind.LexFaultKind.TheVariants as fault_kind
+use Rattle.mbe_text.specs.Whitespace.{begins_comment}
 use Rattle.mbe_text.specs.Characters.{has, past, begins_with, bytes_before}
-use Rattle.mbe_text.specs.Dialect.{read_shape, or_sign}
-use Rattle.mbe_text.specs.Extents.{front, from_comment_end}
-use Rattle.mbe_text.specs.Rust.{Token, within, is_inner, read_rust, read_r, read_b, read_c, read_quote, plain_identifier, raw_identifier, begins_reserved, begins_raw_string, raw_string, may_be_raw, char, begins_lifetime, lifetime, plain_lifetime, raw_lifetime, is_guard, begins_doc, doc, block_doc, doc_until, from_return}
-use Rattle.mbe_text.specs.Faults.{fault_at}
-use Rattle.mbe_text.specs.Shapes.{Shape, Read, identifier, literal_of, punct_of, lifetime_of, doc_of, opening, closing}
-use Rattle.mbe_text.specs.Signs.{read_sign, side, spacing_before}
-use Rattle.mbe_text.specs.Words.{past_word}
+use Rattle.mbe_text.specs.Dialect.{read_shape, or_punctuation}
+use Rattle.mbe_text.specs.QuoteEnds.{front, from_comment_end}
+use Rattle.mbe_text.specs.RustTokens.{RustTokenResult, within, is_inner, read_rust, read_r, read_b, read_c, read_quote}
+use Rattle.mbe_text.specs.RustTokens.{plain_identifier, raw_identifier, begins_reserved, begins_raw_string, raw_string}
+use Rattle.mbe_text.specs.RustTokens.{may_be_raw, char, begins_lifetime, lifetime, plain_lifetime, raw_lifetime}
+use Rattle.mbe_text.specs.RustTokens.{is_guard, begins_doc, doc, block_doc, doc_until, from_carriage_return}
+use Rattle.mbe_text.specs.LexFaults.{fault_at}
+use Rattle.mbe_text.specs.Shapes.{Shape, ReadResult, identifier, literal_of, punct_of, lifetime_of, doc_of, opening}
+use Rattle.mbe_text.specs.Shapes.{closing}
+use Rattle.mbe_text.specs.Punctuation.{read_punctuation, side, spacing_before}
+use Rattle.mbe_text.specs.Identifiers.{past_identifier}
 use Rattle.mbe_text.proofs.TailLemmas.{Tail, here, one, past_tail}
 use Rattle.mbe_text.specs.Laws.Gaps.{is_punct}
-use Rattle.mbe_text.specs.Laws.Rust.{is_start, begins_word, IsWord, may_be, may_be_lifetime}
-use Rattle.mbe_text.proofs.ReadBack.BlockLemmas.{mark_is_first, feed_of, no_byte_ends, line_has_none, own_mark, comment_is, block_is}
+use Rattle.mbe_text.specs.Laws.RustTrees.{is_start, begins_word, IsWord, may_be, may_be_lifetime}
+use Rattle.mbe_text.proofs.ReadBack.BlockLemmas.{mark_is_first, feed_of, no_byte_ends, line_has_none, own_mark}
+use Rattle.mbe_text.proofs.ReadBack.BlockLemmas.{comment_is, block_is}
 use Rattle.mbe_text.proofs.ReadBack.CommentLemmas.{may_be_comment}
 use Rattle.mbe_text.proofs.ReadBack.EndLemmas.{r_is_start}
 use Rattle.mbe_text.proofs.ReadBack.StepLemmas.{bytes_front}
@@ -37,7 +44,9 @@ use Rattle.mbe_text.proofs.ReadBack.QuoteLemmas.{same_char, front_of, left_of, s
 use Rattle.mbe_text.proofs.ReadBack.FollowLemmas.{is_side}
 use Rattle.mbe_text.proofs.ReadBack.PartLemmas.{word_run}
 use Rattle.mbe_text.proofs.ReadBack.RawLemmas.{marked}
-use Rattle.mbe_text.proofs.ReadBack.LiteralLemmas.{some_token, scalars_parts, LexedLiteral, LexedAs, lexed_string, lexed_char, lexed_quote, lexed_raw, raw_opened, Opened, lexed_number, one_byte}
+use Rattle.mbe_text.proofs.ReadBack.LiteralLemmas.{some_token, scalars_parts, LexedLiteral, LexedAs, lexed_string}
+use Rattle.mbe_text.proofs.ReadBack.LiteralLemmas.{lexed_char, lexed_quote, lexed_raw, raw_opened, Opened, lexed_number}
+use Rattle.mbe_text.proofs.ReadBack.LiteralLemmas.{one_byte}
 
 -- ---- tokens
 
@@ -106,27 +115,27 @@ if_ok P false x y z h f g = g refl h
 
 record WordOwn (c : ℕ) (cs : List ℕ) : Type 0 where
   more : List ℕ
-  is : cs ≡ more ++ past_word (c ∷ cs)
-  name : bytes_before (c ∷ cs) (past_word (c ∷ cs)) ≡ encode_utf8_all (c ∷ more)
+  is : cs ≡ more ++ past_identifier (c ∷ cs)
+  name : bytes_before (c ∷ cs) (past_identifier (c ∷ cs)) ≡ encode_utf8_all (c ∷ more)
   word : IsWord (encode_utf8_all (c ∷ more))
 
 word_own : (c : ℕ) (cs : List ℕ) → is_start c ≡ true → scalars (c ∷ cs) ≡ true → WordOwn c cs
 word_own c cs s u =
     let r = word_run cs in
-    let left : List ℕ = past_word (c ∷ cs) in
+    let left : List ℕ = past_identifier (c ∷ cs) in
     let own = (scalars_parts (c ∷ r.own) left (ap (λ (x : List ℕ). scalars (c ∷ x)) (sym r.is) ∙ u)).0 in
     let known : chars (encode_utf8_all (c ∷ r.own)) ≡ c ∷ r.own = chars-encodes (c ∷ r.own) own in record {
       more = r.own;
       is = r.is;
       name = ap (λ (x : List ℕ). bytes_before (c ∷ x) left) r.is ∙ bytes_front (c ∷ r.own) left;
-      word = ((c ∷ r.own, (own, refl)), ap begins_word known ∙ s, ap past_word known ∙ r.all);
+      word = ((c ∷ r.own, (own, refl)), ap begins_word known ∙ s, ap past_identifier known ∙ r.all);
     }
 
 plain_cut : (e : Edition) (c : ℕ) (cs rest : List ℕ) (shape : Shape) → is_start c ≡ true → scalars (c ∷ cs) ≡ true
     → plain_identifier e (c ∷ cs) ≡ Ok (shape, rest) → Step e (c ∷ cs) rest shape
 plain_cut e c cs rest shape s u h =
     let w = word_own c cs s u in
-    if_ok (Step e (c ∷ cs) rest shape) (at_least_2021 e && begins_reserved (past_word (c ∷ cs))) _ _ _ h
+    if_ok (Step e (c ∷ cs) rest shape) (at_least_2021 e && begins_reserved (past_identifier (c ∷ cs))) _ _ _ h
     (λ b k. absurd (cc))
     (λ b k. step_of e (c ∷ cs) rest shape (identifier (encode_utf8_all (c ∷ w.more)) No) (c ∷ w.more)
     (ap (λ (x : List ℕ). c ∷ x) (w.is ∙ ap (λ (x : List ℕ). w.more ++ x) (ap left_of k))) (omega arith)
@@ -140,7 +149,7 @@ raw_cut : (e : Edition) (c : ℕ) (cs rest : List ℕ) (shape : Shape) → is_st
 raw_cut e c cs rest shape s u h =
     let w = word_own c cs s (scalars_parts (114 ∷ (35 ∷ [])) (c ∷ cs) u).1 in
     if_ok (Step e (114 ∷ (35 ∷ (c ∷ cs))) rest shape)
-    (may_be_raw (bytes_before (c ∷ cs) (past_word (c ∷ cs)))) _ _ _ h
+    (may_be_raw (bytes_before (c ∷ cs) (past_identifier (c ∷ cs)))) _ _ _ h
     (λ b k. step_of e (114 ∷ (35 ∷ (c ∷ cs))) rest shape (identifier (encode_utf8_all (c ∷ w.more)) Yes)
     (114 ∷ (35 ∷ (c ∷ w.more)))
     (ap (λ (x : List ℕ). 114 ∷ (35 ∷ (c ∷ x))) (w.is ∙ ap (λ (x : List ℕ). w.more ++ x) (ap left_of k))) (omega arith)
@@ -153,8 +162,8 @@ raw_cut e c cs rest shape s u h =
 name_cut : (e : Edition) (before : List ℕ) (c : ℕ) (cs rest : List ℕ) (shape : Shape) (r : IdentIsRaw)
     → is_start c ≡ true → begins_with (codes "'") (before ++ (c ∷ cs)) ≡ true
     → scalars (before ++ (c ∷ cs)) ≡ true → may_be_lifetime e r ≡ true
-    → may_be r (bytes_before (c ∷ cs) (past_word (c ∷ cs))) ≡ true
-    → lifetime_of (bytes_before (c ∷ cs) (past_word (c ∷ cs))) r ≡ shape → past_word (c ∷ cs) ≡ rest
+    → may_be r (bytes_before (c ∷ cs) (past_identifier (c ∷ cs))) ≡ true
+    → lifetime_of (bytes_before (c ∷ cs) (past_identifier (c ∷ cs))) r ≡ shape → past_identifier (c ∷ cs) ≡ rest
     → Step e (before ++ (c ∷ cs)) rest shape
 name_cut e before c cs rest shape r s q u l m i left =
     let w = word_own c cs s (scalars_parts before (c ∷ cs) u).1 in
@@ -182,9 +191,9 @@ plain_lifetime_cut : (e : Edition) (c : ℕ) (cs rest : List ℕ) (shape : Shape
     → plain_lifetime e (39 ∷ (c ∷ cs)) (c ∷ cs) ≡ Ok (shape, rest) → Step e (39 ∷ (c ∷ cs)) rest shape
 plain_lifetime_cut e c cs rest shape s u h =
     let P = Step e (39 ∷ (c ∷ cs)) rest shape in
-    if_ok P (begins_with (codes "'") (past_word (c ∷ cs))) _ _ _ h (λ b k. absurd (cc))
+    if_ok P (begins_with (codes "'") (past_identifier (c ∷ cs))) _ _ _ h (λ b k. absurd (cc))
     (λ b k. if_ok P (is_ascii_digit c) _ _ _ k (λ d m. absurd (cc))
-    (λ d m. if_ok P (at_least_2021 e && begins_with (codes "#") (past_word (c ∷ cs))) _ _ _ m (λ g n. absurd (cc))
+    (λ d m. if_ok P (at_least_2021 e && begins_with (codes "#") (past_identifier (c ∷ cs))) _ _ _ m (λ g n. absurd (cc))
     (λ g n. name_cut e (39 ∷ []) c cs rest shape No (or_start (is_start c) (is_ascii_digit c) s d) refl u refl refl
     (ap (shape_of shape) n) (ap left_of n))))
 
@@ -195,8 +204,8 @@ raw_lifetime_cut : (e : Edition) (c : ℕ) (cs rest : List ℕ) (shape : Shape) 
     → Step e (39 ∷ (114 ∷ (35 ∷ (c ∷ cs)))) rest shape
 raw_lifetime_cut e c cs rest shape s l u h =
     let P = Step e (39 ∷ (114 ∷ (35 ∷ (c ∷ cs)))) rest shape in
-    if_ok P (begins_with (codes "'") (past_word (c ∷ cs))) _ _ _ h (λ b k. absurd (cc))
-    (λ b k. if_ok P (may_be_raw (bytes_before (c ∷ cs) (past_word (c ∷ cs)))) _ _ _ k
+    if_ok P (begins_with (codes "'") (past_identifier (c ∷ cs))) _ _ _ h (λ b k. absurd (cc))
+    (λ b k. if_ok P (may_be_raw (bytes_before (c ∷ cs) (past_identifier (c ∷ cs)))) _ _ _ k
     (λ m n. name_cut e (39 ∷ (114 ∷ (35 ∷ []))) c cs rest shape Yes s refl u l m (ap (shape_of shape) n) (ap left_of n))
     (λ m n. absurd (cc)))
 
@@ -207,10 +216,11 @@ short_name cs = bytes_front (114 ∷ []) (35 ∷ cs)
 short_word : IsWord (encode_utf8_all (114 ∷ []))
 short_word =
     let known : chars (encode_utf8_all (114 ∷ [])) ≡ 114 ∷ [] = chars-encodes (114 ∷ []) refl in
-    ((114 ∷ [], (refl, refl)), ap begins_word known ∙ r_is_start, ap past_word known)
+    ((114 ∷ [], (refl, refl)), ap begins_word known ∙ r_is_start, ap past_identifier known)
 
 short_cut : (e : Edition) (cs rest : List ℕ) (shape : Shape)
-    → (let t : Token = Ok (lifetime_of (bytes_before (114 ∷ (35 ∷ cs)) (35 ∷ cs)) No, 35 ∷ cs) in t) ≡ Ok (shape, rest)
+    → (let t : RustTokenResult = Ok (lifetime_of (bytes_before (114 ∷ (35 ∷ cs)) (35 ∷ cs)) No, 35 ∷ cs) in t)
+    ≡ Ok (shape, rest)
     → Step e (39 ∷ (114 ∷ (35 ∷ cs))) rest shape
 short_cut e cs rest shape h =
     step_of e (39 ∷ (114 ∷ (35 ∷ cs))) rest shape (lifetime_of (encode_utf8_all (114 ∷ [])) No) (39 ∷ (114 ∷ []))
@@ -539,21 +549,22 @@ doc_slash c (b ∷ (m ∷ (x ∷ xs))) d n = grind (arith, nat_tests, d, n)
 -- what may be before such an end is the text of a doc comment
 abbrev MayBe : Bool → List ℕ → List ℕ → Type 0
 MayBe inner body end =
-    (own : List ℕ) → body ≡ own ++ end → scalars own ≡ true → from_return own ≡ None
+    (own : List ℕ) → body ≡ own ++ end → scalars own ≡ true → from_carriage_return own ≡ None
     → may_be_comment inner (encode_utf8_all own) ≡ true
 
 doc_cut_at : (e : Edition) (before body end after rest : List ℕ) (shape : Shape) (inner : Bool) (o : Option (List ℕ))
     → begins_doc (before ++ body) ≡ true → MayBe inner body end
-    → Tail body end → from_return (front body end) ≡ o → Tail end after → 0 < length before
+    → Tail body end → from_carriage_return (front body end) ≡ o → Tail end after → 0 < length before
     → scalars (before ++ body) ≡ true → doc_until inner body end after ≡ Ok (shape, rest)
     → Step e (before ++ body) rest shape
 doc_cut_at e before body end after rest shape inner (Some at) m may d f r some u h =
-    absurd (let w : doc_until inner body end after ≡ Err (within end (wrong.BareReturn, at)) = rw (doc_until, f) refl in
-    let z : Err (within end (wrong.BareReturn, at)) ≡ Ok (shape, rest) = sym w ∙ h in cc)
+    absurd (let w : doc_until inner body end after
+    ≡ Err (within end (fault_kind.BareCarriageReturn, at)) = rw (doc_until, f) refl in
+    let z : Err (within end (fault_kind.BareCarriageReturn, at)) ≡ Ok (shape, rest) = sym w ∙ h in cc)
 doc_cut_at e before body end after rest shape inner None m may d f r some u h =
     let w : doc_until inner body end after ≡ Ok (doc_of (bytes_before body end) inner, after) =
     rw (doc_until, f) refl in
-    let made : Token = Ok (doc_of (bytes_before body end) inner, after) in
+    let made : RustTokenResult = Ok (doc_of (bytes_before body end) inner, after) in
     let k : made ≡ Ok (shape, rest) = sym w ∙ h in
     let text : bytes_before body end ≡ encode_utf8_all d.own =
     ap (λ (x : List ℕ). bytes_before x end) d.is ∙ bytes_front d.own end in
@@ -572,7 +583,7 @@ doc_cut_at e before body end after rest shape inner None m may d f r some u h =
       cs = d.own;
       bytes = text;
       right = right;
-      written = ap (may_be_comment inner) text ∙ may d.own d.is right (ap from_return (sym cut) ∙ f);
+      written = ap (may_be_comment inner) text ∙ may d.own d.is right (ap from_carriage_return (sym cut) ∙ f);
     })
 
 comment_tail : (cs end : List ℕ) (taken : Bool) (depth : ℕ) → from_comment_end taken depth cs ≡ Some end → Tail cs end
@@ -628,15 +639,15 @@ block_cut : (e : Edition) (c : ℕ) (cs rest : List ℕ) (shape : Shape) (o : Op
     → from_comment_end false 0 (drop 3 (c ∷ cs)) ≡ o → scalars (c ∷ cs) ≡ true
     → block_doc (c ∷ cs) ≡ Ok (shape, rest) → Step e (c ∷ cs) rest shape
 block_cut e c cs rest shape None d b f u h =
-    absurd (let w : block_doc (c ∷ cs) ≡ Err (wrong.OpenComment, c ∷ cs) = rw (block_doc, f) refl in
-    let z : Err (wrong.OpenComment, c ∷ cs) ≡ Ok (shape, rest) = sym w ∙ h in cc)
+    absurd (let w : block_doc (c ∷ cs) ≡ Err (fault_kind.UnterminatedComment, c ∷ cs) = rw (block_doc, f) refl in
+    let z : Err (fault_kind.UnterminatedComment, c ∷ cs) ≡ Ok (shape, rest) = sym w ∙ h in cc)
 block_cut e c cs rest shape (Some end) d b f u h =
     let w : block_doc (c ∷ cs) ≡ doc_until (is_inner (c ∷ cs)) (drop 3 (c ∷ cs)) end (drop 2 end) =
     rw (block_doc, f) refl in
     let whole = take-append-drop 3 (c ∷ cs) in
     subst (λ (x : List ℕ). Step e x rest shape) whole
     (doc_cut_at e (take 3 (c ∷ cs)) (drop 3 (c ∷ cs)) end (drop 2 end) rest shape (is_inner (c ∷ cs))
-    (from_return (front (drop 3 (c ∷ cs)) end)) (ap begins_doc whole ∙ d)
+    (from_carriage_return (front (drop 3 (c ∷ cs)) end)) (ap begins_doc whole ∙ d)
     (block_may (is_inner (c ∷ cs)) (drop 3 (c ∷ cs)) end (doc_slash c cs d) (doc_mark c cs d b) f)
     (comment_tail (drop 3 (c ∷ cs)) end false 0 f)
     refl (drop_tail 2 end) (omega arith) (ap scalars whole ∙ u)
@@ -651,7 +662,7 @@ line_cut k e c cs rest shape d feed u h =
     let end : List ℕ = past k (drop 3 (c ∷ cs)) in
     subst (λ (x : List ℕ). Step e x rest shape) whole
     (doc_cut_at e (take 3 (c ∷ cs)) (drop 3 (c ∷ cs)) end end rest shape (is_inner (c ∷ cs))
-    (from_return (front (drop 3 (c ∷ cs)) end)) (ap begins_doc whole ∙ d)
+    (from_carriage_return (front (drop 3 (c ∷ cs)) end)) (ap begins_doc whole ∙ d)
     (line_may k (is_inner (c ∷ cs)) (drop 3 (c ∷ cs)) feed (doc_slash c cs d))
     (past_tail k (drop 3 (c ∷ cs))) refl (here end) (omega arith) (ap scalars whole ∙ u) h)
 
@@ -738,20 +749,20 @@ side_lexed e c shape cs rest h =
     (λ b k. by (closing Brace) (some_shape _ _ k) (λ z. cc, ap is_side (same_char c 125 b)))
     (λ b k. absurd (cc)))))))
 
-read_same : (a b : Shape × List ℕ) → (let x : Read = Ok a in x) ≡ Ok b → a ≡ b
+read_same : (a b : Shape × List ℕ) → (let x : ReadResult = Ok a in x) ≡ Ok b → a ≡ b
 read_same a b h = cc
 
 sign_cut_at : (e : Edition) (total c : ℕ) (cs rest : List ℕ) (shape : Shape) (o : Option Shape) → side c ≡ o
-    → begins_comment (c ∷ cs) ≡ false → is_guard e (c ∷ cs) ≡ false → read_sign total (c ∷ cs) ≡ Ok (shape, rest)
+    → begins_comment (c ∷ cs) ≡ false → is_guard e (c ∷ cs) ≡ false → read_punctuation total (c ∷ cs) ≡ Ok (shape, rest)
     → Step e (c ∷ cs) rest shape
 sign_cut_at e total c cs rest shape (Some made) f n g h =
-    let w : read_sign total (c ∷ cs) ≡ Ok (made, cs) = rw (read_sign, f) refl in
+    let w : read_punctuation total (c ∷ cs) ≡ Ok (made, cs) = rw (read_punctuation, f) refl in
     let same = read_same (made, cs) (shape, rest) (sym w ∙ h) in
     step_of e (c ∷ cs) rest shape made (c ∷ []) (ap (λ (r : Shape × List ℕ). c ∷ r.1) same) (omega arith)
     (sym (ap (λ (r : Shape × List ℕ). r.0) same)) (side_lexed e c made cs rest f)
 sign_cut_at e total c cs rest shape None f n g h =
-    let w : read_sign total (c ∷ cs) ≡ (if is_punct c then Ok (punct_of c (spacing_before cs), cs) else Err
-    (fault_at wrong.Start total (c ∷ cs))) = rw (read_sign, f) refl in
+    let w : read_punctuation total (c ∷ cs) ≡ (if is_punct c then Ok (punct_of c (spacing_before cs), cs) else Err
+    (fault_at fault_kind.Start total (c ∷ cs))) = rw (read_punctuation, f) refl in
     if_ok (Step e (c ∷ cs) rest shape) (is_punct c) _ _ _ (sym w ∙ h)
     (λ p k. let same = read_same (punct_of c (spacing_before cs), cs) (shape, rest) k in
     let left : cs ≡ rest = ap (λ (r : Shape × List ℕ). r.1) same in
@@ -767,10 +778,10 @@ sign_cut_at e total c cs rest shape None f n g h =
     }))
     (λ p k. absurd (cc))
 
-shape_cut_at : (e : Edition) (total c : ℕ) (cs rest : List ℕ) (shape : Shape) (o : Option Token)
+shape_cut_at : (e : Edition) (total c : ℕ) (cs rest : List ℕ) (shape : Shape) (o : Option RustTokenResult)
     → read_rust e (c ∷ cs) ≡ o → scalars (c ∷ cs) ≡ true
     → (begins_doc (c ∷ cs) ≡ false → begins_comment (c ∷ cs) ≡ false)
-    → or_sign total (c ∷ cs) o ≡ Ok (shape, rest) → Step e (c ∷ cs) rest shape
+    → or_punctuation total (c ∷ cs) o ≡ Ok (shape, rest) → Step e (c ∷ cs) rest shape
 shape_cut_at e total c cs rest shape None f u free h =
     let n = no_guard e c cs f in
     sign_cut_at e total c cs rest shape (side c) refl (free n.1) n.0 h

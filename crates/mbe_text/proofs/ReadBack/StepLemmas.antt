@@ -1,5 +1,7 @@
 -- One token is read at the front of a text.
-use Rattle.std.proofs.Common.{◌≡◌, ℕ, ◌==◌, ◌-◌, not, ◌&&◌, ◌||◌, if◌then◌else◌, Bool, true, false, List, [], ◌∷◌, ◌++◌, length, take, drop, refl, sym, ap, ◌∙◌, arith, codes, Some, None, Ok, length-append, encode_utf8_all}
+use Rattle.std.proofs.Common.{◌≡◌, ℕ, ◌==◌, ◌-◌, not, ◌&&◌, ◌||◌, if◌then◌else◌, Bool, true, false, List, [], ◌∷◌, ◌++◌}
+use Rattle.std.proofs.Common.{length, take, drop, refl, sym, ap, ◌∙◌, arith, codes, Some, None, Ok, length-append}
+use Rattle.std.proofs.Common.{encode_utf8_all}
 use Rattle.std.proofs.lemmas.Bool.Decides.{nat_tests}
 use Rattle.std.proofs.Math.Seq.{take-append_seam}
 use Rattle.std.specs.Char.{is_ascii_digit}
@@ -9,29 +11,31 @@ use Rattle.mbe_tt.specs.declared.tt.IdentIsRaw.TheVariants.{Yes, No}
 use Rattle.mbe_tt.specs.Trees.Editions.{at_least_2021}
 use Rattle.mbe_text.specs.declared.dialect.Dialect.TheVariants.{Rust}
 use Rattle.mbe_text.specs.Characters.{begins_with, is_space, bytes_before}
-use Rattle.mbe_text.specs.Blanks.{begins_comment}
+use Rattle.mbe_text.specs.Whitespace.{begins_comment}
 use Rattle.mbe_text.specs.Dialect.{read_shape}
-use Rattle.mbe_text.specs.Division.{next_token, Taken}
-use Rattle.mbe_text.specs.Rust.{read_rust, read_r, read_b, read_c, plain_identifier, begins_reserved, begins_raw_string, begins_doc, is_guard, may_be_raw}
+use Rattle.mbe_text.specs.LexedTrees.{next_token, ScannedToken}
+use Rattle.mbe_text.specs.RustTokens.{read_rust, read_r, read_b, read_c, plain_identifier, begins_reserved}
+use Rattle.mbe_text.specs.RustTokens.{begins_raw_string, begins_doc, is_guard, may_be_raw}
 use Rattle.mbe_text.specs.Shapes.{Shape, identifier, lifetime_of}
-use Rattle.mbe_text.specs.Trivia.{past_blanks}
-use Rattle.mbe_text.specs.Words.{past_word}
-use Rattle.mbe_text.specs.Laws.Rust.{is_start, continues_word}
-use Rattle.mbe_text.proofs.ReadBack.EndLemmas.{ends_word, continue_not_reserved, r_is_start, quote_not_start, start_not_digit, not_r}
+use Rattle.mbe_text.specs.Trivia.{past_trivia}
+use Rattle.mbe_text.specs.Identifiers.{past_identifier}
+use Rattle.mbe_text.specs.Laws.RustTrees.{is_start, continues_word}
+use Rattle.mbe_text.proofs.ReadBack.EndLemmas.{ends_word, continue_not_reserved, r_is_start, quote_not_start}
+use Rattle.mbe_text.proofs.ReadBack.EndLemmas.{start_not_digit, not_r}
 
-abbrev pub taken : Shape → List ℕ → List ℕ → Taken
+abbrev pub taken : Shape → List ℕ → List ℕ → ScannedToken
 taken shape from rest = record { shape = shape; from = from; rest = rest }
 
 -- ---- after white space
 
 pub read_here : (e : Edition) (total c : ℕ) (cs rest : List ℕ) (shape : Shape)
-    → past_blanks (Rust e) total (length (c ∷ cs)) (c ∷ cs) ≡ Ok (c ∷ cs)
+    → past_trivia (Rust e) total (length (c ∷ cs)) (c ∷ cs) ≡ Ok (c ∷ cs)
     → read_shape (Rust e) total (c ∷ cs) ≡ Ok (shape, rest)
     → next_token (Rust e) total (c ∷ cs) ≡ Ok (Some (taken shape (c ∷ cs) rest))
 read_here e total c cs rest shape b r = rw (next_token, b, r) refl
 
 pub no_blank : (e : Edition) (total c : ℕ) (cs : List ℕ) → is_space c ≡ false → (c == 47) ≡ false
-    → past_blanks (Rust e) total (length (c ∷ cs)) (c ∷ cs) ≡ Ok (c ∷ cs)
+    → past_trivia (Rust e) total (length (c ∷ cs)) (c ∷ cs) ≡ Ok (c ∷ cs)
 no_blank e total c cs a b = rw (a, b) refl
 
 pub or_left : (x y : Bool) → (x || y) ≡ false → x ≡ false
@@ -45,27 +49,27 @@ or_right false y h = h
 no_comment_of : (e : Edition) (total c : ℕ) (cs : List ℕ) → is_space c ≡ false
     → begins_with (codes "//") (c ∷ cs) ≡ false
     → begins_with (codes "/*") (c ∷ cs) ≡ false → begins_doc (c ∷ cs) ≡ false
-    → past_blanks (Rust e) total (length (c ∷ cs)) (c ∷ cs) ≡ Ok (c ∷ cs)
+    → past_trivia (Rust e) total (length (c ∷ cs)) (c ∷ cs) ≡ Ok (c ∷ cs)
 no_comment_of e total c cs a l b d = rw (a, d, l, b) refl
 
 pub no_comment : (e : Edition) (total c : ℕ) (cs : List ℕ) → is_space c ≡ false → begins_comment (c ∷ cs) ≡ false
     → begins_doc (c ∷ cs) ≡ false
-    → past_blanks (Rust e) total (length (c ∷ cs)) (c ∷ cs) ≡ Ok (c ∷ cs)
+    → past_trivia (Rust e) total (length (c ∷ cs)) (c ∷ cs) ≡ Ok (c ∷ cs)
 no_comment e total c cs a b d = no_comment_of e total c cs a (or_left _ _ b) (or_right _ _ b) d
 
 -- ---- words
 
 abbrev past_if : Bool → ℕ → List ℕ → List ℕ
-past_if b x xs = if b then past_word (0 ∷ xs) else x ∷ xs
+past_if b x xs = if b then past_identifier (0 ∷ xs) else x ∷ xs
 
 -- a word's characters go on with it
-pub all_continue : (x : ℕ) (xs : List ℕ) (b : Bool) → is_xid_continue x ≡ b → past_word (0 ∷ (x ∷ xs)) ≡ []
-    → (is_xid_continue x ≡ true) × (past_word (0 ∷ xs) ≡ [])
+pub all_continue : (x : ℕ) (xs : List ℕ) (b : Bool) → is_xid_continue x ≡ b → past_identifier (0 ∷ (x ∷ xs)) ≡ []
+    → (is_xid_continue x ≡ true) × (past_identifier (0 ∷ xs) ≡ [])
 all_continue x xs true e p = (e, sym (ap (λ (b : Bool). past_if b x xs) e) ∙ p)
 all_continue x xs false e p = absurd (let z : x ∷ xs ≡ [] = sym (ap (λ (b : Bool). past_if b x xs) e) ∙ p in cc)
 
-pub past_all : (w rest : List ℕ) → past_word (0 ∷ w) ≡ [] → continues_word rest ≡ false
-    → past_word (0 ∷ (w ++ rest)) ≡ rest
+pub past_all : (w rest : List ℕ) → past_identifier (0 ∷ w) ≡ [] → continues_word rest ≡ false
+    → past_identifier (0 ∷ (w ++ rest)) ≡ rest
 past_all [] [] p h = refl
 past_all [] (c ∷ cs) p h = rw h refl
 past_all (x ∷ xs) rest p h =
@@ -77,7 +81,7 @@ bytes_front w rest =
     ap encode_utf8_all (ap (λ (k : ℕ). take k (w ++ rest)) n ∙ take-append_seam w rest)
 
 -- what a word is before is no quote, and no `#`
-pub not_reserved : (w rest : List ℕ) → past_word (0 ∷ w) ≡ [] → ends_word rest ≡ true
+pub not_reserved : (w rest : List ℕ) → past_identifier (0 ∷ w) ≡ [] → ends_word rest ≡ true
     → begins_reserved (w ++ rest) ≡ false
 not_reserved [] [] p h = refl
 not_reserved [] (c ∷ cs) p h = grind (arith, nat_tests, h)
@@ -94,7 +98,7 @@ raw_of [] h = refl
 raw_of (c ∷ cs) h = grind (arith, nat_tests, h)
 
 -- nor a raw string after an `r`
-not_r_string : (w rest : List ℕ) → past_word (0 ∷ w) ≡ [] → ends_word rest ≡ true
+not_r_string : (w rest : List ℕ) → past_identifier (0 ∷ w) ≡ [] → ends_word rest ≡ true
     → (begins_with (codes "r") (w ++ rest) && begins_raw_string (drop 1 (w ++ rest))) ≡ false
 not_r_string [] [] p h = refl
 not_r_string [] (c ∷ cs) p h = let n = not_r c (not_continued (c ∷ cs) h) in rw n refl
@@ -164,33 +168,33 @@ or_false : (b : Bool) → (b && false) ≡ false
 or_false b = and_false b
 
 -- an identifier
-pub word_read : (e : Edition) (c : ℕ) (w rest : List ℕ) → is_start c ≡ true → past_word (0 ∷ w) ≡ []
+pub word_read : (e : Edition) (c : ℕ) (w rest : List ℕ) → is_start c ≡ true → past_identifier (0 ∷ w) ≡ []
     → ends_word rest ≡ true
     → read_rust e (c ∷ (w ++ rest)) ≡ Some (Ok (identifier (encode_utf8_all (c ∷ w)) No, rest))
 word_read e c w rest s p h =
     let plain = plain_of (w ++ rest) (not_reserved w rest p h) in
-    let left : past_word (c ∷ (w ++ rest)) ≡ rest = past_all w rest p (not_continued rest h) in
+    let left : past_identifier (c ∷ (w ++ rest)) ≡ rest = past_all w rest p (not_continued rest h) in
     let after : begins_reserved rest ≡ false = not_reserved [] rest refl h in
     word_case e c (w ++ rest) s plain (not_r_string w rest p h)
     ∙ rw (left, after, and_false (at_least_2021 e), bytes_front (c ∷ w) rest) refl
 
 -- a raw one
-pub raw_read : (e : Edition) (c : ℕ) (w rest : List ℕ) → is_start c ≡ true → past_word (0 ∷ w) ≡ []
+pub raw_read : (e : Edition) (c : ℕ) (w rest : List ℕ) → is_start c ≡ true → past_identifier (0 ∷ w) ≡ []
     → ends_word rest ≡ true
     → may_be_raw (encode_utf8_all (c ∷ w)) ≡ true
     → read_rust e (114 ∷ (35 ∷ (c ∷ (w ++ rest)))) ≡ Some (Ok (identifier (encode_utf8_all (c ∷ w)) Yes, rest))
 raw_read e c w rest s p h m =
-    let left : past_word (c ∷ (w ++ rest)) ≡ rest = past_all w rest p (not_continued rest h) in
+    let left : past_identifier (c ∷ (w ++ rest)) ≡ rest = past_all w rest p (not_continued rest h) in
     rw (s, left, bytes_front (c ∷ w) rest, m) refl
 
 -- a lifetime
-pub lifetime_read : (e : Edition) (c : ℕ) (w rest : List ℕ) → is_start c ≡ true → past_word (0 ∷ w) ≡ []
+pub lifetime_read : (e : Edition) (c : ℕ) (w rest : List ℕ) → is_start c ≡ true → past_identifier (0 ∷ w) ≡ []
     → ends_word rest ≡ true
     → read_rust e (39 ∷ (c ∷ (w ++ rest))) ≡ Some (Ok (lifetime_of (encode_utf8_all (c ∷ w)) No, rest))
 lifetime_read e c w rest s p h =
     let plain = plain_of (w ++ rest) (not_reserved w rest p h) in
     let after = plain_of rest (not_reserved [] rest refl h) in
-    let left : past_word (c ∷ (w ++ rest)) ≡ rest = past_all w rest p (not_continued rest h) in
+    let left : past_identifier (c ∷ (w ++ rest)) ≡ rest = past_all w rest p (not_continued rest h) in
     rw (
       quote_not_start,
       s,
@@ -206,13 +210,13 @@ lifetime_read e c w rest s p h =
     ) refl
 
 -- a raw one
-pub raw_lifetime_read : (e : Edition) (c : ℕ) (w rest : List ℕ) → is_start c ≡ true → past_word (0 ∷ w) ≡ []
+pub raw_lifetime_read : (e : Edition) (c : ℕ) (w rest : List ℕ) → is_start c ≡ true → past_identifier (0 ∷ w) ≡ []
     → ends_word rest ≡ true
     → may_be_raw (encode_utf8_all (c ∷ w)) ≡ true → at_least_2021 e ≡ true
     → read_rust e (39 ∷ (114 ∷ (35 ∷ (c ∷ (w ++ rest))))) ≡ Some (Ok (lifetime_of (encode_utf8_all (c ∷ w)) Yes, rest))
 raw_lifetime_read e c w rest s p h m is_new =
     let after = plain_of rest (not_reserved [] rest refl h) in
-    let left : past_word (c ∷ (w ++ rest)) ≡ rest = past_all w rest p (not_continued rest h) in
+    let left : past_identifier (c ∷ (w ++ rest)) ≡ rest = past_all w rest p (not_continued rest h) in
     rw (quote_not_start, r_is_start, s, is_new, left, after.tick, bytes_front (c ∷ w) rest, m) refl
 
 -- ---- puncts, and the sides of groups

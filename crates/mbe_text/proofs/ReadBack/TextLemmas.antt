@@ -1,5 +1,7 @@
 -- The text that is written, token by token, as bytes and as characters.
-use Rattle.std.proofs.Common.{◌≡◌, ℕ, zero, suc, ◌+◌, ◌-◌, ◌<◌, not, ◌&&◌, Bool, true, false, List, [], ◌∷◌, ◌++◌, refl, sym, ap, ◌∙◌, arith, codes, Option, Some, None, IsUtf8, IsAscii, get_or, chars, encode_utf8, append_assoc, append-nil}
+use Rattle.std.proofs.Common.{◌≡◌, ℕ, zero, suc, ◌+◌, ◌-◌, ◌<◌, not, ◌&&◌, Bool, true, false, List, [], ◌∷◌, ◌++◌, refl}
+use Rattle.std.proofs.Common.{sym, ap, ◌∙◌, arith, codes, Option, Some, None, IsUtf8, IsAscii, get_or, chars}
+use Rattle.std.proofs.Common.{encode_utf8, append_assoc, append-nil}
 use Rattle.std.proofs.lemmas.Str.{chars-append, chars-IsAscii, IsUtf8-from_ascii}
 use Rattle.std.proofs.lemmas.Slice.Eq.{bytes_eq-Decides}
 use Rattle.mbe_tt.specs.declared.span.Span.{Span}
@@ -10,13 +12,17 @@ use Rattle.mbe_tt.specs.declared.tt.DelimiterKind.TheVariants.{Parenthesis, Brac
 use Rattle.mbe_tt.specs.Trees.Leaf.{literal, punct, ident, is_text}
 use Rattle.mbe_tt.specs.Trees.Literals.{raw_prefix, literal_output}
 use Rattle.mbe_tt.specs.Trees.Tree.{Forest, none, leaf, group, FlatToken, token, opening, closing, flat, flat_len}
-use Rattle.mbe_text.specs.RustText.Gaps.{ends_line, goes_on, is_word_apart, joins_word, is_literal_apart, joins_literal, is_punct_apart, stays_with, is_opening_apart, is_open_brace, is_beside, is_same_place, is_before, is_one_of, is_line_start}
-use Rattle.mbe_text.specs.RustText.Comments.{Comment, more_trees}
-use Rattle.mbe_text.specs.RustText.Writing.{State, a_leaf, opened, closed, name_text, next_span, next_comment, a_comment, comment_text, written_after, start, text_of}
+use Rattle.mbe_text.specs.RustText.Gaps.{ends_line, continues_block, separates_word, merges_with_word}
+use Rattle.mbe_text.specs.RustText.Gaps.{separates_literal, merges_with_literal, separates_punct, may_touch_punct}
+use Rattle.mbe_text.specs.RustText.Gaps.{separates_opening, is_open_brace, is_adjacent, has_same_span}
+use Rattle.mbe_text.specs.RustText.Gaps.{is_adjacent_to_next, is_one_of, is_line_start}
+use Rattle.mbe_text.specs.RustText.DocComments.{DocComment, more_trees}
+use Rattle.mbe_text.specs.RustText.Printer.{PrinterState, with_leaf, opened, closed, name_text, next_span, next_comment}
+use Rattle.mbe_text.specs.RustText.Printer.{with_comment, comment_text, written_after, start, text_of}
 use Rattle.mbe_text.specs.declared.dialect.Dialect.{Dialect}
-use Rattle.mbe_text.specs.Division.{next_token}
+use Rattle.mbe_text.specs.LexedTrees.{next_token}
 use Rattle.mbe_text.specs.Tokens.{opening_text, closing_text}
-use Rattle.mbe_text.specs.Laws.Rust.{IsWord, next_place, more_tokens, is_start, begins_word}
+use Rattle.mbe_text.specs.Laws.RustTrees.{IsWord, next_place, more_tokens, is_start, begins_word}
 use Rattle.mbe_text.specs.Laws.Gaps.{before}
 use Rattle.mbe_text.proofs.WalkLemmas.{leaf_written, comment_written}
 use Rattle.mbe_text.proofs.ReadBack.CommentLemmas.{comment_next, flat_count, comment_same, comment_count}
@@ -40,51 +46,53 @@ reasons l a b = record { line = l; apart = a; beside = b }
 abbrev pub no_gap : Reasons
 no_gap = reasons false false false
 
-abbrev pub word_reasons : State → List ℕ → Span → Reasons
-word_reasons s name place =
-    reasons (ends_line s.last (not (goes_on name))) (is_word_apart s.last) (is_beside s.place place && not
-    (joins_word s.last))
+abbrev pub word_reasons : PrinterState → List ℕ → Span → Reasons
+word_reasons s name token_span =
+    reasons (ends_line s.last (not (continues_block name))) (separates_word s.last) (is_adjacent s.token_span token_span
+    && not
+    (merges_with_word s.last))
 
-abbrev pub literal_reasons : State → Span → Reasons
-literal_reasons s place =
-    reasons (ends_line s.last true) (is_literal_apart s.last) (is_beside s.place place && not (joins_literal s.last))
+abbrev pub literal_reasons : PrinterState → Span → Reasons
+literal_reasons s token_span =
+    reasons (ends_line s.last true) (separates_literal s.last) (is_adjacent s.token_span token_span
+    && not (merges_with_literal s.last))
 
-abbrev pub punct_reasons : State → Punct → Option Span → Reasons
+abbrev pub punct_reasons : PrinterState → Punct → Option Span → Reasons
 punct_reasons s p next =
     reasons (ends_line s.last (is_one_of p.char (codes "#'")))
-    (is_punct_apart s.last (is_same_place s.place p.span) p.char p.spacing)
-    (is_beside s.place p.span && stays_with s.last p.char (is_before p.span next))
+    (separates_punct s.last (has_same_span s.token_span p.span) p.char p.spacing)
+    (is_adjacent s.token_span p.span && may_touch_punct s.last p.char (is_adjacent_to_next p.span next))
 
-abbrev pub side_reasons : State → Bool → Span → Reasons
-side_reasons s is_brace place = reasons (ends_line s.last false) (is_opening_apart s.last is_brace)
-    (is_beside s.place place)
+abbrev pub side_reasons : PrinterState → Bool → Span → Reasons
+side_reasons s is_brace token_span = reasons (ends_line s.last false) (separates_opening s.last is_brace)
+    (is_adjacent s.token_span token_span)
 
-abbrev pub open_gap : State → DelimiterKind → Span → Reasons
-open_gap s Parenthesis place = side_reasons s false place
-open_gap s Bracket place = side_reasons s false place
-open_gap s Brace place = side_reasons s true place
-open_gap s Invisible place = no_gap
+abbrev pub open_gap : PrinterState → DelimiterKind → Span → Reasons
+open_gap s Parenthesis token_span = side_reasons s false token_span
+open_gap s Bracket token_span = side_reasons s false token_span
+open_gap s Brace token_span = side_reasons s true token_span
+open_gap s Invisible token_span = no_gap
 
-abbrev pub close_gap : State → DelimiterKind → Reasons
+abbrev pub close_gap : PrinterState → DelimiterKind → Reasons
 close_gap s Brace = reasons (not (is_open_brace s.last)) false false
 close_gap s Parenthesis = no_gap
 close_gap s Bracket = no_gap
 close_gap s Invisible = no_gap
 
-abbrev pub close_depth : State → DelimiterKind → ℕ
+abbrev pub close_depth : PrinterState → DelimiterKind → ℕ
 close_depth s Brace = s.depth - 1
 close_depth s Parenthesis = s.depth
 close_depth s Bracket = s.depth
 close_depth s Invisible = s.depth
 
-abbrev pub the_gap : FlatToken → List FlatToken → State → Reasons
+abbrev pub the_gap : FlatToken → List FlatToken → PrinterState → Reasons
 the_gap (token (ident i)) ts s = word_reasons s (name_text i.sym) i.span
 the_gap (token (literal l)) ts s = literal_reasons s l.span
 the_gap (token (punct p)) ts s = punct_reasons s p (next_place ts)
 the_gap (opening d) ts s = open_gap s d.kind d.opening
 the_gap (closing d) ts s = close_gap s d.kind
 
-abbrev pub gap_depth : FlatToken → State → ℕ
+abbrev pub gap_depth : FlatToken → PrinterState → ℕ
 gap_depth (token l) s = s.depth
 gap_depth (opening d) s = s.depth
 gap_depth (closing d) s = close_depth s d.kind
@@ -96,8 +104,8 @@ spelled (token (punct p)) = encode_utf8 p.char
 spelled (opening d) = opening_text d.kind
 spelled (closing d) = closing_text d.kind
 
-abbrev pub after : FlatToken → List FlatToken → State → State
-after (token l) ts s = a_leaf s l (next_place ts)
+abbrev pub after : FlatToken → List FlatToken → PrinterState → PrinterState
+after (token l) ts s = with_leaf s l (next_place ts)
 after (opening d) ts s = opened s d.kind d.opening
 after (closing d) ts s = closed s d.kind d.close
 
@@ -108,10 +116,10 @@ pub record Written : Type 0 where
   pub gap : Reasons
   pub depth : ℕ
   pub text : List ℕ
-  pub state : State
+  pub state : PrinterState
   pub more : ℕ
 
-abbrev pub a_token : FlatToken → List FlatToken → State → Written
+abbrev pub a_token : FlatToken → List FlatToken → PrinterState → Written
 a_token t ts s = record {
   gap = the_gap t ts s;
   depth = gap_depth t s;
@@ -120,20 +128,20 @@ a_token t ts s = record {
   more = 0;
 }
 
-abbrev pub line_reasons : State → Reasons
+abbrev pub line_reasons : PrinterState → Reasons
 line_reasons s = reasons (not (is_line_start s.last)) false false
 
-abbrev pub token_or_comment : Option Comment → FlatToken → List FlatToken → State → Written
+abbrev pub token_or_comment : Option DocComment → FlatToken → List FlatToken → PrinterState → Written
 token_or_comment None t ts s = a_token t ts s
 token_or_comment (Some c) t ts s = record {
   gap = line_reasons s;
   depth = s.depth;
   text = comment_text c s.depth;
-  state = a_comment s c;
+  state = with_comment s c;
   more = more_tokens c.is_inner;
 }
 
-abbrev pub next_written : FlatToken → List FlatToken → State → Written
+abbrev pub next_written : FlatToken → List FlatToken → PrinterState → Written
 next_written (token (punct p)) ts s = token_or_comment (comment_next p ts s) (token (punct p)) ts s
 next_written (token (ident i)) ts s = a_token (token (ident i)) ts s
 next_written (token (literal l)) ts s = a_token (token (literal l)) ts s
@@ -143,45 +151,45 @@ next_written (closing d) ts s = a_token (closing d) ts s
 -- ---- many
 
 -- what is written after these tokens, but for the first so many
-abbrev pub write : ℕ → List FlatToken → State → State
+abbrev pub write : ℕ → List FlatToken → PrinterState → PrinterState
 write n [] s = s
 write (suc n) (t ∷ ts) s = write n ts s
 write zero (t ∷ ts) s = write (next_written t ts s).more ts (next_written t ts s).state
 
 -- what they add, as bytes and as characters
-abbrev pub left : ℕ → List FlatToken → State → List ℕ
+abbrev pub left : ℕ → List FlatToken → PrinterState → List ℕ
 left n [] s = []
 left (suc n) (t ∷ ts) s = left n ts s
 left zero (t ∷ ts) s =
     let w = next_written t ts s in gap_of w.gap w.depth ++ (w.text ++ left w.more ts w.state)
 
-abbrev pub ahead : ℕ → List FlatToken → State → List ℕ
+abbrev pub ahead : ℕ → List FlatToken → PrinterState → List ℕ
 ahead n [] s = []
 ahead (suc n) (t ∷ ts) s = ahead n ts s
 ahead zero (t ∷ ts) s =
     let w = next_written t ts s in gap_of w.gap w.depth ++ (chars w.text ++ ahead w.more ts w.state)
 
 -- how many tokens and comments they are
-abbrev pub count : ℕ → List FlatToken → State → ℕ
+abbrev pub count : ℕ → List FlatToken → PrinterState → ℕ
 count n [] s = 0
 count (suc n) (t ∷ ts) s = count n ts s
 count zero (t ∷ ts) s = suc (count (next_written t ts s).more ts (next_written t ts s).state)
 
-opened_adds : (d : Delimiter) (kind : DelimiterKind) (s : State)
+opened_adds : (d : Delimiter) (kind : DelimiterKind) (s : PrinterState)
     → (opened s kind d.opening).text ≡ s.text ++ (gap_of (open_gap s kind d.opening) s.depth ++ opening_text kind)
 opened_adds d Parenthesis s = refl
 opened_adds d Bracket s = refl
 opened_adds d Brace s = refl
 opened_adds d Invisible s = sym (append-nil s.text)
 
-closed_adds : (d : Delimiter) (kind : DelimiterKind) (s : State)
+closed_adds : (d : Delimiter) (kind : DelimiterKind) (s : PrinterState)
     → (closed s kind d.close).text ≡ s.text ++ (gap_of (close_gap s kind) (close_depth s kind) ++ closing_text kind)
 closed_adds d Parenthesis s = refl
 closed_adds d Bracket s = refl
 closed_adds d Brace s = refl
 closed_adds d Invisible s = sym (append-nil s.text)
 
-adds : (t : FlatToken) (ts : List FlatToken) (s : State)
+adds : (t : FlatToken) (ts : List FlatToken) (s : PrinterState)
     → (after t ts s).text ≡ s.text ++ (gap_of (the_gap t ts s) (gap_depth t s) ++ spelled t)
 adds (token (ident i)) ts s = refl
 adds (token (literal l)) ts s = refl
@@ -189,22 +197,22 @@ adds (token (punct p)) ts s = refl
 adds (opening d) ts s = opened_adds d d.kind s
 adds (closing d) ts s = closed_adds d d.kind s
 
-abbrev Adds : Written → State → Type 0
+abbrev Adds : Written → PrinterState → Type 0
 Adds w s = w.state.text ≡ s.text ++ (gap_of w.gap w.depth ++ w.text)
 
-comment_adds : (o : Option Comment) (t : FlatToken) (ts : List FlatToken) (s : State)
+comment_adds : (o : Option DocComment) (t : FlatToken) (ts : List FlatToken) (s : PrinterState)
     → Adds (token_or_comment o t ts s) s
 comment_adds None t ts s = adds t ts s
 comment_adds (Some c) t ts s = refl
 
-next_adds : (t : FlatToken) (ts : List FlatToken) (s : State) → Adds (next_written t ts s) s
+next_adds : (t : FlatToken) (ts : List FlatToken) (s : PrinterState) → Adds (next_written t ts s) s
 next_adds (token (ident i)) ts s = adds (token (ident i)) ts s
 next_adds (token (literal l)) ts s = adds (token (literal l)) ts s
 next_adds (token (punct p)) ts s = comment_adds (comment_next p ts s) (token (punct p)) ts s
 next_adds (opening d) ts s = adds (opening d) ts s
 next_adds (closing d) ts s = adds (closing d) ts s
 
-pub text_left : (n : ℕ) (ts : List FlatToken) (s : State) → (write n ts s).text ≡ s.text ++ left n ts s
+pub text_left : (n : ℕ) (ts : List FlatToken) (s : PrinterState) → (write n ts s).text ≡ s.text ++ left n ts s
 text_left n [] s = sym (append-nil s.text)
 text_left (suc n) (t ∷ ts) s = text_left n ts s
 text_left zero (t ∷ ts) s =
@@ -222,7 +230,8 @@ first_place (leaf l rest) ts h = refl
 first_place (group d inside rest) ts h = refl
 
 -- tokens that are passed
-passed : (f : Forest) (n : ℕ) (ts : List FlatToken) (s : State) → write (flat_len f + n) (flat f ++ ts) s ≡ write n ts s
+passed : (f : Forest) (n : ℕ) (ts : List FlatToken) (s : PrinterState) → write (flat_len f + n) (flat f ++ ts) s
+    ≡ write n ts s
 passed none n ts s = ap (λ (k : ℕ). write k ts s) (omega arith)
 passed (leaf l rest) n ts s =
     let k : 1 + flat_len rest + n ≡ suc (flat_len rest + n) = omega arith in
@@ -235,25 +244,25 @@ passed (group d inside rest) n ts s =
     ∙ (passed inside (suc (flat_len rest + n)) (closing d ∷ (flat rest ++ ts)) s ∙ passed rest n ts s))
 
 -- trees that begin with a punct, or with a comment
-written_punct : (p : Punct) (rest : Forest) (ts : List FlatToken) (s : State) (o : Option Comment)
+written_punct : (p : Punct) (rest : Forest) (ts : List FlatToken) (s : PrinterState) (o : Option DocComment)
     → None ≡ next_place ts
     → comment_next p (flat rest ++ ts) s ≡ o → next_comment s (leaf (punct p) rest) ≡ o
-    → ((n : ℕ) (t : State) → write (flat_count n rest) (flat rest ++ ts) t ≡ write 0 ts (written_after n rest t))
+    → ((n : ℕ) (t : PrinterState) → write (flat_count n rest) (flat rest ++ ts) t ≡ write 0 ts (written_after n rest t))
     → write 0 (token (punct p) ∷ (flat rest ++ ts)) s ≡ write 0 ts (written_after 0 (leaf (punct p) rest) s)
 written_punct p rest ts s None h e f go =
     let t = token (punct p) in
     let more = flat rest ++ ts in
-    ap (λ (o : Option Comment). write (token_or_comment o t more s).more more (token_or_comment o t more s).state) e
-    ∙ (ap (λ (n : Option Span). write 0 more (a_leaf s (punct p) n)) (first_place rest ts h)
-    ∙ (go 0 (a_leaf s (punct p) (next_span rest)) ∙ ap (write 0 ts) (sym (leaf_written (punct p) rest s f))))
+    ap (λ (o : Option DocComment). write (token_or_comment o t more s).more more (token_or_comment o t more s).state) e
+    ∙ (ap (λ (n : Option Span). write 0 more (with_leaf s (punct p) n)) (first_place rest ts h)
+    ∙ (go 0 (with_leaf s (punct p) (next_span rest)) ∙ ap (write 0 ts) (sym (leaf_written (punct p) rest s f))))
 written_punct p rest ts s (Some c) h e f go =
     let t = token (punct p) in
     let more = flat rest ++ ts in
-    ap (λ (o : Option Comment). write (token_or_comment o t more s).more more (token_or_comment o t more s).state) e
-    ∙ (ap (λ (k : ℕ). write k more (a_comment s c)) (sym (comment_count p rest s c f))
-    ∙ (go (more_trees c.is_inner) (a_comment s c) ∙ ap (write 0 ts) (sym (comment_written (punct p) rest s c f))))
+    ap (λ (o : Option DocComment). write (token_or_comment o t more s).more more (token_or_comment o t more s).state) e
+    ∙ (ap (λ (k : ℕ). write k more (with_comment s c)) (sym (comment_count p rest s c f))
+    ∙ (go (more_trees c.is_inner) (with_comment s c) ∙ ap (write 0 ts) (sym (comment_written (punct p) rest s c f))))
 
-pub written_flat : (n : ℕ) (f : Forest) (ts : List FlatToken) (s : State) → None ≡ next_place ts
+pub written_flat : (n : ℕ) (f : Forest) (ts : List FlatToken) (s : PrinterState) → None ≡ next_place ts
     → write (flat_count n f) (flat f ++ ts) s ≡ write 0 ts (written_after n f s)
 unfolding written_after
 written_flat zero none ts s h = refl
@@ -264,11 +273,11 @@ written_flat (suc n) (group d inside rest) ts s h =
     (append_assoc (flat inside) (closing d ∷ flat rest) ts)
     ∙ (passed inside (suc (flat_count n rest)) (closing d ∷ (flat rest ++ ts)) s ∙ written_flat n rest ts s h)
 written_flat zero (leaf (ident i) rest) ts s h =
-    ap (λ (p : Option Span). write 0 (flat rest ++ ts) (a_leaf s (ident i) p)) (first_place rest ts h)
-    ∙ written_flat zero rest ts (a_leaf s (ident i) (next_span rest)) h
+    ap (λ (p : Option Span). write 0 (flat rest ++ ts) (with_leaf s (ident i) p)) (first_place rest ts h)
+    ∙ written_flat zero rest ts (with_leaf s (ident i) (next_span rest)) h
 written_flat zero (leaf (literal l) rest) ts s h =
-    ap (λ (p : Option Span). write 0 (flat rest ++ ts) (a_leaf s (literal l) p)) (first_place rest ts h)
-    ∙ written_flat zero rest ts (a_leaf s (literal l) (next_span rest)) h
+    ap (λ (p : Option Span). write 0 (flat rest ++ ts) (with_leaf s (literal l) p)) (first_place rest ts h)
+    ∙ written_flat zero rest ts (with_leaf s (literal l) (next_span rest)) h
 written_flat zero (leaf (punct p) rest) ts s h =
     written_punct p rest ts s (next_comment s (leaf (punct p) rest)) h (comment_same p rest ts s h) refl
     (λ n t. written_flat n rest ts t h)
@@ -280,7 +289,8 @@ written_flat zero (group d inside rest) ts s h =
 
 pub text_of_is : (depth : ℕ) (f : Forest) → text_of depth f ≡ left 0 (flat f) (start depth)
 text_of_is depth f =
-    sym (ap (λ (s : State). s.text) (sym (ap (λ (x : List FlatToken). write 0 x (start depth)) (append-nil (flat f)))
+    sym (ap (λ (s : PrinterState). s.text)
+    (sym (ap (λ (x : List FlatToken). write 0 x (start depth)) (append-nil (flat f)))
     ∙ written_flat 0 f [] (start depth) refl))
     ∙ text_left 0 (flat f) (start depth)
 

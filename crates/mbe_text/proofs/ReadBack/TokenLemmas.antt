@@ -1,5 +1,7 @@
 -- The flat tokens that the lexer makes of a text, one after another, and what comes next.
-use Rattle.std.proofs.Common.{◌≡◌, ℕ, ◌==◌, ◌<◌, ◌≤◌, ◌&&◌, nat_lt, Bool, true, false, List, [], ◌∷◌, ◌++◌, length, drop, refl, sym, ap, ◌∙◌, arith, codes, Option, Some, None, Result, Ok, Err, length-append, encode_utf8, encode_utf8_all, subst}
+use Rattle.std.proofs.Common.{◌≡◌, ℕ, ◌==◌, ◌<◌, ◌≤◌, ◌&&◌, nat_lt, Bool, true, false, List, [], ◌∷◌, ◌++◌, length}
+use Rattle.std.proofs.Common.{drop, refl, sym, ap, ◌∙◌, arith, codes, Option, Some, None, Result, Ok, Err}
+use Rattle.std.proofs.Common.{length-append, encode_utf8, encode_utf8_all, subst}
 use Rattle.std.proofs.Math.Utf8.{scalars}
 use Rattle.std.proofs.lemmas.Bool.Decides.{nat_tests}
 use Rattle.std.proofs.lemmas.Str.{length-encode, len_utf8_bounds, encodes-append}
@@ -15,19 +17,21 @@ use Rattle.mbe_tt.specs.declared.tt.Spacing.{Spacing}
 use Rattle.mbe_tt.specs.declared.tt.Spacing.TheVariants.{Alone}
 use Rattle.mbe_text.specs.declared.dialect.Dialect.TheVariants.{Rust}
 use Rattle.mbe_text.specs.declared.scanner.LexFault.{LexFault}
-use Rattle.mbe_text.specs.Blanks.{begins_comment}
+use Rattle.mbe_text.specs.Whitespace.{begins_comment}
 use Rattle.mbe_text.specs.Characters.{begins_with, offset}
-use Rattle.mbe_text.specs.Dialect.{read_shape, or_sign}
-use Rattle.mbe_text.specs.Division.{Taken, next_token, span_of_taken}
-use Rattle.mbe_text.specs.Rust.{read_rust, is_guard, guarded, begins_doc}
-use Rattle.mbe_text.specs.Shapes.{Shape, Read, identifier, literal_of, punct_of, lifetime_of, doc_of, opening, closing}
-use Rattle.mbe_text.specs.Signs.{spacing_before}
+use Rattle.mbe_text.specs.Dialect.{read_shape, or_punctuation}
+use Rattle.mbe_text.specs.LexedTrees.{ScannedToken, next_token, scanned_span}
+use Rattle.mbe_text.specs.RustTokens.{read_rust, is_guard, guard_fault, begins_doc}
+use Rattle.mbe_text.specs.Shapes.{Shape, ReadResult, identifier, literal_of, punct_of, lifetime_of, doc_of, opening}
+use Rattle.mbe_text.specs.Shapes.{closing}
+use Rattle.mbe_text.specs.Punctuation.{spacing_before}
 use Rattle.mbe_text.specs.Tokens.{bytes_of, punct_leaf, ident_leaf, lifetime_trees, doc_trees}
-use Rattle.mbe_text.specs.Trivia.{past_blanks}
+use Rattle.mbe_text.specs.Trivia.{past_trivia}
 use Rattle.mbe_text.proofs.TailLemmas.{Tail, on}
 use Rattle.mbe_text.specs.Laws.Gaps.{is_punct}
-use Rattle.mbe_text.specs.Laws.Rust.{is_start, begins_word, goes_on}
-use Rattle.mbe_text.proofs.ReadBack.EndLemmas.{space_not_start, start_not_slash, punct_not_start, quote_not_start, is_not}
+use Rattle.mbe_text.specs.Laws.RustTrees.{is_start, begins_word, may_follow_dot}
+use Rattle.mbe_text.proofs.ReadBack.EndLemmas.{space_not_start, start_not_slash, punct_not_start, quote_not_start}
+use Rattle.mbe_text.proofs.ReadBack.EndLemmas.{is_not}
 use Rattle.mbe_text.proofs.ReadBack.StepLemmas.{no_blank, no_comment, no_doc, sign_read}
 use Rattle.mbe_text.proofs.ReadBack.FollowLemmas.{is_side}
 use Rattle.mbe_text.proofs.ReadBack.ReadLemmas.{punct_no_letter, punct_sign}
@@ -60,45 +64,45 @@ tokens_of span (closing k) = tree.closing (record { opening = no_span; close = n
 -- those of a text that is lexed to its end
 pub data Tokens (e : Edition) (file total : ℕ) : List ℕ → List FlatToken → Type 0 where
   last : (cs : List ℕ) → next_token (Rust e) total cs ≡ Ok None → Tokens e file total cs []
-  more : (cs : List ℕ) (t : Taken) (ts : List FlatToken) → next_token (Rust e) total cs ≡ Ok (Some t)
+  more : (cs : List ℕ) (t : ScannedToken) (ts : List FlatToken) → next_token (Rust e) total cs ≡ Ok (Some t)
       → Tokens e file total t.rest ts
-      → Tokens e file total cs (tokens_of (span_of_taken file total t) t.shape ++ ts)
+      → Tokens e file total cs (tokens_of (scanned_span file total t) t.shape ++ ts)
 
 -- ---- one of them
 
-pub record Next (e : Edition) (total : ℕ) (cs : List ℕ) (t : Taken) : Type 0 where
-  pub blanks : Tail cs t.from
-  pub past : past_blanks (Rust e) total (length cs) cs ≡ Ok t.from
+pub record Next (e : Edition) (total : ℕ) (cs : List ℕ) (t : ScannedToken) : Type 0 where
+  pub whitespace : Tail cs t.from
+  pub past : past_trivia (Rust e) total (length cs) cs ≡ Ok t.from
   pub read : read_shape (Rust e) total t.from ≡ Ok (t.shape, t.rest)
   pub step : Step e t.from t.rest t.shape
 
 abbrev NextIs : Type 0
-NextIs = Result (Option Taken) LexFault
+NextIs = Result (Option ScannedToken) LexFault
 
-taken_same : (a b : Taken) → (let x : NextIs = Ok (Some a) in x) ≡ Ok (Some b) → a ≡ b
+taken_same : (a b : ScannedToken) → (let x : NextIs = Ok (Some a) in x) ≡ Ok (Some b) → a ≡ b
 taken_same a b h = cc
 
-next_read : (e : Edition) (total : ℕ) (cs : List ℕ) (c : ℕ) (from : List ℕ) (t : Taken) (r : Read)
-    → past_blanks (Rust e) total (length cs) cs ≡ Ok (c ∷ from) → read_shape (Rust e) total (c ∷ from) ≡ r
+next_read : (e : Edition) (total : ℕ) (cs : List ℕ) (c : ℕ) (from : List ℕ) (t : ScannedToken) (r : ReadResult)
+    → past_trivia (Rust e) total (length cs) cs ≡ Ok (c ∷ from) → read_shape (Rust e) total (c ∷ from) ≡ r
     → scalars cs ≡ true → next_token (Rust e) total cs ≡ Ok (Some t) → Next e total cs t
 next_read e total cs c from t (Err fault) p q u h =
     absurd (let w : next_token (Rust e) total cs ≡ Err fault = rw (next_token, p, q) refl in
     let z : Err fault ≡ Ok (Some t) = sym w ∙ h in cc)
 next_read e total cs c from t (Ok read) p q u h =
-    let made : Taken = record { shape = read.0; from = c ∷ from; rest = read.1 } in
+    let made : ScannedToken = record { shape = read.0; from = c ∷ from; rest = read.1 } in
     let w : next_token (Rust e) total cs ≡ Ok (Some made) = rw (next_token, p, q) refl in
     let same = taken_same made t (sym w ∙ h) in
     let b = blanks_cut e total (length cs) cs c from (omega arith) p in
     let right = (scalars_parts b.tail.own (c ∷ from) (ap scalars (sym b.tail.is) ∙ u)).1 in
     let n : Next e total cs made = record {
-      blanks = b.tail;
+      whitespace = b.tail;
       past = p;
       read = q;
       step = shape_cut e total c from read.1 read.0 right b.free q;
-    } in subst (λ (x : Taken). Next e total cs x) same n
+    } in subst (λ (x : ScannedToken). Next e total cs x) same n
 
-next_past : (e : Edition) (total : ℕ) (cs : List ℕ) (t : Taken) (p : Result (List ℕ) LexFault)
-    → past_blanks (Rust e) total (length cs) cs ≡ p
+next_past : (e : Edition) (total : ℕ) (cs : List ℕ) (t : ScannedToken) (p : Result (List ℕ) LexFault)
+    → past_trivia (Rust e) total (length cs) cs ≡ p
     → scalars cs ≡ true → next_token (Rust e) total cs ≡ Ok (Some t) → Next e total cs t
 next_past e total cs t (Err fault) p u h =
     absurd (let w : next_token (Rust e) total cs ≡ Err fault = rw (next_token, p) refl in
@@ -109,21 +113,21 @@ next_past e total cs t (Ok []) p u h =
 next_past e total cs t (Ok (c ∷ from)) p u h =
     next_read e total cs c from t (read_shape (Rust e) total (c ∷ from)) p refl u h
 
-pub next_cut : (e : Edition) (total : ℕ) (cs : List ℕ) (t : Taken) → scalars cs ≡ true
+pub next_cut : (e : Edition) (total : ℕ) (cs : List ℕ) (t : ScannedToken) → scalars cs ≡ true
     → next_token (Rust e) total cs ≡ Ok (Some t) → Next e total cs t
-next_cut e total cs t u h = next_past e total cs t (past_blanks (Rust e) total (length cs) cs) refl u h
+next_cut e total cs t u h = next_past e total cs t (past_trivia (Rust e) total (length cs) cs) refl u h
 
 -- what is passed, and what is left
-pub next_tail : (e : Edition) (total : ℕ) (cs : List ℕ) (t : Taken) → Next e total cs t → Tail cs t.rest
-next_tail e total cs t n = on cs t.from t.rest n.blanks (record { own = n.step.own; is = n.step.is })
+pub next_tail : (e : Edition) (total : ℕ) (cs : List ℕ) (t : ScannedToken) → Next e total cs t → Tail cs t.rest
+next_tail e total cs t n = on cs t.from t.rest n.whitespace (record { own = n.step.own; is = n.step.is })
 
-pub next_shorter : (e : Edition) (total : ℕ) (cs : List ℕ) (t : Taken) → Next e total cs t
+pub next_shorter : (e : Edition) (total : ℕ) (cs : List ℕ) (t : ScannedToken) → Next e total cs t
     → length t.rest < length cs
 next_shorter e total cs t n =
     let some = n.step.some in
     omega (
       arith,
-      tail_shorter cs t.from n.blanks,
+      tail_shorter cs t.from n.whitespace,
       ap (λ (l : List ℕ). length l) n.step.is,
       length-append n.step.own t.rest,
       some,
@@ -181,37 +185,38 @@ past_same : (a b : List ℕ) → (let x : PastIs = Ok a in x) ≡ Ok b → a ≡
 past_same a b h = cc
 
 -- nothing is passed
-pub record Here (e : Edition) (total : ℕ) (cs : List ℕ) (t : Taken) : Type 0 where
+pub record Here (e : Edition) (total : ℕ) (cs : List ℕ) (t : ScannedToken) : Type 0 where
   pub from : t.from ≡ cs
   pub read : read_shape (Rust e) total cs ≡ Ok (t.shape, t.rest)
 
-pub here_of : (e : Edition) (total : ℕ) (cs : List ℕ) (t : Taken) → past_blanks (Rust e) total (length cs) cs ≡ Ok cs
+pub here_of : (e : Edition) (total : ℕ) (cs : List ℕ) (t : ScannedToken) → past_trivia (Rust e) total (length cs) cs
+    ≡ Ok cs
     → Next e total cs t → Here e total cs t
 here_of e total cs t p n =
     let same : t.from ≡ cs = past_same t.from cs (sym n.past ∙ p) in
     record { from = same; read = ap (read_shape (Rust e) total) (sym same) ∙ n.read }
 
-none_here : (e : Edition) (total c : ℕ) (cs : List ℕ) → past_blanks (Rust e) total (length (c ∷ cs)) (c ∷ cs)
+none_here : (e : Edition) (total c : ℕ) (cs : List ℕ) → past_trivia (Rust e) total (length (c ∷ cs)) (c ∷ cs)
     ≡ Ok (c ∷ cs) → next_token (Rust e) total (c ∷ cs) ≡ Ok None → ⊥
 none_here e total c cs p h = by (read_shape (Rust e) total (c ∷ cs)) refl
   where
-    by : (r : Read) → read_shape (Rust e) total (c ∷ cs) ≡ r → ⊥
+    by : (r : ReadResult) → read_shape (Rust e) total (c ∷ cs) ≡ r → ⊥
     by (Err fault) q =
         let w : next_token (Rust e) total (c ∷ cs) ≡ Err fault = rw (next_token, p, q) refl in
         let z : Err fault ≡ Ok None = sym w ∙ h in absurd (cc)
     by (Ok read) q =
-        let made : Taken = record { shape = read.0; from = c ∷ cs; rest = read.1 } in
+        let made : ScannedToken = record { shape = read.0; from = c ∷ cs; rest = read.1 } in
         let w : next_token (Rust e) total (c ∷ cs) ≡ Ok (Some made) = rw (next_token, p, q) refl in
         let z : Ok (Some made) ≡ Ok None = sym w ∙ h in absurd (cc)
 
 -- ---- a punct comes next
 
 pub punct_past : (e : Edition) (total c : ℕ) (cs : List ℕ) → is_punct c ≡ true → begins_comment (c ∷ cs) ≡ false
-    → past_blanks (Rust e) total (length (c ∷ cs)) (c ∷ cs) ≡ Ok (c ∷ cs)
+    → past_trivia (Rust e) total (length (c ∷ cs)) (c ∷ cs) ≡ Ok (c ∷ cs)
 punct_past e total c cs p n = no_comment e total c cs (punct_no_letter c p).space n (no_doc c cs n)
 
 guard_read : (e : Edition) (c : ℕ) (rest : List ℕ) → is_punct c ≡ true → is_guard e (c ∷ rest) ≡ true
-    → read_rust e (c ∷ rest) ≡ Some (Err (guarded (c ∷ rest)))
+    → read_rust e (c ∷ rest) ≡ Some (Err (guard_fault (c ∷ rest)))
 guard_read e c rest p g =
     let n = punct_no_letter c p in
     let s = punct_not_start c p in
@@ -223,23 +228,24 @@ guard_read e c rest p g =
     let tick = n.tick in
     rw (r, b, d, s, digit, quotes, tick, g) refl
 
-read_same : (a b : Shape × List ℕ) → (let x : Read = Ok a in x) ≡ Ok b → a ≡ b
+read_same : (a b : Shape × List ℕ) → (let x : ReadResult = Ok a in x) ≡ Ok b → a ≡ b
 read_same a b h = cc
 
-punct_here : (e : Edition) (total c : ℕ) (cs : List ℕ) (t : Taken) (guard : Bool) → is_punct c ≡ true
+punct_here : (e : Edition) (total c : ℕ) (cs : List ℕ) (t : ScannedToken) (guard : Bool) → is_punct c ≡ true
     → begins_comment (c ∷ cs) ≡ false → is_guard e (c ∷ cs) ≡ guard → Here e total (c ∷ cs) t
-    → (let made : Taken = record { shape = punct_of c (spacing_before cs); from = c ∷ cs; rest = cs } in made) ≡ t
+    → (let made : ScannedToken = record { shape = punct_of c (spacing_before cs); from = c ∷ cs; rest = cs } in made)
+    ≡ t
 punct_here e total c cs t true p n g h =
-    absurd (let w = ap (or_sign total (c ∷ cs)) (guard_read e c cs p g) in
+    absurd (let w = ap (or_punctuation total (c ∷ cs)) (guard_read e c cs p g) in
     let z = sym w ∙ h.read in cc)
 punct_here e total c cs t false p n g h =
     let k = punct_no_letter c p in
     let none = sign_read e c cs (punct_not_start c p) k.r k.b k.c_ k.digit k.quotes k.tick g (no_doc c cs n) in
     let w : read_shape (Rust e) total (c ∷ cs) ≡ Ok (punct_of c (spacing_before cs), cs) =
-    ap (or_sign total (c ∷ cs)) none ∙ punct_sign total c (spacing_before cs) cs p refl in
+    ap (or_punctuation total (c ∷ cs)) none ∙ punct_sign total c (spacing_before cs) cs p refl in
     let same = read_same (punct_of c (spacing_before cs), cs) (t.shape, t.rest) (sym w ∙ h.read) in
-    ap (λ (r : Shape × List ℕ). let x : Taken = record { shape = r.0; from = c ∷ cs; rest = r.1 } in x) same
-    ∙ ap (λ (f : List ℕ). let x : Taken = record { shape = t.shape; from = f; rest = t.rest } in x) (sym h.from)
+    ap (λ (r : Shape × List ℕ). let x : ScannedToken = record { shape = r.0; from = c ∷ cs; rest = r.1 } in x) same
+    ∙ ap (λ (f : List ℕ). let x : ScannedToken = record { shape = t.shape; from = f; rest = t.rest } in x) (sym h.from)
 
 -- a punct, and the tokens after it
 pub record PunctFirst (e : Edition) (file total c : ℕ) (cs : List ℕ) (ts : List FlatToken) : Type 0 where
@@ -257,11 +263,11 @@ punct_next e file total _ _ (more text t us n rest) u c cs i p b =
     let x : Next e total (c ∷ cs) t =
     next_cut e total (c ∷ cs) t (ap scalars (sym i) ∙ u) (ap (next_token (Rust e) total) (sym i) ∙ n) in
     let here = here_of e total (c ∷ cs) t (punct_past e total c cs p b) x in
-    let made : Taken = record { shape = punct_of c (spacing_before cs); from = c ∷ cs; rest = cs } in
+    let made : ScannedToken = record { shape = punct_of c (spacing_before cs); from = c ∷ cs; rest = cs } in
     let same : made ≡ t = punct_here e total c cs t (is_guard e (c ∷ cs)) p b refl here in record {
       later = us;
-      is = ap (λ (y : Taken). tokens_of (span_of_taken file total y) y.shape ++ us) (sym same);
-      tokens = subst (λ (y : List ℕ). Tokens e file total y us) (sym (ap (λ (y : Taken). y.rest) same)) rest;
+      is = ap (λ (y : ScannedToken). tokens_of (scanned_span file total y) y.shape ++ us) (sym same);
+      tokens = subst (λ (y : List ℕ). Tokens e file total y us) (sym (ap (λ (y : ScannedToken). y.rest) same)) rest;
     }
 
 -- ---- a word comes next
@@ -296,7 +302,7 @@ doc_no_start c cs s h =
 
 -- an identifier, or a literal that begins with a letter
 word_shape : (e : Edition) (span : Span) (shape : Shape) (own : List ℕ) (c : ℕ) (cs rest : List ℕ) (ts : List FlatToken)
-    → is_start c ≡ true → Lexed e shape (c ∷ cs) rest → goes_on Alone (tokens_of span shape ++ ts) ≡ true
+    → is_start c ≡ true → Lexed e shape (c ∷ cs) rest → may_follow_dot Alone (tokens_of span shape ++ ts) ≡ true
 word_shape e span (identifier name r) own c cs rest ts s l = refl
 word_shape e span (literal_of text suffix n kind) own c cs rest ts s l =
     ap begins_word (l.spelled span) ∙ word_begins l.own rest c cs l.is l.some s
@@ -309,11 +315,11 @@ word_shape e span (opening k) own c cs rest ts s l = absurd (side_no_start c s l
 word_shape e span (closing k) own c cs rest ts s l = absurd (side_no_start c s l.1)
 
 word_past : (e : Edition) (total c : ℕ) (cs : List ℕ) → is_start c ≡ true
-    → past_blanks (Rust e) total (length (c ∷ cs)) (c ∷ cs) ≡ Ok (c ∷ cs)
+    → past_trivia (Rust e) total (length (c ∷ cs)) (c ∷ cs) ≡ Ok (c ∷ cs)
 word_past e total c cs s = no_blank e total c cs (space_not_start c s) (start_not_slash c s)
 
 pub word_next : (e : Edition) (file total : ℕ) (text : List ℕ) (ts : List FlatToken) → Tokens e file total text ts
-    → scalars text ≡ true → (c : ℕ) (cs : List ℕ) → text ≡ c ∷ cs → is_start c ≡ true → goes_on Alone ts ≡ true
+    → scalars text ≡ true → (c : ℕ) (cs : List ℕ) → text ≡ c ∷ cs → is_start c ≡ true → may_follow_dot Alone ts ≡ true
 word_next e file total _ _ (last text n) u c cs i s =
     absurd (none_here e total c cs (word_past e total c cs s) (ap (next_token (Rust e) total) (sym i) ∙ n))
 word_next e file total _ _ (more text t us n rest) u c cs i s =
@@ -321,7 +327,7 @@ word_next e file total _ _ (more text t us n rest) u c cs i s =
     next_cut e total (c ∷ cs) t (ap scalars (sym i) ∙ u) (ap (next_token (Rust e) total) (sym i) ∙ n) in
     let here = here_of e total (c ∷ cs) t (word_past e total c cs s) x in
     let l = subst (λ (f : List ℕ). Lexed e t.shape f t.rest) here.from x.step.lexed in
-    word_shape e (span_of_taken file total t) t.shape x.step.own c cs t.rest us s l
+    word_shape e (scanned_span file total t) t.shape x.step.own c cs t.rest us s l
 
 -- ---- a `.` comes next
 
@@ -377,4 +383,4 @@ pub dot_next : (e : Edition) (file total : ℕ) (text : List ℕ) (ts : List Fla
 dot_next e file total _ _ (last text n) f p vs i d s = absurd (cc)
 dot_next e file total _ _ (more text t us n rest) f p vs i d s =
     let x = next_cut e total text t f.right n in
-    dot_shape e file total text t.from t.rest t.shape us vs p x.step.lexed rest x.blanks f i d s
+    dot_shape e file total text t.from t.rest t.shape us vs p x.step.lexed rest x.whitespace f i d s

@@ -1,21 +1,25 @@
-// What is passed before a token: white space, comments, and what may stand before the first one of a file.
+// What a scanner skips before a token: white space and comments.
+//
+// Before the first token of a file it also skips a byte order mark and a `#!` line, in the Rust
+// dialect.
 ghost use Rattle.std.specs.Prelude.{◌≡◌, ◌≤◌, ◌==◌, ◌&&◌, length, IfErr, IsTrue, chars, drop};
 ghost use Rattle.mbe_text.specs.Characters as characters;
-ghost use Rattle.mbe_text.specs.Blanks.{PassesBlock, blank};
-ghost use Rattle.mbe_text.specs.Trivia.{PassesBlanks, after_head, is_doc, past_mark, past_shebang};
-ghost use Rattle.mbe_text.specs.declared.characters.Class.TheVariants.{InLine};
+ghost use Rattle.mbe_text.specs.Whitespace.{PassesBlock, whitespace_class};
+ghost use Rattle.mbe_text.specs.Trivia.{PassesTrivia, after_preamble, is_doc, past_byte_order_mark};
+ghost use Rattle.mbe_text.specs.Trivia.{past_shebang};
+ghost use Rattle.mbe_text.specs.declared.characters.CharClass.TheVariants.{NotLineFeed};
 ghost use Rattle.mbe_text.specs.declared.dialect.Dialect.TheVariants.{Sample};
 
-use crate::characters::{Class, begins_with, is_at, past, split_first};
+use crate::characters::{CharClass, begins_with, is_at, past, split_first};
 use crate::dialect::Dialect;
-use crate::rust::begins_doc;
+use crate::fault_kind::LexFaultKind;
+use crate::rust_tokens::begins_doc;
 use crate::scanner::{LexFault, Scanner};
-use crate::wrong::Wrong;
 
 impl<'t> Scanner<'t> {
-    ghost use Rattle.mbe_text.specs.Scanning.{GoesOn, Advances};
+    ghost use Rattle.mbe_text.specs.ScannerSteps.{ScansForward, Advances};
 
-    // Whether a comment is here that is a token.
+    // Returns whether the next comment is a token: a doc comment of the Rust dialect.
     #[inline(always)]
     fn is_at_doc(&self) -> bool
         ensures { result ≡ is_doc self.now.dialect (chars self.now.rest.now) }
@@ -27,42 +31,42 @@ impl<'t> Scanner<'t> {
     }
 
     #[inline(always)]
-    fn is_blank(&self, char: char) -> bool
-        ensures { result ≡ characters.has (blank self.now.dialect) char }
+    fn is_whitespace(&self, char: char) -> bool
+        ensures { result ≡ characters.has (whitespace_class self.now.dialect) char }
     {
-        self.dialect.blank().has(char)
+        self.dialect.whitespace_class().has(char)
     }
 
-    // Passes white space and comments.
+    // Skips white space and comments.
     #[inline(always)]
     pub(crate) fn trivia(&mut self) -> Result<(), LexFault>
-        ensures on { GoesOn self.old self.new }
-        ensures exact { PassesBlanks self.old.dialect self.old.total (chars self.old.rest.now)
+        ensures on { ScansForward self.old self.new }
+        ensures exact { PassesTrivia self.old.dialect self.old.total (chars self.old.rest.now)
             result (chars self.new.rest.now) }
         ensures within { IfErr result (λ fault. fault.offset ≤ self.old.total) }
     {
-        self.blanks();
+        self.whitespace();
         if is_at(self.rest, '/') {
             return self.comments();
         }
         Ok(())
     }
 
-    // Passes white space.
+    // Skips white space.
     #[inline(always)]
-    fn blanks(&mut self)
-        ensures on { GoesOn self.old self.new }
+    fn whitespace(&mut self)
+        ensures on { ScansForward self.old self.new }
         ensures exact { chars self.new.rest.now
-            ≡ characters.past (blank self.old.dialect) (chars self.old.rest.now) }
+            ≡ characters.past (whitespace_class self.old.dialect) (chars self.old.rest.now) }
     {
-        self.rest = self.after_blanks();
+        self.rest = self.after_whitespace();
     }
 
-    // Passes comments, and white space before, between and after them.
+    // Skips comments, and the white space before, between and after them.
     #[inline(never)]
     fn comments(&mut self) -> Result<(), LexFault>
-        ensures on { GoesOn self.old self.new }
-        ensures exact { PassesBlanks self.old.dialect self.old.total (chars self.old.rest.now)
+        ensures on { ScansForward self.old self.new }
+        ensures exact { PassesTrivia self.old.dialect self.old.total (chars self.old.rest.now)
             result (chars self.new.rest.now) }
         ensures within { IfErr result (λ fault. fault.offset ≤ self.old.total) }
     {
@@ -70,7 +74,7 @@ impl<'t> Scanner<'t> {
             let Some((char, after)) = split_first(self.rest) else {
                 return Ok(());
             };
-            if self.is_blank(char) {
+            if self.is_whitespace(char) {
                 self.rest = after;
             } else if char != '/' {
                 return Ok(());
@@ -86,21 +90,21 @@ impl<'t> Scanner<'t> {
         }
     }
 
-    // Passes the two characters that begin a comment, and what is left of the line.
+    // Skips the two characters that begin a line comment, and the rest of the line.
     fn line_comment(&mut self)
-        ensures on { GoesOn self.old self.new }
+        ensures on { ScansForward self.old self.new }
         ensures past { Advances self.old self.new }
         ensures exact { chars self.new.rest.now
-            ≡ characters.past InLine (drop 2 (chars self.old.rest.now)) }
+            ≡ characters.past NotLineFeed (drop 2 (chars self.old.rest.now)) }
     {
         self.bump();
         self.bump();
-        self.pass(Class::InLine);
+        self.bump_while(CharClass::NotLineFeed);
     }
 
-    // Passes a block comment, with those inside it.
+    // Skips a block comment, with the block comments nested in it.
     fn block_comment(&mut self) -> Result<(), LexFault>
-        ensures on { GoesOn self.old self.new }
+        ensures on { ScansForward self.old self.new }
         ensures past { Advances self.old self.new }
         ensures exact { PassesBlock self.old.total (chars self.old.rest.now)
             result (chars self.new.rest.now) }
@@ -111,10 +115,10 @@ impl<'t> Scanner<'t> {
         self.bump();
         let mut depth = 1u32;
         'chars: while let Some(char) = self.bump() {
-            if self.is_second(char, '/', "*") {
+            if self.completes_pair(char, '/', "*") {
                 self.bump();
                 depth = depth.saturating_add(1);
-            } else if self.is_second(char, '*', "/") {
+            } else if self.completes_pair(char, '*', "/") {
                 self.bump();
                 depth = depth.saturating_sub(1);
                 if depth == 0 {
@@ -124,12 +128,12 @@ impl<'t> Scanner<'t> {
         }
         Err(LexFault {
             offset: start,
-            wrong: Wrong::OpenComment,
+            fault_kind: LexFaultKind::UnterminatedComment,
         })
     }
 
-    // Whether the character that was passed is this first one, and the second is here.
-    fn is_second(&self, passed: char, first: char, second: &str) -> bool
+    // Returns whether the character that was just consumed is `first`, and `second` is next.
+    fn completes_pair(&self, passed: char, first: char, second: &str) -> bool
         requires { IsTrue (characters.are_ascii second.now) }
         ensures exact { result
             ≡ (passed == first && characters.begins_with second.now (chars self.now.rest.now)) }
@@ -138,35 +142,36 @@ impl<'t> Scanner<'t> {
         passed == first && begins_with(self.rest, second)
     }
 
-    // Passes what may stand before the first token of a file.
-    pub(crate) fn head(&mut self)
-        ensures on { GoesOn self.old self.new }
+    // Skips what may stand before the first token of a file.
+    pub(crate) fn preamble(&mut self)
+        ensures on { ScansForward self.old self.new }
         ensures sample { self.old.dialect ≡ Sample → self.new.rest.now ≡ self.old.rest.now }
         ensures exact { chars self.new.rest.now
-            ≡ after_head self.old.dialect self.old.total (chars self.old.rest.now) }
+            ≡ after_preamble self.old.dialect self.old.total (chars self.old.rest.now) }
     {
         match self.dialect {
             Dialect::Sample => {}
             Dialect::Rust(_) => {
-                self.mark();
+                self.byte_order_mark();
                 self.shebang();
             }
         }
     }
 
-    // Passes a byte order mark.
-    fn mark(&mut self)
-        ensures on { GoesOn self.old self.new }
-        ensures exact { chars self.new.rest.now ≡ past_mark (chars self.old.rest.now) }
+    // Skips a byte order mark.
+    fn byte_order_mark(&mut self)
+        ensures on { ScansForward self.old self.new }
+        ensures exact { chars self.new.rest.now ≡ past_byte_order_mark (chars self.old.rest.now) }
     {
         if let Some(('\u{feff}', rest)) = split_first(self.rest) {
             self.rest = rest;
         }
     }
 
-    // Passes a line that begins with `#!`, unless an attribute's `[` is after white space and comments.
+    // Skips a line that begins with `#!`, unless the `[` of an attribute follows after white space
+    // and comments.
     fn shebang(&mut self)
-        ensures on { GoesOn self.old self.new }
+        ensures on { ScansForward self.old self.new }
         ensures exact { chars self.new.rest.now
             ≡ past_shebang self.old.dialect self.old.total (chars self.old.rest.now) }
     {
@@ -180,7 +185,7 @@ impl<'t> Scanner<'t> {
         if self.trivia().is_ok() && begins_with(self.rest, "[") {
             self.rest = text;
         } else {
-            self.rest = past(line, Class::InLine);
+            self.rest = past(line, CharClass::NotLineFeed);
         }
     }
 }

@@ -1,55 +1,60 @@
-// What metavariable expressions write.
+// Emits metavariable expressions: `${count(..)}`, `${concat(..)}` and the check of `${ignore(..)}`.
+// The numbers of `${index(..)}` and `${len(..)}` are written by `write_number` too.
 ghost use Rattle.unicode_ident.specs.Ident as xid;
 ghost use Rattle.std.specs.List.{list_all};
 ghost use Rattle.std.specs.Prelude.{◌||◌, ◌==◌, ◌≡◌, ◌<◌, ◌^◌, Some, None, true, false, not};
 ghost use Rattle.std.specs.Prelude.{is_some, is_none, chars, option_map, string_bytes, OnOk, IfOk};
 ghost use Rattle.std.specs.Prelude.{IfErr};
-ghost use Rattle.mbe_tt.specs.Buffers.Building.{put};
-ghost use Rattle.mbe_tt.specs.Fragments.Grammar.{Grammar};
-ghost use Rattle.mbe_semantics.specs.Writing.Concat as spec;
-ghost use Rattle.mbe_semantics.specs.Writing.Concat.{concat_text, are_identifier_chars};
-ghost use Rattle.mbe_semantics.specs.Writing.Concat.{text_of_element, text_of_value, text_of_tree};
-ghost use Rattle.mbe_semantics.specs.Writing.Concat.{text_in_style};
-ghost use Rattle.mbe_variables.specs.Counting.{simple_value};
-ghost use Rattle.mbe_semantics.specs.Laws.Marking.{MayMark};
+ghost use Rattle.mbe_tt.specs.Buffers.GroupStack.{put};
+ghost use Rattle.mbe_tt.specs.Grammars.Grammar.{Grammar};
+ghost use Rattle.mbe_semantics.specs.Transcription.Concat as spec;
+ghost use Rattle.mbe_semantics.specs.Transcription.Concat.{concat_text, are_identifier_chars};
+ghost use Rattle.mbe_semantics.specs.Transcription.Concat.{text_of_element, text_of_value};
+ghost use Rattle.mbe_semantics.specs.Transcription.Concat.{text_of_tree};
+ghost use Rattle.mbe_semantics.specs.Transcription.Concat.{text_in_style};
+ghost use Rattle.mbe_variables.specs.RoundCounts.{simple_value};
+ghost use Rattle.mbe_semantics.specs.Laws.Callbacks.{MayMark};
 ghost use Rattle.mbe_semantics.specs.Bindings.Missing.{default_trees, no_span};
-ghost use Rattle.mbe_semantics.specs.Writing.Rounds.{followed};
-ghost use Rattle.mbe_semantics.specs.Writing.Substitution.{integer, total_of, is_simple};
-ghost use Rattle.mbe_semantics.specs.Writing.Substitution.{is_counted};
+ghost use Rattle.mbe_semantics.specs.Transcription.Rounds.{followed};
+ghost use Rattle.mbe_semantics.specs.Transcription.Substitution.{integer, total_of, is_simple};
+ghost use Rattle.mbe_semantics.specs.Transcription.Substitution.{is_counted};
 ghost use Rattle.mbe_log.specs.FragmentViews.{fragment_seen};
-ghost use Rattle.mbe_bindings.specs.BindingViews.{bound_by};
+ghost use Rattle.mbe_bindings.specs.BindingViews.{env_of};
 ghost use Rattle.mbe_ops.specs.Expressions.{element_seen, elements_seen};
-ghost use Rattle.mbe_transcriber.specs.Writing.{Wrote, IsNumber, IsConcatWritten};
-ghost use Rattle.mbe_variables.specs.Fragments.{Appends};
-ghost use Rattle.mbe_transcriber.specs.Writing.{IsJoined};
+ghost use Rattle.mbe_transcriber.specs.TranscriberSteps.{Wrote, IsNumber, IsConcatWritten};
+ghost use Rattle.mbe_variables.specs.FragmentWriter.{Appends};
+ghost use Rattle.mbe_transcriber.specs.TranscriberSteps.{IsJoined};
 ghost use Rattle.std.specs.Result.{result_err};
 ghost use Rattle.mbe_semantics.specs.Syntax.Op as Expression;
 ghost use Rattle.mbe_semantics.specs.Bindings.Environment.{value_of};
-ghost use Rattle.mbe_transcriber.specs.Beside.{name_left};
+ghost use Rattle.mbe_transcriber.specs.PartialExpansion.{concat_name};
 ghost use Rattle.mbe_variables.specs.FaultViews.{kind_of_fault, error_of_fault};
-ghost use Rattle.mbe_transcriber.specs.Faults.{bound_fault, count_fault, needed_fault};
-ghost use Rattle.mbe_variables.specs.Lost.{at};
-ghost use Rattle.mbe_transcriber.specs.Faults.{element_fault, expression_fault, first_of, joined};
+ghost use Rattle.mbe_transcriber.specs.TemplateFaults.{bound_fault, count_fault, required_fault};
+ghost use Rattle.mbe_variables.specs.LookupErrors.{at};
+ghost use Rattle.mbe_transcriber.specs.TemplateFaults.{element_fault, expression_fault, find_first};
+ghost use Rattle.mbe_transcriber.specs.TemplateFaults.{joined};
 
 use crate::transcriber::ExpandCtx;
 use mbe_bindings::bindings::Bindings;
 use mbe_log::fragment::{Fragment, TokensOrigin};
 use mbe_ops::expression::ConcatMetaVarExprElem;
-use mbe_semantics::kinds::{MetaVarKind, Missing};
-use mbe_semantics::rounds::Level;
+use mbe_semantics::current_round::CurrentRound;
+use mbe_semantics::fragment_kinds::{MetaVarKind, Missing};
 use mbe_tt::grammar::FragmentGrammar;
 use mbe_tt::span::Span;
 use mbe_tt::symbol::Symbol;
 use mbe_tt::tt::{
     Ident, IdentIsRaw, Leaf, LitKind, Literal, TokenTreesView, TopSubtreeBuilder, TtElement,
 };
-use mbe_variables::fault::{FaultKind, WritingFault};
-use mbe_variables::following::{Lost, Simple, follow, simple_at, value_total};
-use mbe_variables::fragments::mark;
+use mbe_variables::fragment_writer::mark;
+use mbe_variables::transcriber_fault::{TranscriberFault, TranscriberFaultKind};
+use mbe_variables::variable_lookup::{
+    LookupError, SimpleBinding, follow, simple_binding_at, value_total,
+};
 use std::alloc::{AllocError, Allocator};
 use unicode_ident::{is_xid_continue, is_xid_start};
 
-// An integer without suffix.
+// Writes an integer without a suffix.
 pub(crate) fn write_number<A: Allocator + Copy>(
     alloc: A,
     number: usize,
@@ -67,20 +72,20 @@ pub(crate) fn write_number<A: Allocator + Copy>(
     }))
 }
 
-// How many values the name leads to at a depth of lists.
+// Writes the number of values that the name is bound to at a depth of lists.
 pub(crate) fn write_count<'t, A: Allocator + Copy, G, M>(
     ctx: &ExpandCtx<'_, '_, A, G, M>,
     name: &'t Symbol<A>,
     depth: usize,
-    path: &[Level],
+    path: &[CurrentRound],
     builder: &mut TopSubtreeBuilder<A>,
-) -> Result<Option<WritingFault<'t, A>>, AllocError>
+) -> Result<Option<TranscriberFault<'t, A>>, AllocError>
     ensures wrote { IfOk result (λ fault. Wrote (is_some fault)
-        (not (is_counted depth (followed (bound_by ctx.now.bindings.now) path.now name.now)))
-        (IsNumber (total_of depth (followed (bound_by ctx.now.bindings.now) path.now name.now))
+        (not (is_counted depth (followed (env_of ctx.now.bindings.now) path.now name.now)))
+        (IsNumber (total_of depth (followed (env_of ctx.now.bindings.now) path.now name.now))
         ctx.now.call_site) builder.old builder.new) }
     ensures first { IfOk result (λ fault. option_map error_of_fault fault
-        ≡ expression_fault ctx.now.call_site (bound_by ctx.now.bindings.now) path.now
+        ≡ expression_fault ctx.now.call_site (env_of ctx.now.bindings.now) path.now
         (Expression.count name.now depth)) }
     ensures unchanged { IfOk result (λ fault. is_some fault ≡ true → builder.new ≡ builder.old) }
 {
@@ -89,98 +94,99 @@ pub(crate) fn write_count<'t, A: Allocator + Copy, G, M>(
             write_number(ctx.alloc, number, ctx.call_site, builder)?;
             Ok(None)
         }
-        Err(kind) => Ok(Some(WritingFault {
+        Err(kind) => Ok(Some(TranscriberFault {
             span: ctx.call_site,
             kind,
         })),
     }
 }
 
-// `ignore` writes nothing.
-pub(crate) fn find_ignored<'t, A: Allocator>(
+// Returns the fault of `${ignore(..)}`, which writes nothing.
+pub(crate) fn check_ignored<'t, A: Allocator>(
     bindings: &Bindings<'_, A>,
     name: &'t Symbol<A>,
     id: Span,
-    path: &[Level],
-) -> Option<WritingFault<'t, A>>
+    path: &[CurrentRound],
+) -> Option<TranscriberFault<'t, A>>
     ensures reported { is_some result
-        ≡ not (is_simple (followed (bound_by bindings.now) path.now name.now)) }
+        ≡ not (is_simple (followed (env_of bindings.now) path.now name.now)) }
     ensures fault { option_map error_of_fault result
-        ≡ option_map (at id) (needed_fault (bound_by bindings.now) path.now name.now) }
+        ≡ option_map (at id) (required_fault (env_of bindings.now) path.now name.now) }
 {
-    simple_of(bindings, name, id, path).err()
+    simple_binding(bindings, name, id, path).err()
 }
 
-// What a variable writes that has to be bound.
-fn simple_of<'b, 't, 'a, A: Allocator>(
+// Returns the binding of a variable that has to be bound.
+fn simple_binding<'b, 't, 'a, A: Allocator>(
     bindings: &'b Bindings<'a, A>,
     name: &'t Symbol<A>,
     span: Span,
-    path: &[Level],
-) -> Result<Simple<'b, 'a, A>, WritingFault<'t, A>>
-    ensures found { IfOk result (λ s. followed (bound_by bindings.now) path.now name.now
+    path: &[CurrentRound],
+) -> Result<SimpleBinding<'b, 'a, A>, TranscriberFault<'t, A>>
+    ensures found { IfOk result (λ s. followed (env_of bindings.now) path.now name.now
         ≡ Some (simple_value s)) }
-    ensures lost { IfErr result (λ _.
-        is_simple (followed (bound_by bindings.now) path.now name.now) ≡ false) }
+    ensures lookup_error { IfErr result (λ _.
+        is_simple (followed (env_of bindings.now) path.now name.now) ≡ false) }
     ensures fault { option_map error_of_fault (result_err result)
-        ≡ option_map (at span) (needed_fault (bound_by bindings.now) path.now name.now) }
+        ≡ option_map (at span) (required_fault (env_of bindings.now) path.now name.now) }
 {
     match bindings.get(name) {
-        Some(binding) => simple_at(binding, name, span, path),
-        None => Err(WritingFault {
+        Some(binding) => simple_binding_at(binding, name, span, path),
+        None => Err(TranscriberFault {
             span,
-            kind: FaultKind::Unresolved(name),
+            kind: TranscriberFaultKind::Unresolved(name),
         }),
     }
 }
 
-// The number of values that the name leads to at a depth of lists.
+// Counts the values that the name is bound to at a depth of lists.
 fn count<'t, A: Allocator>(
     bindings: &Bindings<'_, A>,
     name: &'t Symbol<A>,
     depth: usize,
-    path: &[Level],
-) -> Result<usize, FaultKind<'t, A>>
+    path: &[CurrentRound],
+) -> Result<usize, TranscriberFaultKind<'t, A>>
     ensures found { IfOk result
-        (λ n. (is_counted depth (followed (bound_by bindings.now) path.now name.now) ≡ true)
-        × (n ≡ total_of depth (followed (bound_by bindings.now) path.now name.now))) }
-    ensures lost { IfErr result
-        (λ _. is_counted depth (followed (bound_by bindings.now) path.now name.now) ≡ false) }
+        (λ n. (is_counted depth (followed (env_of bindings.now) path.now name.now) ≡ true)
+        × (n ≡ total_of depth (followed (env_of bindings.now) path.now name.now))) }
+    ensures lookup_error { IfErr result
+        (λ _. is_counted depth (followed (env_of bindings.now) path.now name.now) ≡ false) }
     ensures fault { option_map kind_of_fault (result_err result)
         ≡ bound_fault name.now (count_fault name.now depth path.now)
-        (value_of (bound_by bindings.now) name.now) }
+        (value_of (env_of bindings.now) name.now) }
 {
     let Some(binding) = bindings.get(name) else {
-        return Err(FaultKind::Unresolved(name));
+        return Err(TranscriberFaultKind::Unresolved(name));
     };
     match follow(binding, path) {
-        Ok(value) => value_total(value, depth).ok_or(FaultKind::Limit),
-        Err(Lost::Empty) => Err(FaultKind::EmptyInside(name)),
-        Err(Lost::NoValue) => Err(FaultKind::NoValue(name)),
+        Ok(value) => value_total(value, depth).ok_or(TranscriberFaultKind::Limit),
+        Err(LookupError::Empty) => Err(TranscriberFaultKind::EmptyInside(name)),
+        Err(LookupError::NoValue) => Err(TranscriberFaultKind::NoValue(name)),
     }
 }
 
-// One identifier, joined from the texts of the elements. One that has no text is left out.
+// Writes one identifier, joined from the texts of the elements. An element without a text is left
+// out.
 pub(crate) fn write_concat<'t, A: Allocator + Copy, G: FragmentGrammar, M: Fn(Span) -> Span + Copy>(
     ctx: &ExpandCtx<'_, '_, A, G, M>,
     elements: &'t [ConcatMetaVarExprElem<A>],
     span: Span,
-    path: &[Level],
+    path: &[CurrentRound],
     builder: &mut TopSubtreeBuilder<A>,
-) -> Result<Option<WritingFault<'t, A>>, AllocError>
+) -> Result<Option<TranscriberFault<'t, A>>, AllocError>
     requires { MayMark (M.pre ctx.now.marker) }
     ensures wrote { IfOk result (λ fault. Wrote (is_some fault)
         (is_none (concat_text
-        (bound_by ctx.now.bindings.now) path.now (elements_seen elements.now)))
+        (env_of ctx.now.bindings.now) path.now (elements_seen elements.now)))
         (IsConcatWritten (G.grammar ctx.now.grammar.now) (M.post ctx.now.marker) span
-        (concat_text (bound_by ctx.now.bindings.now) path.now (elements_seen elements.now)))
+        (concat_text (env_of ctx.now.bindings.now) path.now (elements_seen elements.now)))
         builder.old builder.new) }
     ensures first { IfOk result (λ fault. option_map error_of_fault fault
-        ≡ expression_fault ctx.now.call_site (bound_by ctx.now.bindings.now) path.now
+        ≡ expression_fault ctx.now.call_site (env_of ctx.now.bindings.now) path.now
         (Expression.concat (elements_seen elements.now) span)) }
     ensures left { IfOk result (λ _. Appends
         (IsConcatWritten (G.grammar ctx.now.grammar.now) (M.post ctx.now.marker) span (Some
-        (name_left (joined (bound_by ctx.now.bindings.now) path.now (elements_seen elements.now)))))
+        (concat_name (joined (env_of ctx.now.bindings.now) path.now (elements_seen elements.now)))))
         builder.old builder.new) }
 {
     let (text, fault) = joined_text(ctx, elements, path)?;
@@ -189,13 +195,13 @@ pub(crate) fn write_concat<'t, A: Allocator + Copy, G: FragmentGrammar, M: Fn(Sp
         return Ok(fault);
     }
     write_name(ctx, "__ra_concat_dummy", span, builder)?;
-    Ok(fault.or(Some(WritingFault {
+    Ok(fault.or(Some(TranscriberFault {
         span,
-        kind: FaultKind::NoIdentifier,
+        kind: TranscriberFaultKind::NoIdentifier,
     })))
 }
 
-// An identifier, raw where its text is a keyword.
+// Writes an identifier. It is raw if its text is a keyword.
 fn write_name<A: Allocator + Copy, G: FragmentGrammar, M: Fn(Span) -> Span + Copy>(
     ctx: &ExpandCtx<'_, '_, A, G, M>,
     text: &str,
@@ -219,18 +225,19 @@ fn write_name<A: Allocator + Copy, G: FragmentGrammar, M: Fn(Span) -> Span + Cop
     }))
 }
 
-// The texts of the elements that have one, joined, and the first fault among the others.
+// Joins the texts of the elements. Returns the first fault of an element without a text beside
+// them.
 fn joined_text<'t, A: Allocator + Copy, G, M>(
     ctx: &ExpandCtx<'_, '_, A, G, M>,
     elements: &'t [ConcatMetaVarExprElem<A>],
-    path: &[Level],
-) -> Result<(String<A>, Option<WritingFault<'t, A>>), AllocError>
+    path: &[CurrentRound],
+) -> Result<(String<A>, Option<TranscriberFault<'t, A>>), AllocError>
     ensures all { IfOk result (λ r. IsJoined (string_bytes r.0) (is_some r.1)
-        (spec.joined_text (bound_by ctx.now.bindings.now) path.now (elements_seen elements.now))) }
+        (spec.joined_text (env_of ctx.now.bindings.now) path.now (elements_seen elements.now))) }
     ensures text { IfOk result (λ r. string_bytes r.0
-        ≡ joined (bound_by ctx.now.bindings.now) path.now (elements_seen elements.now)) }
+        ≡ joined (env_of ctx.now.bindings.now) path.now (elements_seen elements.now)) }
     ensures fault { IfOk result (λ r. option_map error_of_fault r.1
-        ≡ first_of (element_fault (bound_by ctx.now.bindings.now) path.now)
+        ≡ find_first (element_fault (env_of ctx.now.bindings.now) path.now)
         (elements_seen elements.now)) }
 {
     let mut text = String::new(ctx.alloc);
@@ -244,35 +251,35 @@ fn joined_text<'t, A: Allocator + Copy, G, M>(
     Ok((text, fault))
 }
 
-// The text of one element.
+// Returns the text of one element.
 fn element_text<'b, 't: 'b, A: Allocator>(
     bindings: &'b Bindings<'_, A>,
     element: &'t ConcatMetaVarExprElem<A>,
-    path: &[Level],
-) -> Result<&'b str, WritingFault<'t, A>>
+    path: &[CurrentRound],
+) -> Result<&'b str, TranscriberFault<'t, A>>
     ensures found { IfOk result (λ text. text_of_element
-        (bound_by bindings.now) path.now (element_seen element.now) ≡ Some text.now) }
-    ensures lost { IfErr result (λ _. text_of_element
-        (bound_by bindings.now) path.now (element_seen element.now) ≡ None) }
+        (env_of bindings.now) path.now (element_seen element.now) ≡ Some text.now) }
+    ensures lookup_error { IfErr result (λ _. text_of_element
+        (env_of bindings.now) path.now (element_seen element.now) ≡ None) }
     ensures fault { option_map error_of_fault (result_err result)
-        ≡ element_fault (bound_by bindings.now) path.now (element_seen element.now) }
+        ≡ element_fault (env_of bindings.now) path.now (element_seen element.now) }
 {
     let variable = match element {
         ConcatMetaVarExprElem::Ident(ident) => return Ok(ident.sym.as_str()),
         ConcatMetaVarExprElem::Literal(literal) => return Ok(literal.text()),
         ConcatMetaVarExprElem::Var(variable) => variable,
     };
-    let text = match simple_of(bindings, &variable.sym, variable.span, path)? {
-        Simple::Fragment(fragment) => fragment_text(fragment),
-        Simple::Missing(kind) => default_text(kind),
+    let text = match simple_binding(bindings, &variable.sym, variable.span, path)? {
+        SimpleBinding::Fragment(fragment) => fragment_text(fragment),
+        SimpleBinding::Missing(kind) => default_text(kind),
     };
-    text.ok_or(WritingFault {
+    text.ok_or(TranscriberFault {
         span: variable.span,
-        kind: FaultKind::NoText,
+        kind: TranscriberFaultKind::NoText,
     })
 }
 
-// The text of one identifier or literal. Expressions and paths have none.
+// Returns the text of one identifier or literal. Expressions and paths have none.
 fn fragment_text<'b, A: Allocator>(fragment: &'b Fragment<'_, A>) -> Option<&'b str>
     ensures { option_map (λ text. text.now) result
         ≡ text_in_style (fragment_seen fragment.now).style (fragment_seen fragment.now).trees }
@@ -292,7 +299,7 @@ fn fragment_text<'b, A: Allocator>(fragment: &'b Fragment<'_, A>) -> Option<&'b 
     }
 }
 
-// The text of what is written for a missing variable of that kind, where that is one identifier.
+// Returns the text of the default of this kind, if the default is one identifier.
 fn default_text(kind: MetaVarKind) -> Option<&'static str>
     ensures { option_map (λ text. text.now) result ≡ text_of_tree (default_trees kind no_span) }
 {
@@ -302,7 +309,7 @@ fn default_text(kind: MetaVarKind) -> Option<&'static str>
     }
 }
 
-// `_` or XID_Start, and then XID_Continue.
+// Returns whether the text is `_` or XID_Start and then XID_Continue.
 fn is_identifier(text: &str) -> bool
     ensures { result ≡ are_identifier_chars (chars text.now) }
 {

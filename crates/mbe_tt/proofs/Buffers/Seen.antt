@@ -1,15 +1,16 @@
 -- What entries show, as they are put together and taken apart.
-use Rattle.std.proofs.Common.{◌≡◌, ℕ, ◌+◌, ◌-◌, List, [], ◌∷◌, ◌++◌, length, take, drop, refl, ap, sym, ◌∙◌, set, arith, true≢false}
+use Rattle.std.proofs.Common.{◌≡◌, ℕ, ◌+◌, ◌-◌, List, [], ◌∷◌, ◌++◌, length, take, drop, refl, ap, sym, ◌∙◌, set, arith}
+use Rattle.std.proofs.Common.{true≢false}
 use Rattle.std.specs.Prelude.{Bool, true, false, ◌&&◌, IsTrue, ◌↔◌}
 use Rattle.std.specs.Cmp.Lexicographic.{pointwise}
-use Rattle.mbe_tt.specs.Laws.Same.{same_is, is_same}
-use Rattle.mbe_tt.specs.Views.Entry.{entry_code}
-use Rattle.mbe_tt.specs.Views.Shown.{entry_eq}
+use Rattle.mbe_tt.specs.Laws.CodeEquality.{same_is, is_same}
+use Rattle.mbe_tt.specs.Views.BufferEntry.{entry_code}
+use Rattle.mbe_tt.specs.Views.LeafViews.{entry_eq}
 use Rattle.std.proofs.lemmas.List.{map-set, length-map, map-append, take-map, drop-map}
-use Rattle.mbe_tt.specs.Views.Shown.{entries_of, entry_of}
-use Rattle.mbe_tt.specs.Views.Entry.{Entry as Flat}
-use Rattle.mbe_tt.specs.Views.Entry.{Open}
-use Rattle.mbe_tt.specs.Views.Entries.{spell, forest_of}
+use Rattle.mbe_tt.specs.Views.LeafViews.{entries_of, entry_of}
+use Rattle.mbe_tt.specs.Views.BufferEntry.{Entry as Flat}
+use Rattle.mbe_tt.specs.Views.BufferEntry.{Open}
+use Rattle.mbe_tt.specs.Views.BufferEntries.{spell, forest_of}
 use Rattle.mbe_tt.specs.Trees.Tree.{Forest}
 use Rattle.mbe_tt.specs.Trees.Top.{Top, top_of, top_group}
 use Rattle.mbe_tt.specs.Buffers.OpensAt.{OpensAt}
@@ -46,17 +47,18 @@ passed_shown passed before now e =
     ap (λ (k : ℕ). take k (entries_of before)) n ∙ passed_is passed (entries_of before) (entries_of now) e
 
 -- the element at an opening's place
-pub opens_here : {A : Type 0} (es : List (Entry A)) (place : ℕ) (x d : Entry A) → x ≡ get_or es place d
-    → (o : (s : Subtree) × (n : ℕ) × OpensAt (entries_of es) place s n) → entry_of x ≡ Open o.0 o.1
-opens_here es place x d e o =
-    ap entry_of e ∙ (sym (get_or-map entry_of es place d)
-    ∙ (ap (λ (l : List Flat). get_or l place (entry_of d)) o.2.is
+pub opens_here : {A : Type 0} (es : List (Entry A)) (offset : ℕ) (x d : Entry A) → x ≡ get_or es offset d
+    → (o : (s : Subtree) × (n : ℕ) × OpensAt (entries_of es) offset s n) → entry_of x ≡ Open o.0 o.1
+opens_here es offset x d e o =
+    ap entry_of e ∙ (sym (get_or-map entry_of es offset d)
+    ∙ (ap (λ (l : List Flat). get_or l offset (entry_of d)) o.2.is
     ∙ (ap (λ (k : ℕ). get_or (o.2.before ++ Open o.0 o.1 ∷ o.2.after) k (entry_of d)) o.2.at
     ∙ get_or-append_seam o.2.before (Open o.0 o.1) o.2.after (entry_of d))))
 
-pub opens_with : (es : List Flat) (place : ℕ) (s : Subtree) (n : ℕ) (o : (s : Subtree) × (n : ℕ) × OpensAt es place s n)
-    → Open s n ≡ Open o.0 o.1 → OpensAt es place s n
-opens_with es place s n o e =
+pub opens_with : (es : List Flat) (offset : ℕ) (s : Subtree) (n : ℕ) (o : (s : Subtree) × (n : ℕ)
+    × OpensAt es offset s n)
+    → Open s n ≡ Open o.0 o.1 → OpensAt es offset s n
+opens_with es offset s n o e =
     let a : s ≡ o.0 = cc in let b : n ≡ o.1 = cc in rw (a, b) o.2
 
 pub opens_not : {A : Type 0} (x : Entry A) (s : Subtree) (n : ℕ) → entry_of x ≡ Open s n

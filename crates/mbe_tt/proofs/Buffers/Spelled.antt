@@ -1,12 +1,14 @@
 -- What entries that spell a forest begin with.
-use Rattle.std.proofs.Common.{◌≡◌, ℕ, ◌+◌, ◌-◌, ◌≤◌, ◌<◌, List, ◌∷◌, ◌++◌, length, take, drop, refl, ap, sym, ◌∙◌, arith, length-append, append_assoc, Some}
+use Rattle.std.proofs.Common.{◌≡◌, ℕ, ◌+◌, ◌-◌, ◌≤◌, ◌<◌, List, ◌∷◌, ◌++◌, length, take, drop, refl, ap, sym, ◌∙◌}
+use Rattle.std.proofs.Common.{arith, length-append, append_assoc, Some}
 use Rattle.std.proofs.Math.Seq.{take-append_seam, drop-append_seam}
-use Rattle.mbe_tt.specs.Trees.Tree.{Forest, none, leaf, group, append, flat_len, tree_count, first, rest_of, tree, Tree, Leaf_tree, Group_tree}
-use Rattle.mbe_tt.specs.Views.Entries.{spell, forest_of, forest_of-spell, Spelled}
+use Rattle.mbe_tt.specs.Trees.Tree.{Forest, none, leaf, group, append, flat_len, tree_count, first, rest_of, tree, Tree}
+use Rattle.mbe_tt.specs.Trees.Tree.{Leaf_tree, Group_tree}
+use Rattle.mbe_tt.specs.Views.BufferEntries.{spell, forest_of, forest_of-spell, Spelled}
 use Rattle.mbe_tt.specs.Trees.Leaf.{Leaf as TheLeaf}
 use Rattle.mbe_tt.specs.declared.tt.Subtree.{Subtree}
-use Rattle.mbe_tt.specs.Views.Entry.{Entry}
-use Rattle.mbe_tt.specs.Views.Entry.{Leaf, Open, Close}
+use Rattle.mbe_tt.specs.Views.BufferEntry.{Entry}
+use Rattle.mbe_tt.specs.Views.BufferEntry.{Leaf, Open, Close}
 
 pub length-spell : (f : Forest) → length (spell f) ≡ flat_len f
 length-spell none = refl

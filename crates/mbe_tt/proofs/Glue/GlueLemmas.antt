@@ -1,5 +1,6 @@
 -- Which puncts at the front are taken together, by how many are joined there.
-use Rattle.std.specs.Prelude.{◌≡◌, ℕ, zero, suc, Bool, true, false, if◌then◌else◌, List, [], ◌∷◌, ◌++◌, length, Option, Some, None, option_map, option_and_then, refl}
+use Rattle.std.specs.Prelude.{◌≡◌, ℕ, zero, suc, Bool, true, false, if◌then◌else◌, List, [], ◌∷◌, ◌++◌, length, Option}
+use Rattle.std.specs.Prelude.{Some, None, option_map, option_and_then, refl}
 use Rattle.std.proofs.Common.{ap, sym, ◌∙◌}
 use Rattle.std.proofs.lemmas.Option.{none-some, same_Some}
 use Rattle.mbe_tt.specs.declared.tt.Spacing.{Spacing}
@@ -7,7 +8,8 @@ use Rattle.mbe_tt.specs.declared.tt.Spacing.TheVariants.{Alone, Joint}
 use Rattle.mbe_tt.specs.declared.tt.Punct.{Punct}
 use Rattle.mbe_tt.specs.Trees.Leaf.{literal, punct, ident}
 use Rattle.mbe_tt.specs.Trees.Tree.{Forest, none, leaf, group, front_punct, rest_of, skip}
-use Rattle.mbe_tt.specs.Trees.Glue.{joined, if_joint, joined_punct, third_punct, longest_operator, is_operator, chars_of, glue, glued}
+use Rattle.mbe_tt.specs.Trees.Glue.{joined, if_joint, joined_punct, third_punct, longest_operator, is_operator}
+use Rattle.mbe_tt.specs.Trees.Glue.{chars_of, glue, glued}
 
 no_some : {A : Type 0} {B : Type 0} (x : A) → None ≡ Some x → B
 no_some x e = absurd (none-some x e)

@@ -1,7 +1,8 @@
 -- The first tree, and those after it.
 use Rattle.std.proofs.Common.{◌≡◌, ◌<◌, Some, None, refl, ap, arith}
 use Rattle.std.proofs.lemmas.Option.{same_Some}
-use Rattle.mbe_tt.specs.Trees.Tree.{Forest, Tree, Leaf_tree, Group_tree, none, leaf, group, tree, first, rest_of, flat_len}
+use Rattle.mbe_tt.specs.Trees.Tree.{Forest, Tree, Leaf_tree, Group_tree, none, leaf, group, tree, first, rest_of}
+use Rattle.mbe_tt.specs.Trees.Tree.{flat_len}
 
 pub whole : (f : Forest) (t : Tree) → first f ≡ Some t → f ≡ tree t (rest_of f)
 whole none t e = cc

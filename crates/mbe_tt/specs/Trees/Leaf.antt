@@ -1,4 +1,4 @@
--- Leaves of token trees, as values that own no memory: a text is the list of its bytes.
+-- The leaves of token trees, as values that own no memory. A text is the list of its bytes.
 use Rattle.std.specs.Prelude.{◌≡◌, ℕ, Bool, List, codes, refl, ◌⊎◌}
 use Rattle.std.specs.Str.{bytes_eq}
 use Rattle.std.proofs.Common.{inl, inr}
@@ -12,14 +12,14 @@ use Rattle.mbe_tt.specs.contracts.tt.LitKind as k
 use Rattle.mbe_tt.specs.contracts.tt.IdentIsRaw as r
 use Rattle.mbe_tt.specs.contracts.span.Span as s
 
--- the text between the quotes, with its suffix, and the suffix's length in bytes
+-- a literal: the text between the quotes with its suffix, and the suffix's length in bytes
 pub record Literal : Type 0 where
   pub text_and_suffix : List ℕ
   pub suffix_len : ℕ
   pub kind : LitKind
   pub span : Span
 
--- the text without `r#`
+-- an identifier: `sym` is the text without `r#`
 pub record Ident : Type 0 where
   pub sym : List ℕ
   pub is_raw : IdentIsRaw
@@ -31,15 +31,16 @@ pub data Leaf : Type 0 where
   punct : Punct → Leaf
   ident : Ident → Leaf
 
--- A rule that names an identifier by its text means any identifier of that text, raw or not.
+-- Two texts are equal. A definition that names an identifier by its text means any identifier with
+-- that text, raw or not.
 abbrev pub is_text : List ℕ → List ℕ → Bool
 is_text a b = bytes_eq a b
 
--- the text `_`
+-- the text is `_`
 abbrev pub is_underscore : List ℕ → Bool
 is_underscore s = is_text s (codes "_")
 
--- where a leaf is
+-- the span of a leaf
 abbrev pub span_of : Leaf → Span
 span_of (literal l) = l.span
 span_of (punct p) = p.span
@@ -47,7 +48,7 @@ span_of (ident i) = i.span
 
 -- ---- codes, by which values are compared
 
--- a leaf as numbers and lists
+-- a literal, an identifier and a leaf as the values that are compared
 abbrev pub LiteralRow : Type 0
 LiteralRow = List ℕ × (ℕ × (LitKind × Span))
 
@@ -59,7 +60,8 @@ LeafRow = Literal ⊎ (Punct ⊎ Ident)
 
 abbrev pub literal_code : Coded Literal
 literal_code =
-    code_by LiteralRow (coded× (coded_list coded_ℕ) (coded× coded_ℕ (coded× k.the_row.coded s.the_row.coded)))
+    code_by LiteralRow (coded× (coded_list coded_ℕ)
+    (coded× coded_ℕ (coded× k.the_row.coded s.the_row.coded)))
     (λ l. (l.text_and_suffix, (l.suffix_len, (l.kind, l.span))))
     (λ r. record { text_and_suffix = r.0; suffix_len = r.1.0; kind = r.1.1.0; span = r.1.1.1 })
     (λ _. refl)
@@ -87,5 +89,6 @@ row_leaf-leaf_row (punct p) = refl
 row_leaf-leaf_row (ident i) = refl
 
 abbrev pub leaf_code : Coded Leaf
-leaf_code = code_by LeafRow (coded⊎ literal_code (coded⊎ p.the_row.coded ident_code)) leaf_row row_leaf
+leaf_code =
+    code_by LeafRow (coded⊎ literal_code (coded⊎ p.the_row.coded ident_code)) leaf_row row_leaf
     row_leaf-leaf_row

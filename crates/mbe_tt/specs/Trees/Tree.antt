@@ -1,32 +1,37 @@
--- Token trees. A forest is a list of trees; a tree is a leaf, or a group of a delimiter and the forest inside it.
--- Flat tokens and places are the project's own, as the crate that rust-analyzer uses here isn't followed.
-use Rattle.std.specs.Prelude.{ℕ, zero, suc, ◌+◌, ◌-◌, Bool, true, false, ◌||◌, if◌then◌else◌, nat_le, List, [], ◌∷◌, ◌++◌, Option, Some, None, option_map, option_and_then, codes}
-use Rattle.mbe_tt.specs.Trees.Leaf.{Leaf, Ident, literal, punct, ident, span_of, is_text, is_underscore}
+-- Token trees. A forest is a list of trees. A tree is a leaf, or a group of a delimiter and the
+-- forest inside it. Flat tokens and offsets are the project's own: the crate that rust-analyzer
+-- uses here isn't followed.
+use Rattle.std.specs.Prelude.{ℕ, zero, suc, ◌+◌, ◌-◌, Bool, true, false, ◌||◌, if◌then◌else◌}
+use Rattle.std.specs.Prelude.{nat_le, List, [], ◌∷◌, ◌++◌, Option, Some, None, option_map}
+use Rattle.std.specs.Prelude.{option_and_then, codes}
+use Rattle.mbe_tt.specs.Trees.Leaf.{Leaf, Ident, literal, punct, ident, span_of, is_text}
+use Rattle.mbe_tt.specs.Trees.Leaf.{is_underscore}
 use Rattle.mbe_tt.specs.declared.span.Span.{Span}
 use Rattle.mbe_tt.specs.declared.tt.Spacing.TheVariants.{Alone}
 use Rattle.mbe_tt.specs.declared.tt.Punct.{Punct}
 use Rattle.mbe_tt.specs.declared.tt.Delimiter.{Delimiter}
 use Rattle.mbe_tt.specs.declared.tt.DelimiterKind.{DelimiterKind}
-use Rattle.mbe_tt.specs.declared.tt.DelimiterKind.TheVariants.{Invisible, Parenthesis, Brace, Bracket}
+use Rattle.mbe_tt.specs.declared.tt.DelimiterKind.TheVariants.{Invisible, Parenthesis, Brace}
+use Rattle.mbe_tt.specs.declared.tt.DelimiterKind.TheVariants.{Bracket}
 
--- one type for a list of trees: nothing, or a first tree and the trees after it
+-- a forest: nothing, or a first tree and the trees after it
 pub data Forest : Type 0 where
   none : Forest
   leaf : Leaf → Forest → Forest
   group : Delimiter → Forest → Forest → Forest
 
--- a leaf, or a group
+-- a tree: a leaf, or a group
 pub data Tree : Type 0 where
   Leaf_tree : Leaf → Tree
   Group_tree : Delimiter → Forest → Tree
 
--- a leaf, an opening or a closing
+-- a flat token: a leaf, an opening or a closing
 pub data FlatToken : Type 0 where
   token : Leaf → FlatToken
   opening : Delimiter → FlatToken
   closing : Delimiter → FlatToken
 
--- that tree before others
+-- the tree, and then the others
 abbrev pub tree : Tree → Forest → Forest
 tree (Leaf_tree l) rest = leaf l rest
 tree (Group_tree d inside) rest = group d inside rest
@@ -67,19 +72,20 @@ rest_of none = none
 rest_of (leaf l rest) = rest
 rest_of (group d inside rest) = rest
 
--- the trees after the first so many
+-- the trees after the first n
 abbrev pub skip : ℕ → Forest → Forest
 skip zero f = f
 skip (suc n) f = skip n (rest_of f)
 
--- the content, where there is exactly one invisible group
+-- the content of a group if it is invisible, and else the group itself
 abbrev pub strip_group : Delimiter → DelimiterKind → Forest → Forest
 strip_group d Invisible inside = inside
 strip_group d Parenthesis inside = group d inside none
 strip_group d Brace inside = group d inside none
 strip_group d Bracket inside = group d inside none
 
--- the content, where there is exactly one tree and that is an invisible group; one level only
+-- the content if the forest is exactly one invisible group, and else the forest itself; one level
+-- only
 abbrev pub strip_invisible : Forest → Forest
 strip_invisible none = none
 strip_invisible (leaf l rest) = leaf l rest
@@ -87,49 +93,49 @@ strip_invisible (group d inside none) = strip_group d d.kind inside
 strip_invisible (group d inside (leaf l rest)) = group d inside (leaf l rest)
 strip_invisible (group d inside (group e more rest)) = group d inside (group e more rest)
 
--- the punct that a leaf is
+-- the punct, if the leaf is one
 abbrev pub leaf_punct : Leaf → Option Punct
 leaf_punct (punct p) = Some p
 leaf_punct (literal l) = None
 leaf_punct (ident i) = None
 
--- the identifier that a leaf is
+-- the identifier, if the leaf is one
 abbrev pub leaf_ident : Leaf → Option Ident
 leaf_ident (punct p) = None
 leaf_ident (literal l) = None
 leaf_ident (ident i) = Some i
 
--- the first tree, where it is a punct
+-- the first tree, if it is a punct
 abbrev pub front_punct : Forest → Option Punct
 front_punct none = None
 front_punct (leaf l rest) = leaf_punct l
 front_punct (group d inside rest) = None
 
--- the char of the first tree, where that is a punct
+-- the char of the first tree, if that is a punct
 abbrev pub front_char : Forest → Option ℕ
 front_char f = option_map (λ p. p.char) (front_punct f)
 
--- the first tree, where it is an identifier
+-- the first tree, if it is an identifier
 abbrev pub any_ident : Forest → Option Ident
 any_ident none = None
 any_ident (leaf l rest) = leaf_ident l
 any_ident (group d inside rest) = None
 
--- an identifier other than `_`
+-- the identifier, unless it is `_`
 abbrev pub not_underscore : Ident → Option Ident
 not_underscore i = if is_underscore i.sym then None else Some i
 
--- the first tree, where it is an identifier other than `_`
+-- the first tree, if it is an identifier other than `_`
 abbrev pub front_ident : Forest → Option Ident
 front_ident f = option_and_then not_underscore (any_ident f)
 
--- the first tree, where it is a group
+-- the first tree, if it is a group
 abbrev pub front_group : Forest → Option (Delimiter × Forest)
 front_group none = None
 front_group (leaf l rest) = None
 front_group (group d inside rest) = Some (d, inside)
 
--- the group, where there is exactly one
+-- the group, if the forest is exactly one group
 abbrev pub one_group : Forest → Option (Delimiter × Forest)
 one_group none = None
 one_group (leaf l rest) = None
@@ -141,38 +147,38 @@ one_group (group d inside (group e more rest)) = None
 abbrev pub one_leaf : Leaf → Forest
 one_leaf l = leaf l none
 
--- the first tree, where it is a leaf
+-- the first tree, if it is a leaf
 abbrev pub front_leaf : Forest → Option Leaf
 front_leaf none = None
 front_leaf (leaf l rest) = Some l
 front_leaf (group d inside rest) = None
 
 -- the text is `true` or `false`
-abbrev pub is_truth : List ℕ → Bool
-is_truth text = is_text text (codes "true") || is_text text (codes "false")
+abbrev pub is_bool_text : List ℕ → Bool
+is_bool_text text = is_text text (codes "true") || is_text text (codes "false")
 
--- a literal, or the identifier `true` or `false`
+-- the leaf, if it is a literal or the identifier `true` or `false`
 abbrev pub literal_leaf : Leaf → Option Leaf
 literal_leaf (literal l) = Some (literal l)
 literal_leaf (punct p) = None
-literal_leaf (ident i) = if is_truth i.sym then Some (ident i) else None
+literal_leaf (ident i) = if is_bool_text i.sym then Some (ident i) else None
 
--- the first tree, where it is one of these
+-- the first tree, if it is a literal or the identifier `true` or `false`
 abbrev pub front_literal : Forest → Option Leaf
 front_literal f = option_and_then literal_leaf (front_leaf f)
 
--- where a tree begins
+-- the span at which a tree begins
 abbrev pub first_span : Tree → Span
 first_span (Leaf_tree l) = span_of l
 first_span (Group_tree d inside) = d.opening
 
--- a punct alone, and any other leaf as it is
+-- the leaf, with the spacing `Alone` if it is a punct
 abbrev pub alone_leaf : Leaf → Leaf
 alone_leaf (literal l) = literal l
 alone_leaf (punct p) = punct (record p { spacing = Alone })
 alone_leaf (ident i) = ident i
 
--- another forest in the place of the last tree
+-- the forest with its last tree replaced by what `g` makes of that tree
 abbrev pub change_last : (Tree → Forest) → Forest → Forest
 change_last g none = none
 change_last g (leaf l none) = g (Leaf_tree l)
@@ -180,50 +186,53 @@ change_last g (leaf l (leaf m rest)) = leaf l (change_last g (leaf m rest))
 change_last g (leaf l (group d inside rest)) = leaf l (change_last g (group d inside rest))
 change_last g (group d inside none) = g (Group_tree d inside)
 change_last g (group d inside (leaf l rest)) = group d inside (change_last g (leaf l rest))
-change_last g (group d inside (group e more rest)) = group d inside (change_last g (group e more rest))
+change_last g (group d inside (group e more rest)) =
+    group d inside (change_last g (group e more rest))
 
--- a punct alone, and any other tree as it is
+-- the tree, with the spacing `Alone` if it is a punct
 abbrev pub alone_tree : Tree → Forest
 alone_tree (Leaf_tree l) = leaf (alone_leaf l) none
 alone_tree (Group_tree d inside) = group d inside none
 
--- the last tree Alone, where it is a punct
+-- the forest, with the spacing `Alone` for its last tree if that is a punct
 abbrev pub alone : Forest → Forest
 alone = change_last alone_tree
 
--- the content of an invisible group, and any other tree as it is
+-- the content of an invisible group; any other tree as it is
 abbrev pub strip_tree : Tree → Forest
 strip_tree (Leaf_tree l) = leaf l none
 strip_tree (Group_tree d inside) = strip_group d d.kind inside
 
--- the content of the last tree in its place, where it is an invisible group
+-- the forest with its last tree replaced by its content, if that tree is an invisible group
 abbrev pub unwrapped : Forest → Forest
 unwrapped = change_last strip_tree
 
--- leaves side by side
+-- the forest of these leaves
 abbrev pub leaves : List Leaf → Forest
 leaves [] = none
 leaves (l ∷ ls) = leaf l (leaves ls)
 
--- the number of flat tokens before the last tree, where it is an invisible group
+-- zero, if the kind is invisible
 abbrev pub if_invisible : DelimiterKind → Option ℕ
 if_invisible Invisible = Some 0
 if_invisible Parenthesis = None
 if_invisible Brace = None
 if_invisible Bracket = None
 
--- the number of flat tokens before the last tree, where that is an invisible group
+-- the number of flat tokens before the last tree, if that tree is an invisible group
 abbrev pub last_invisible : Forest → Option ℕ
 last_invisible none = None
 last_invisible (leaf l rest) = option_map (λ n. 1 + n) (last_invisible rest)
 last_invisible (group d inside none) = if_invisible d.kind
-last_invisible (group d inside (leaf l rest)) = option_map (λ n. 2 + flat_len inside + n) (last_invisible (leaf l rest))
+last_invisible (group d inside (leaf l rest)) =
+    option_map (λ n. 2 + flat_len inside + n) (last_invisible (leaf l rest))
 last_invisible (group d inside (group e more rest)) =
     option_map (λ n. 2 + flat_len inside + n) (last_invisible (group e more rest))
 
--- ---- places
+-- ---- offsets
 
--- A place is a number of flat tokens consumed. These are the trees from there to the end of the innermost group.
+-- An offset is a number of flat tokens. These are the trees from the offset to the end of the
+-- innermost group around it.
 abbrev pub rest_at : Forest → ℕ → Forest
 rest_at none p = none
 rest_at (leaf l rest) zero = leaf l rest
@@ -232,36 +241,37 @@ rest_at (group d inside rest) zero = group d inside rest
 rest_at (group d inside rest) (suc p) =
     if nat_le p (flat_len inside) then rest_at inside p else rest_at rest (p - flat_len inside - 1)
 
--- the number of groups around a place
+-- the number of groups around an offset
 abbrev pub depth_at : Forest → ℕ → ℕ
 depth_at none p = 0
 depth_at (leaf l rest) zero = 0
 depth_at (leaf l rest) (suc p) = depth_at rest p
 depth_at (group d inside rest) zero = 0
 depth_at (group d inside rest) (suc p) =
-    if nat_le p (flat_len inside) then 1 + depth_at inside p else depth_at rest (p - flat_len inside - 1)
+    if nat_le p (flat_len inside) then 1 + depth_at inside p else depth_at rest
+    (p - flat_len inside - 1)
 
--- trees at the front of a forest, and those after them
+-- a cut: the trees at the front of a forest, and the trees after them
 pub record Cut : Type 0 where
   pub front : Forest
   pub back : Forest
 
--- a cut into these two
+-- the cut with this front and this back
 abbrev pub cut : Forest → Forest → Cut
 cut front back = record { front = front; back = back }
 
--- the number of flat tokens from the front of f to its last trees
+-- the number of flat tokens of f before its last trees
 abbrev pub passed : Forest → Forest → ℕ
 passed f last = flat_len f - flat_len last
 
--- with one more leaf, or group, before the front
+-- a cut with one more leaf, or group, before its front
 abbrev pub leaf_before : Leaf → Cut → Cut
 leaf_before l c = record c { front = leaf l c.front }
 
 abbrev pub group_before : Delimiter → Forest → Cut → Cut
 group_before d inside c = record c { front = group d inside c.front }
 
--- after the first n trees, or after all where there are fewer
+-- the cut after the first n trees, or after all trees if there are fewer
 abbrev pub cut_trees : ℕ → Forest → Cut
 cut_trees n none = cut none none
 cut_trees zero (leaf l rest) = cut none (leaf l rest)
@@ -269,15 +279,16 @@ cut_trees zero (group d inside rest) = cut none (group d inside rest)
 cut_trees (suc n) (leaf l rest) = leaf_before l (cut_trees n rest)
 cut_trees (suc n) (group d inside rest) = group_before d inside (cut_trees n rest)
 
--- after the shortest list of whole trees that holds n flat tokens
+-- the cut after the shortest list of whole trees that holds n flat tokens
 abbrev pub cut_flat : ℕ → Forest → Cut
 cut_flat n none = cut none none
 cut_flat zero (leaf l rest) = cut none (leaf l rest)
 cut_flat zero (group d inside rest) = cut none (group d inside rest)
 cut_flat (suc n) (leaf l rest) = leaf_before l (cut_flat n rest)
-cut_flat (suc n) (group d inside rest) = group_before d inside (cut_flat (n - flat_len inside - 1) rest)
+cut_flat (suc n) (group d inside rest) =
+    group_before d inside (cut_flat (n - flat_len inside - 1) rest)
 
--- whether two kinds of delimiters are one
+-- whether two kinds of delimiters are equal
 abbrev pub is_same_kind : DelimiterKind → DelimiterKind → Bool
 is_same_kind Parenthesis Parenthesis = true
 is_same_kind Brace Brace = true
@@ -285,22 +296,22 @@ is_same_kind Bracket Bracket = true
 is_same_kind Invisible Invisible = true
 is_same_kind _ _ = false
 
--- the trees, one by one
+-- the trees one by one, each as a forest
 abbrev pub trees_of : Forest → List Forest
 trees_of none = []
 trees_of (leaf l rest) = leaf l none ∷ trees_of rest
 trees_of (group d inside rest) = group d inside none ∷ trees_of rest
 
--- the trees, one by one, as an iterator gives them
+-- the trees one by one, as an iterator yields them
 abbrev pub each_tree : Forest → List Tree
 each_tree none = []
 each_tree (leaf l rest) = Leaf_tree l ∷ each_tree rest
 each_tree (group d inside rest) = Group_tree d inside ∷ each_tree rest
 
--- forests side by side
-abbrev pub all_of : List Forest → Forest
-all_of [] = none
-all_of (f ∷ fs) = append f (all_of fs)
+-- the concatenation of forests
+abbrev pub concat : List Forest → Forest
+concat [] = none
+concat (f ∷ fs) = append f (concat fs)
 
 -- the spans of all tokens, openings and closings, in order
 abbrev pub spans_of : Forest → List Span

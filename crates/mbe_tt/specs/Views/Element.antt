@@ -1,6 +1,6 @@
 -- The tree that an element of an iterator stands for.
 use Rattle.mbe_tt.specs.Trees.Tree.{Tree, Leaf_tree, Group_tree}
-use Rattle.mbe_tt.specs.Views.Shown.{leaf_of}
+use Rattle.mbe_tt.specs.Views.LeafViews.{leaf_of}
 use Rattle.mbe_tt.specs.declared.iter.TtElement.{TtElement}
 use Rattle.mbe_tt.specs.declared.iter.TtElement.TheVariants.{Leaf, Subtree}
 

@@ -1,5 +1,5 @@
 use Rattle.std.proofs.Common.{◌≡◌, take}
-use Rattle.expandm.specs.Places.{feeds_from}
+use Rattle.expandm.specs.Locations.{feeds_from}
 use Rattle.expandm.proofs.lines.feeds_of.Given as goal
 
 abbrev pub invariant-loop-at : goal.invariant-loop-at

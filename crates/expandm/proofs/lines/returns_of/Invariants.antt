@@ -1,5 +1,5 @@
 use Rattle.std.proofs.Common.{◌≡◌, ◌≤◌, ◌-◌, ◌++◌, length, drop}
-use Rattle.expandm.specs.Returns.{returns, returns_from}
+use Rattle.expandm.specs.LineEndings.{returns, returns_from}
 use Rattle.expandm.proofs.lines.returns_of.Given as goal
 
 abbrev pub invariant-loop-at : goal.invariant-loop-at

@@ -1,6 +1,6 @@
 use Rattle.std.proofs.Common.{rules, ap, length, map, ◌∙◌, ◌+◌, ◌∷◌, []}
 use Rattle.std.proofs.lemmas.List.{length-append}
-use Rattle.expandm.specs.ShownFiles.{source_of, text_of}
+use Rattle.expandm.specs.FileViews.{source_of, text_of}
 use Rattle.expandm.specs.Sources.{source_text}
 use Rattle.expandm.proofs.SessionLemmas.{no_source, one_more_source, one_more_text, same_text}
 use Rattle.expandm.proofs.sessions.sources.Goals as goal
@@ -8,7 +8,7 @@ use Rattle.expandm.proofs.sessions.sources.Goals as goal
 pub loop-number-init : goal.loop-number-init
 loop-number-init c = (
   ap (map (λ f. source_text (source_of f))) c.new-files.ensures.items,
-  no_source source_of c.args.reading.now c.new-files.result.items c.new-files.ensures.items,
+  no_source source_of c.args.source_settings.now c.new-files.result.items c.new-files.ensures.items,
   ap length c.new-files.ensures.items,
 )
 
@@ -22,7 +22,7 @@ loop-number-preserved c = (
       (same_text (source_text (source_of c.in_ok-file.file)) (text_of c.index-texts-number.result)
       (c.in_ok-file.ensures.name ∙ c.as_str-name.ensures.value)
       (c.in_ok-file.ensures.text ∙ c.as_str-text.ensures.value)),
-  one_more_source source_of c.args.reading.now c.loop-number.files.items c.push.new.self.items c.in_ok-file.file
+  one_more_source source_of c.args.source_settings.now c.loop-number.files.items c.push.new.self.items c.in_ok-file.file
       c.in-Ok.at c.loop-number.invariant.1
       (search rules) c.in_ok-push.ensures.items (search rules),
   ap length c.in_ok-push.ensures.items ∙ length-append c.loop-number.files.items (c.in_ok-file.file ∷ [])

@@ -1,9 +1,9 @@
 use Rattle.std.proofs.Common.{◌≡◌, arith, length, map, subst}
 use Rattle.std.specs.String.{string_bytes}
-use Rattle.mbe_calls.specs.Replacements.{part_of}
-use Rattle.mbe_expanding.specs.Shown.{setting_of, state_of}
-use Rattle.expandm.specs.Expansions.{CratesParts, FilesBecome}
-use Rattle.expandm.specs.ShownFiles.{source_of, sources_of}
+use Rattle.mbe_rewriter.specs.ReplacementViews.{part_of}
+use Rattle.mbe_session.specs.SessionViews.{setting_of, state_of}
+use Rattle.expandm.specs.FileExpansion.{CratesParts, FilesExpand}
+use Rattle.expandm.specs.FileViews.{source_of, sources_of}
 use Rattle.expandm.proofs.sessions.write.Goals as goal
 
 pub returns : goal.returns
@@ -11,12 +11,12 @@ returns c =
     let session = c.in_ok-session.session in
     let e = setting_of session.expander in
     let s = state_of session.expander in
-    let t = state_of c.crates_parts.new.expander in
+    let t = state_of c.crates_replacements.new.expander in
     let options = c.args.options.now in
     let parts = map part_of c.in_ok-parts.parts.items in
     let texts = map string_bytes c.in_ok-written.written.items in
-    let n : c.len-given.result ≡ length options.names.items =
-    omega (arith, c.len-given.ensures, options.names.ok.0) in
+    let n : c.len-root_count.result ≡ length options.names.items =
+    omega (arith, c.len-root_count.ensures, options.names.ok.0) in
     record {
       files = sources_of session;
       setting = e;
@@ -24,11 +24,11 @@ returns c =
       end = t;
       begins = c.in_ok-session.ensures;
       parts = parts;
-      of_crates = subst (λ n. CratesParts e 1000 options.follows (sources_of session) s n parts t) n
-          (subst (λ fs. CratesParts e 1000 options.follows (map source_of fs) s c.len-given.result parts t)
+      of_crates = subst (λ n. CratesParts e 1000 options.with_modules (sources_of session) s n parts t) n
+          (subst (λ fs. CratesParts e 1000 options.with_modules (map source_of fs) s c.len-root_count.result parts t)
           c.deref.ensures.value c.in_ok-parts.ensures);
-      become = subst (λ ps. FilesBecome options.call (map part_of ps) (sources_of session) texts)
+      files_expand = subst (λ ps. FilesExpand options.call (map part_of ps) (sources_of session) texts)
           c.as_slice.ensures.value
-          (subst (λ fs. FilesBecome options.call (map part_of c.as_slice.result.now) (map source_of fs) texts)
+          (subst (λ fs. FilesExpand options.call (map part_of c.as_slice.result.now) (map source_of fs) texts)
           c.deref-2.ensures.value c.in_ok-written.ensures);
     }

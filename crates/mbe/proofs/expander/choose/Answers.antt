@@ -7,7 +7,7 @@ use Rattle.mbe_tt.specs.declared.span.Span.{Span}
 use Rattle.mbe_semantics.specs.contracts.macro_call_style.MacroCallStyle.{the_type}
 use Rattle.mbe_semantics.specs.Expansion.Expansion.{Applies}
 use Rattle.mbe_parser.specs.RuleViews.{rule_of, rules_seen}
-use Rattle.mbe.specs.Choice.{candidate_seen, IsCandidate}
+use Rattle.mbe.specs.RuleChoice.{candidate_seen, IsCandidate}
 use Rattle.mbe.proofs.ChoiceLemmas.{NoneApplies, first_at, none_contained, none_more, seen_at, all_seen, length_seen}
 use Rattle.mbe.proofs.ClosestLemmas.{IsSoFar, so_far_skipped, so_far_tried, kept_tried, candidate, nearest, no_style}
 use Rattle.mbe.proofs.expander.choose.Goals as goal
@@ -51,7 +51,7 @@ returns-in-Applies g c =
     let here = seen_at rule_of c.args.rules.now c.loop-idx.idx c.index-rules-idx.result c.loop-idx-test.true
     c.index-rules-idx.is in
     let own = differs_false the_type (search rules) _ _ (sym c.ne.ensures ∙ c.if-ne.false) in
-    let it = rw c.in-Applies.is at c.in_ok-tried.ensures in
+    let it = rw c.in-Applies.is at c.in_ok-outcome.ensures in
     let a : Applies h style input.1 r =
     record { styled = own; items = it.0.items; fits = it.0.fits; faultless = it.0.faultless } in
     let first = first_at h style input.1 rs c.loop-idx.idx r a c.loop-idx.invariant.none here in
@@ -69,16 +69,16 @@ loop-idx-preserved g c =
     let here = seen_at rule_of c.args.rules.now c.loop-idx.idx c.index-rules-idx.result c.loop-idx-test.true
     c.index-rules-idx.is in
     let own = differs_false the_type (search rules) _ _ (sym c.ne.ensures ∙ c.if-ne.false) in
-    let it = rw c.in-Fails.is at c.in_ok-tried.ensures in
+    let it = rw c.in-Fails.is at c.in_ok-outcome.ensures in
     let not_this : Applies h style input.1 r → ⊥ =
     λ a. it.0 (record { styled = refl; items = a.items; fits = a.fits; faultless = a.faultless }) in
     record {
       none = none_more h style input.1 rs c.loop-idx.idx r c.loop-idx.invariant.none here not_this;
       nearest = subst (λ x. IsSoFar h site input style rs (c.loop-idx.idx + 1)
-          (option_map candidate_seen x)) (sym c.consider.ensures)
+          (option_map candidate_seen x)) (sym c.keep_nearer.ensures)
           (so_far_tried h site input style rs c.loop-idx.idx r here
           c.loop-idx.nearest _ refl it.1 c.loop-idx.invariant.nearest);
-      kept = subst (λ x. IfSome x (IsCandidate h marks site input style rs)) (sym c.consider.ensures)
+      kept = subst (λ x. IfSome x (IsCandidate h marks site input style rs)) (sym c.keep_nearer.ensures)
           (kept_tried (IsCandidate h marks site input style rs) c.loop-idx.nearest _
           c.loop-idx.invariant.kept
           (candidate h marks site input style rs c.loop-idx.idx r here _ own it.2
@@ -101,7 +101,7 @@ returns-in-Some g c =
       λ s k a. none_contained h style input.1 rs s nobody k a,
       nearest h site input style rs c.loop-idx.idx c.in-Some.candidate.idx
           c.in-Some.candidate.nearness _ all kept.styled so_far,
-      kept.remains,
+      kept.failure,
     )
 
 pub returns-in-None : goal.returns-in-None

@@ -2,7 +2,7 @@ use Rattle.std.proofs.Common.{take, option_map}
 use Rattle.std.specs.Prelude.{IfSome}
 use Rattle.mbe_tt.specs.Views.View.{group_of}
 use Rattle.mbe_parser.specs.RuleViews.{rules_seen}
-use Rattle.mbe.specs.Choice.{candidate_seen, IsCandidate}
+use Rattle.mbe.specs.RuleChoice.{candidate_seen, IsCandidate}
 use Rattle.mbe.proofs.ChoiceLemmas.{NoneApplies}
 use Rattle.mbe.proofs.ClosestLemmas.{IsSoFar}
 use Rattle.mbe.proofs.expander.choose.Given as goal

@@ -6,8 +6,8 @@ use Rattle.mbe.proofs.ChoiceLemmas.{contains_first}
 use Rattle.mbe.proofs.ClosestLemmas.{at_place, closest, ok_both}
 use Rattle.mbe.proofs.expander.expand_rules.Goals as goal
 
-pub recovered-requires-clause-remains : goal.recovered-requires-clause-remains
-recovered-requires-clause-remains g c = (rw c.in-Closest.is at c.in_ok-choice.ensures).2
+pub recovered-requires-clause-failure : goal.recovered-requires-clause-failure
+recovered-requires-clause-failure g c = (rw c.in-Closest.is at c.in_ok-choice.ensures).2
 
 pub returns-in-Expanded-clause-expands : goal.returns-in-Expanded-clause-expands
 returns-in-Expanded-clause-expands g c =
@@ -45,7 +45,7 @@ returns-in-Closest-clause-recovers g c =
     let it = rw c.in-Closest.is at c.in_ok-choice.ensures in
     ok_both c.recovered.result _ _ _
     (λ x index given e y s. record {
-      place = c.in-Closest.candidate.idx;
+      rule_index = c.in-Closest.candidate.idx;
       rule = _;
       nearest = it.1;
       named = index;

@@ -5,15 +5,15 @@ use Rattle.mbe_tt.specs.Views.View.{trees, group_of}
 use Rattle.mbe_semantics.specs.Readings.Verdict.{IsVerdict, unmatched, one_reading}
 use Rattle.mbe_semantics.specs.Bindings.Account.{run}
 use Rattle.mbe_semantics.specs.Bindings.Environment.{environment_of}
-use Rattle.mbe_semantics.specs.Writing.Substitution.{faults}
+use Rattle.mbe_semantics.specs.Transcription.Substitution.{faults}
 use Rattle.mbe_laws.proofs.Bindings.CommandLemmas.{commands_bind_alike}
 use Rattle.mbe_ops.specs.Views.{template_of}
-use Rattle.mbe_bindings.specs.BindingViews.{bound_by}
+use Rattle.mbe_bindings.specs.BindingViews.{env_of}
 use Rattle.mbe_ops.specs.Errors.ErrorViews.{error_of, errors_of}
-use Rattle.mbe_matcher.specs.Matched.{verdict_seen, Binds}
-use Rattle.mbe_transcriber.specs.Faults.{first_fault}
+use Rattle.mbe_matcher.specs.MatchResults.{verdict_seen, Binds}
+use Rattle.mbe_transcriber.specs.TemplateFaults.{first_fault}
 use Rattle.mbe_parser.specs.RuleViews.{rule_of}
-use Rattle.mbe.specs.Recovering.{IsFaulty}
+use Rattle.mbe.specs.ClosestRule.{IsFaulty}
 use Rattle.mbe.proofs.TriedLemmas.{unfit_of, unfit, faulty, applied}
 use Rattle.mbe.proofs.expander.match_rule.Goals as goal
 
@@ -33,7 +33,7 @@ returns-in-Some g c =
     λ one. true≢false (sym (ap (λ e. is_some (errors_of e)) c.in-Some.is) ∙ m.err.1 one) in
     let reported = rw c.in-Some.is at m.reports in
     let u = unfit_of h site input r v right many _ same _ (search rules) _ _ _ reported
-    (bound_by c.in_ok-bindings.bindings) c.in_ok-bindings.ensures in
+    (env_of c.in_ok-bindings.bindings) c.in_ok-bindings.ensures in
     let both = unfit h site input r v right _ left _ _ many u
     c.nearness_of-nearness.ensures.bound in
     (both.0, both.1, u)
@@ -53,10 +53,10 @@ returns-in-Some-err g c =
     let one : v ≡ one_reading = m.err.0 (ap (λ e. is_some (errors_of e)) c.in_default.is) in
     let binds = subst (λ f. Binds h r.reads f c.match_argument.new.log c.in_ok-matched.matched.bindings) same
     (m.binds one) in
-    let bound : bound_by c.in_ok-bindings.bindings ≡ environment_of binds.0 =
+    let bound : env_of c.in_ok-bindings.bindings ≡ environment_of binds.0 =
     c.in_ok-bindings.ensures binds.2.0 binds.2.1 ∙ ap (λ cs. run cs []) binds.2.2
     ∙ commands_bind_alike h r.reads input.1 binds.0 binds.1.1.0 in
-    let env = bound_by c.in_ok-bindings.bindings in
+    let env = env_of c.in_ok-bindings.bindings in
     let fault : faults env [] r.writes ≡ true = sym c.in_ok-written.ensures.fault ∙ ap is_some c.in-Some-err.is in
     let first : first_fault site env [] r.writes ≡ Some (error_of c.in-Some-err.fault) =
     sym c.in_ok-written.ensures.first ∙ ap errors_of c.in-Some-err.is in
@@ -68,7 +68,7 @@ returns-in-Some-err g c =
       both.1,
       record {
         error = error_of c.in-Some-err.fault;
-        env = bound_by c.in_ok-bindings.bindings;
+        env = env_of c.in_ok-bindings.bindings;
         reported = refl;
         fails = inr f;
         left = c.in_ok-written.ensures.left;
@@ -88,10 +88,10 @@ returns g c =
     let one : v ≡ one_reading = m.err.0 (ap (λ e. is_some (errors_of e)) c.in_default.is) in
     let binds = subst (λ f. Binds h r.reads f c.match_argument.new.log c.in_ok-matched.matched.bindings) same
     (m.binds one) in
-    let bound : bound_by c.in_ok-bindings.bindings ≡ environment_of binds.0 =
+    let bound : env_of c.in_ok-bindings.bindings ≡ environment_of binds.0 =
     c.in_ok-bindings.ensures binds.2.0 binds.2.1 ∙ ap (λ cs. run cs []) binds.2.2
     ∙ commands_bind_alike h r.reads input.1 binds.0 binds.1.1.0 in
-    let env = bound_by c.in_ok-bindings.bindings in
+    let env = env_of c.in_ok-bindings.bindings in
     let faultless : faults env [] r.writes ≡ false = sym c.in_ok-written.ensures.fault ∙ ap is_some c.in-None.is in
     applied h site input r _ (top_group c.in_ok-written.written.value) binds.0 binds.1
     env bound faultless (c.in_ok-written.ensures.substitution faultless)

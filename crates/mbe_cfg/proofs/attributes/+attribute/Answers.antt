@@ -1,10 +1,11 @@
 use Rattle.std.proofs.Common.{◌≡◌, ◌<◌, None, rules, refl, sym, ap, ◌∙◌, arith}
 use Rattle.std.proofs.lemmas.Result.{err_from_is_err_and}
 use Rattle.mbe_tt.specs.Trees.Tree.{rest_of, front_ident}
-use Rattle.mbe_tt.specs.Views.Shown.{ident_of}
+use Rattle.mbe_tt.specs.Views.LeafViews.{ident_of}
 use Rattle.mbe_tt.specs.Views.View.{trees}
 use Rattle.mbe_cfg.specs.Attributes.{attribute}
-use Rattle.mbe_cfg.proofs.AttributeLemmas.{attribute_by, attribute_named, attribute_none, metas_end, metas_fail, metas_none, metas_on}
+use Rattle.mbe_cfg.proofs.AttributeLemmas.{attribute_by, attribute_named, attribute_none, metas_end, metas_fail}
+use Rattle.mbe_cfg.proofs.AttributeLemmas.{metas_none, metas_on}
 use Rattle.mbe_cfg.proofs.attributes.+attribute.Goals as goal
 
 pub attribute-returns-then-depth-eq0 : goal.attribute-returns-then-depth-eq0
@@ -20,8 +21,8 @@ attribute-returns-in_default g t c =
     let no_name : None ≡ front_ident f = search rules in
     attribute_by c.args.settings.now c.args.depth c.args.close f None _ left no_name refl
 
-pub attribute-returns-in-Cfg : goal.attribute-returns-in-Cfg
-attribute-returns-in-Cfg g t c =
+pub attribute-returns-in-PlainCfg : goal.attribute-returns-in-PlainCfg
+attribute-returns-in-PlainCfg g t c =
     let some = c.if-depth-eq0.false in
     let after : c.expect_ident.new.self ≡ rest_of (trees c.args.tokens) =
     c.in-Ok.ensures.rest ∙ ap rest_of c.iter-iter.ensures in
@@ -30,6 +31,14 @@ attribute-returns-in-Cfg g t c =
 
 pub attribute-returns-in-CfgAttr : goal.attribute-returns-in-CfgAttr
 attribute-returns-in-CfgAttr g t c =
+    let some = c.if-depth-eq0.false in
+    let after : c.expect_ident.new.self ≡ rest_of (trees c.args.tokens) =
+    c.in-Ok.ensures.rest ∙ ap rest_of c.iter-iter.ensures in
+    attribute_named c.args.settings.now c.args.depth c.args.close _ _ (ident_of c.in-Ok.name.now) _
+    (omega (arith, some)) c.in-Ok.ensures.value c.iter-iter.ensures (search (rules, after))
+
+pub attribute-returns-in-Test : goal.attribute-returns-in-Test
+attribute-returns-in-Test g t c =
     let some = c.if-depth-eq0.false in
     let after : c.expect_ident.new.self ≡ rest_of (trees c.args.tokens) =
     c.in-Ok.ensures.rest ∙ ap rest_of c.iter-iter.ensures in

@@ -1,7 +1,7 @@
 use Rattle.std.proofs.Common.{◌∙◌, arith}
 use Rattle.std.proofs.lemmas.Result.{err_from_is_err_and}
 use Rattle.mbe_tt.specs.Views.View.{trees}
-use Rattle.mbe_cfg.specs.Shown.{group_shown}
+use Rattle.mbe_cfg.specs.CfgViews.{group_shown}
 use Rattle.mbe_cfg.proofs.AttributeLemmas.{attributes_end, attributes_fail, attributes_none, attributes_on}
 use Rattle.mbe_cfg.proofs.attributes.attributes.Goals as goal
 

@@ -1,9 +1,9 @@
 use Rattle.std.proofs.Common.{◌≡◌, ◌-◌, ◌<◌, Some, None, rules, sym, ap, ◌∙◌, arith}
 use Rattle.std.proofs.lemmas.Result.{err_from_is_err_and}
 use Rattle.mbe_tt.specs.Trees.Tree.{rest_of, front_ident}
-use Rattle.mbe_tt.specs.Views.Shown.{ident_of}
+use Rattle.mbe_tt.specs.Views.LeafViews.{ident_of}
 use Rattle.mbe_tt.specs.Views.View.{trees}
-use Rattle.mbe_cfg.specs.Predicates.{named, predicate}
+use Rattle.mbe_cfg.specs.Predicates.{named_predicate, predicate}
 use Rattle.mbe_cfg.proofs.PredicateLemmas.{items_end, items_fail, items_none, items_on, predicate_by, predicate_none}
 use Rattle.mbe_cfg.proofs.predicate.+predicate.Goals as goal
 
@@ -24,7 +24,7 @@ predicate-returns-in-Ok g t c =
     let after : trees c.remaining.result ≡ rest_of f =
     c.remaining.ensures ∙ (c.in-Ok.ensures.rest ∙ ap rest_of c.iter-iter.ensures) in
     predicate_by s n c.args.close f (Some name) _ left word
-    (c.named.ensures ∙ ap (named s (predicate s (n - 1)) c.args.close name) after)
+    (c.named_predicate.ensures ∙ ap (named_predicate s (predicate s (n - 1)) c.args.close name) after)
 
 pub predicate-returns-in-Err : goal.predicate-returns-in-Err
 predicate-returns-in-Err g t c =
@@ -38,27 +38,28 @@ pub items-returns-then-is_empty : goal.items-returns-then-is_empty
 items-returns-then-is_empty g t c =
     let l = c.items in
     let inner = predicate c.args.settings.now c.args.depth c.args.close in
-    items_end inner c.args.every c.args.close l.left l.verdict.holds (trees l.verdict.rest)
+    items_end inner c.args.every c.args.close l.left l.predicate_value.holds (trees l.predicate_value.rest)
     (omega arith) (sym c.if-is_empty.ensures) ∙ l.invariant
 
-pub items-returns-in_err-verdict : goal.items-returns-in_err-verdict
-items-returns-in_err-verdict g t c =
+pub items-returns-in_err-predicate_value : goal.items-returns-in_err-predicate_value
+items-returns-in_err-predicate_value g t c =
     let l = c.items in
     let inner = predicate c.args.settings.now c.args.depth c.args.close in
     let p = err_from_is_err_and c.from_residual.result c.from_residual.ensures.1 in
-    rw (p.1, p.2) (items_fail inner c.args.every c.args.close l.left l.verdict.holds
-    (trees l.verdict.rest) _ (omega arith) (sym c.if-is_empty.ensures) c.in_err-verdict.ensures ∙ l.invariant)
+    rw (p.1, p.2) (items_fail inner c.args.every c.args.close l.left l.predicate_value.holds
+    (trees l.predicate_value.rest) _ (omega arith) (sym c.if-is_empty.ensures) c.in_err-predicate_value.ensures
+    ∙ l.invariant)
 
 pub items-items-preserved : goal.items-items-preserved
 items-items-preserved g t c =
     let l = c.items in
     let inner = predicate c.args.settings.now c.args.depth c.args.close in
-    items_on inner c.args.every c.args.close l.left l.verdict.holds (trees l.verdict.rest)
-    _ _ (omega arith) (sym c.if-is_empty.ensures) c.in_ok-verdict.ensures ∙ l.invariant
+    items_on inner c.args.every c.args.close l.left l.predicate_value.holds (trees l.predicate_value.rest)
+    _ _ (omega arith) (sym c.if-is_empty.ensures) c.in_ok-predicate_value.ensures ∙ l.invariant
 
 pub items-returns : goal.items-returns
 items-returns g t c =
     let l = c.items in
     let inner = predicate c.args.settings.now c.args.depth c.args.close in
-    items_none inner c.args.every c.args.close l.left l.verdict.holds (trees l.verdict.rest)
+    items_none inner c.args.every c.args.close l.left l.predicate_value.holds (trees l.predicate_value.rest)
     (omega arith) ∙ l.invariant

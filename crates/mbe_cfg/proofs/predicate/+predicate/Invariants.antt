@@ -7,11 +7,11 @@ use Rattle.mbe_cfg.proofs.predicate.+predicate.Given as goal
 abbrev pub decreases-predicate : goal.decreases-predicate
 decreases-predicate g l = 5 * l.depth
 
-abbrev pub decreases-named : goal.decreases-named
-decreases-named g l = 5 * l.depth + 4
+abbrev pub decreases-named_predicate : goal.decreases-named_predicate
+decreases-named_predicate g l = 5 * l.depth + 4
 
-abbrev pub decreases-listed : goal.decreases-listed
-decreases-listed g l = 5 * l.depth + 3
+abbrev pub decreases-operator_predicate : goal.decreases-operator_predicate
+decreases-operator_predicate g l = 5 * l.depth + 3
 
 abbrev pub decreases-items : goal.decreases-items
 decreases-items g l = 5 * l.depth + 2
@@ -24,7 +24,8 @@ decreases-item g l = 5 * l.depth + 1
 
 abbrev pub invariant-items-items : goal.invariant-items-items
 invariant-items-items g l =
-    items (predicate l.settings l.depth l.close) l.every l.close l.left l.verdict.holds (trees l.verdict.rest)
+    items (predicate l.settings l.depth l.close) l.every l.close l.left l.predicate_value.holds
+    (trees l.predicate_value.rest)
     ≡ items (predicate l.settings l.depth l.close) l.every l.close (flat_len (trees l.fn.tokens)) l.every
     (trees l.fn.tokens)
 

@@ -37,6 +37,6 @@ returns-then-part-len-clause-ok g c =
     extended_apart lists c.args.part c.index.result.now at c.push.new.self c.push-then-part-len.new.self.items
     c.args.entry c.len.result c.len-then-part-len.result c.len-then-part-len-2.result c.requires c.index.ensures
     c.len.ensures c.if-part-len.true c.index-then-part-len.ensures
-    (forked_by lists c.args.part at c.linked-list.result c.push.new.self c.args.entry c.link_to.result
-    c.link_to.ensures c.linked-list.ensures c.in_ok-push.ensures.ok)
+    (forked_by lists c.args.part at c.from_link-list.result c.push.new.self c.args.entry c.link_to.result
+    c.link_to.ensures c.from_link-list.ensures c.in_ok-push.ensures.ok)
     c.in_ok-push-2.ensures.items (omega (arith, ok, count)) c.len-then-part-len-2.ensures

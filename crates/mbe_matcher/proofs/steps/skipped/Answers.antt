@@ -10,4 +10,5 @@ pub returns : goal.returns
 returns g c =
     skip_some c.args.kind (ops_of c.args.body.now) c.args.log.now c.skip_ops.new.log c.args.before.now c.args.rest
     c.in_ok-inside.inside c.skip_ops.new.handle
-    c.in_default.not-OneOrMore c.in_ok-inside.ensures.dots (rw c.again-handle.ensures at c.in_ok-inside.ensures.names)
+    c.in_default.not-OneOrMore c.in_ok-inside.ensures.state_count
+    (rw c.again-handle.ensures at c.in_ok-inside.ensures.names)

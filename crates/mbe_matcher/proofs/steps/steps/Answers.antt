@@ -2,11 +2,11 @@ use Rattle.std.proofs.Common.{arith}
 use Rattle.mbe_matcher.proofs.StepLemmas.{first_op, no_op}
 use Rattle.mbe_matcher.proofs.steps.steps.Goals as goal
 
-pub end_steps-requires-clause-dot : goal.end_steps-requires-clause-dot
-end_steps-requires-clause-dot g c = no_op c.args.position.dot.now (omega (arith, c.in-empty.len_below))
+pub end_steps-requires-clause-tail : goal.end_steps-requires-clause-tail
+end_steps-requires-clause-tail g c = no_op c.args.thread.tail.now (omega (arith, c.in-empty.len_below))
 
-pub op_steps-requires-clause-dot : goal.op_steps-requires-clause-dot
-op_steps-requires-clause-dot g c = first_op c.args.position.dot.now c.op-item.result c.in-len1-up.len_at_least
+pub op_steps-requires-clause-tail : goal.op_steps-requires-clause-tail
+op_steps-requires-clause-tail g c = first_op c.args.thread.tail.now c.op-item.result c.in-len1-up.len_at_least
     c.op-item.is
 
 pub returns-in-empty : goal.returns-in-empty

@@ -2,10 +2,10 @@ use Rattle.std.proofs.Common.{◌≡◌, sym, ap, arith, refl, Some, rules}
 use Rattle.std.proofs.lemmas.Result.{err_from_is_err_and}
 use Rattle.mbe_tt.specs.Trees.Leaf as leaves
 use Rattle.mbe_tt.specs.Trees.Tree.{none, Leaf_tree, Group_tree, first, flat_len}
-use Rattle.mbe_tt.specs.Views.Shown.{literal_of, ident_of, leaf_of}
+use Rattle.mbe_tt.specs.Views.LeafViews.{literal_of, ident_of, leaf_of}
 use Rattle.mbe_semantics.specs.Syntax.Op.{no_ops}
 use Rattle.mbe_semantics.specs.Syntax.Template.{head, nothing}
-use Rattle.mbe_parser.specs.Reader.{mode_of, ReadsOp}
+use Rattle.mbe_parser.specs.ParserResults.{mode_of, ReadsOp}
 use Rattle.mbe_ops.specs.declared.ops.Op.TheVariants as ops
 use Rattle.mbe_ops.specs.Views.{op_of, template_of}
 use Rattle.mbe_ops.proofs.Fragments.{first_tree}
@@ -14,8 +14,9 @@ use Rattle.mbe_ops.proofs.Fragments.{puncts_longer}
 use Rattle.mbe_parser.proofs.ReaderLemmas as lemmas
 use Rattle.mbe_parser.proofs.parser.+template.Goals as goal
 
-pub template_within-trees-preserved-in_ok-push_ident-in-Leaf-Ident : goal.template_within-trees-preserved-in_ok-push_ident-in-Leaf-Ident
-template_within-trees-preserved-in_ok-push_ident-in-Leaf-Ident g t c =
+pub parse_template_within-trees-preserved-in_ok-push_ident-in-Leaf-Ident :
+    goal.parse_template_within-trees-preserved-in_ok-push_ident-in-Leaf-Ident
+parse_template_within-trees-preserved-in_ok-push_ident-in-Leaf-Ident g t c =
     let l = c.trees in
     let left = c.push_ident.new.src in
     let front : Some (Leaf_tree (leaves.ident (ident_of c.in-Leaf-Ident.ident))) ≡ first l.src = search rules in
@@ -24,15 +25,17 @@ template_within-trees-preserved-in_ok-push_ident-in-Leaf-Ident g t c =
     l.invariant.fault c.in_ok-reserve.ensures.items c.in_ok-push_ident-in-Leaf-Ident.ensures.op at refl in
     record { more = goes.0; fault = goes.1; smaller = omega (arith, ap flat_len at, l.invariant.smaller) }
 
-pub template_within-trees-smaller-in_ok-push_ident-in-Leaf-Ident : goal.template_within-trees-smaller-in_ok-push_ident-in-Leaf-Ident
-template_within-trees-smaller-in_ok-push_ident-in-Leaf-Ident g t c =
+pub parse_template_within-trees-smaller-in_ok-push_ident-in-Leaf-Ident :
+    goal.parse_template_within-trees-smaller-in_ok-push_ident-in-Leaf-Ident
+parse_template_within-trees-smaller-in_ok-push_ident-in-Leaf-Ident g t c =
     let front : Some (Leaf_tree (leaves.ident (ident_of c.in-Leaf-Ident.ident))) ≡ first c.trees.src =
     search rules in
     let at = first_tree c.trees.src c.push_ident.new.src _ front c.push_ident.ensures.rest in
     omega (arith, ap flat_len at)
 
-pub template_within-trees-preserved-in_ok-push_literal-in-Leaf-Literal : goal.template_within-trees-preserved-in_ok-push_literal-in-Leaf-Literal
-template_within-trees-preserved-in_ok-push_literal-in-Leaf-Literal g t c =
+pub parse_template_within-trees-preserved-in_ok-push_literal-in-Leaf-Literal :
+    goal.parse_template_within-trees-preserved-in_ok-push_literal-in-Leaf-Literal
+parse_template_within-trees-preserved-in_ok-push_literal-in-Leaf-Literal g t c =
     let l = c.trees in
     let left = c.push_literal.new.src in
     let front : Some (Leaf_tree (leaves.literal (literal_of c.in-Leaf-Literal.literal))) ≡ first l.src = search rules in
@@ -41,29 +44,32 @@ template_within-trees-preserved-in_ok-push_literal-in-Leaf-Literal g t c =
     l.invariant.fault c.in_ok-reserve.ensures.items c.in_ok-push_literal-in-Leaf-Literal.ensures.op at refl in
     record { more = goes.0; fault = goes.1; smaller = omega (arith, ap flat_len at, l.invariant.smaller) }
 
-pub template_within-trees-smaller-in_ok-push_literal-in-Leaf-Literal : goal.template_within-trees-smaller-in_ok-push_literal-in-Leaf-Literal
-template_within-trees-smaller-in_ok-push_literal-in-Leaf-Literal g t c =
+pub parse_template_within-trees-smaller-in_ok-push_literal-in-Leaf-Literal :
+    goal.parse_template_within-trees-smaller-in_ok-push_literal-in-Leaf-Literal
+parse_template_within-trees-smaller-in_ok-push_literal-in-Leaf-Literal g t c =
     let front : Some (Leaf_tree (leaves.literal (literal_of c.in-Leaf-Literal.literal))) ≡ first c.trees.src =
     search rules in
     let at = first_tree c.trees.src c.push_literal.new.src _ front c.push_literal.ensures.rest in
     omega (arith, ap flat_len at)
 
-pub template_within-returns-clause-ops : goal.template_within-returns-clause-ops
-template_within-returns-clause-ops g t c =
+pub parse_template_within-returns-clause-ops : goal.parse_template_within-returns-clause-ops
+parse_template_within-returns-clause-ops g t c =
     let empty : c.trees.src ≡ none = c.is_empty.ensures.0 (c.trees-test.false) in
     let whole = c.trees.invariant.more no_ops (nothing c.trees.src (ap (head (mode_of c.args.mode)) empty)) in
-    rw (view-template, c.in_ok-fitted.ensures, ← lemmas.with_front-all c.trees.ops.items) whole
+    rw (view-template, c.in_ok-shrink_ops.ensures, ← lemmas.with_front-all c.trees.ops.items) whole
 
-pub template_within-returns-in_err-push_at_punct-in-Leaf-Punct-clause-fault : goal.template_within-returns-in_err-push_at_punct-in-Leaf-Punct-clause-fault
-template_within-returns-in_err-push_at_punct-in-Leaf-Punct-clause-fault g t c =
+pub parse_template_within-returns-in_err-push_at_punct-in-Leaf-Punct-clause-fault :
+    goal.parse_template_within-returns-in_err-push_at_punct-in-Leaf-Punct-clause-fault
+parse_template_within-returns-in_err-push_at_punct-in-Leaf-Punct-clause-fault g t c =
     let e = c.in_err-push_at_punct-in-Leaf-Punct in
     let p = err_from_is_err_and c.from_residual-in_err-push_at_punct-in-Leaf-Punct.result
     c.from_residual-in_err-push_at_punct-in-Leaf-Punct.ensures.1 in
     rw (p.1, p.2) (lemmas.later_fault _ e.field-0.0 (mode_of c.args.mode) c.args.src c.trees.src c.trees.invariant.fault
     e.ensures.fault)
 
-pub template_within-trees-preserved-in_ok-push_at_punct-in-Leaf-Punct : goal.template_within-trees-preserved-in_ok-push_at_punct-in-Leaf-Punct
-template_within-trees-preserved-in_ok-push_at_punct-in-Leaf-Punct g t c =
+pub parse_template_within-trees-preserved-in_ok-push_at_punct-in-Leaf-Punct :
+    goal.parse_template_within-trees-preserved-in_ok-push_at_punct-in-Leaf-Punct
+parse_template_within-trees-preserved-in_ok-push_at_punct-in-Leaf-Punct g t c =
     let l = c.trees in
     let read = c.in_ok-push_at_punct-in-Leaf-Punct.ensures in
     record {
@@ -73,15 +79,16 @@ template_within-trees-preserved-in_ok-push_at_punct-in-Leaf-Punct g t c =
       smaller = omega (arith, read.shorter, l.invariant.smaller);
     }
 
-pub template_within-template_within-requires : goal.template_within-template_within-requires
-template_within-template_within-requires g t c κs within =
+pub parse_template_within-parse_template_within-requires : goal.parse_template_within-parse_template_within-requires
+parse_template_within-parse_template_within-requires g t c κs within =
     let front : Some (Group_tree c.in-Subtree.subtree.now.delimiter c.in-Subtree.inside) ≡ first c.trees.src =
     search rules in
     let longer = ap flat_len (first_tree c.trees.src c.next-group.new.self _ front c.next-group.ensures.rest) in
     (omega (arith, longer, c.trees.invariant.smaller, c.decreases), (within.0, (within.1, c.requires)))
 
-pub template_within-returns-in_err-tokens-in-Subtree-clause-fault : goal.template_within-returns-in_err-tokens-in-Subtree-clause-fault
-template_within-returns-in_err-tokens-in-Subtree-clause-fault g t c =
+pub parse_template_within-returns-in_err-tokens-in-Subtree-clause-fault :
+    goal.parse_template_within-returns-in_err-tokens-in-Subtree-clause-fault
+parse_template_within-returns-in_err-tokens-in-Subtree-clause-fault g t c =
     let e = c.in_err-tokens-in-Subtree in
     let p = err_from_is_err_and c.from_residual-in_err-tokens-in-Subtree.result
     c.from_residual-in_err-tokens-in-Subtree.ensures.1 in
@@ -93,15 +100,15 @@ template_within-returns-in_err-tokens-in-Subtree-clause-fault g t c =
     rw (p.1, p.2) (lemmas.later_fault _ e.field-0.0 (mode_of c.args.mode) c.args.src c.trees.src c.trees.invariant.fault
     here)
 
-pub template_within-trees-smaller : goal.template_within-trees-smaller
-template_within-trees-smaller g t c =
+pub parse_template_within-trees-smaller : goal.parse_template_within-trees-smaller
+parse_template_within-trees-smaller g t c =
     let front : Some (Group_tree c.in-Subtree.subtree.now.delimiter c.in-Subtree.inside) ≡ first c.trees.src =
     search rules in
     let longer = ap flat_len (first_tree c.trees.src c.next-group.new.self _ front c.next-group.ensures.rest) in
     omega (arith, longer)
 
-pub template_within-trees-preserved : goal.template_within-trees-preserved
-template_within-trees-preserved g t c =
+pub parse_template_within-trees-preserved : goal.parse_template_within-trees-preserved
+parse_template_within-trees-preserved g t c =
     let l = c.trees in
     let mode = mode_of c.args.mode in
     let left = c.next-group.new.self in

@@ -1,4 +1,4 @@
-use Rattle.mbe_tt.specs.Views.Shown.{ident_of}
+use Rattle.mbe_tt.specs.Views.LeafViews.{ident_of}
 use Rattle.mbe_parser.proofs.ReaderLemmas.{common, a_word}
 use Rattle.mbe_parser.proofs.parser.eat_specifier.Goals as goal
 

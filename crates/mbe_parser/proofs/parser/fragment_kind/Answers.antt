@@ -9,4 +9,4 @@ pub returns-then-is_pat : goal.returns-then-is_pat
 returns-then-is_pat g c = pat_dated _ _ _ c.pat_kind.result c.as_str-name.ensures (search rules) c.pat_kind.ensures
 
 pub returns : goal.returns
-returns g c = known _ _ _ _ c.as_str-name.ensures (search rules) (search rules) c.named.ensures
+returns g c = known _ _ _ _ c.as_str-name.ensures (search rules) (search rules) c.from_specifier.ensures

@@ -1,4 +1,4 @@
-use Rattle.mbe_parser.specs.Reader.{mode_of}
+use Rattle.mbe_parser.specs.ParserResults.{mode_of}
 use Rattle.mbe_parser.proofs.ReaderLemmas as lemmas
 use Rattle.mbe_parser.proofs.parser.push_leaf_after_dollar.Goals as goal
 

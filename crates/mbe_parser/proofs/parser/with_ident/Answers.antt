@@ -1,9 +1,11 @@
 use Rattle.std.proofs.Common.{◌≡◌, refl, rules, ap, ◌∙◌, length}
 use Rattle.std.specs.Prelude.{[], ◌∷◌}
-use Rattle.mbe_tt.specs.Views.Shown.{ident_of}
+use Rattle.mbe_tt.specs.Views.LeafViews.{ident_of}
 use Rattle.mbe_parser.proofs.SuffixLemmas.{no_lifetime}
 use Rattle.mbe_parser.proofs.parser.with_ident.Goals as goal
-use Rattle.mbe_parser.proofs.parser.with_ident.Goals.{in_default-via-then-as_slice-lt1, in_default-via-in-len1+else-quote-eq39, in_default-via-else-as_slice-lt1+else-this-lt2}
+use Rattle.mbe_parser.proofs.parser.with_ident.Goals.{in_default-via-then-as_slice-lt1}
+use Rattle.mbe_parser.proofs.parser.with_ident.Goals.{in_default-via-in-len1+else-quote-eq39}
+use Rattle.mbe_parser.proofs.parser.with_ident.Goals.{in_default-via-else-as_slice-lt1+else-this-lt2}
 
 pub returns-in_default-clause-fault : goal.returns-in_default-clause-fault
 returns-in_default-clause-fault g c =

@@ -1,6 +1,6 @@
 use Rattle.std.proofs.Common.{refl}
 use Rattle.mbe_ops.specs.Views.{separator_seen}
-use Rattle.mbe_tt.specs.Views.Shown.{literal_of}
+use Rattle.mbe_tt.specs.Views.LeafViews.{literal_of}
 use Rattle.mbe_parser.proofs.SuffixLemmas.{literal_alone}
 use Rattle.mbe_parser.proofs.parser.with_leaf.Goals as goal
 

@@ -2,7 +2,8 @@ use Rattle.std.proofs.Common.{◌≡◌, ◌∙◌, sym, refl, rules}
 use Rattle.mbe_tt.specs.Trees.Tree.{none}
 use Rattle.mbe_ops.specs.Errors.ErrorViews.{fault_of}
 use Rattle.mbe_parser.specs.RuleViews.{rule_of, rules_seen}
-use Rattle.mbe_parser.proofs.RuleReading.{IsSeparated, at_fault, at_end, one_more, last_rule, stray_rule, rules-push, rules-push-more}
+use Rattle.mbe_parser.proofs.RuleReading.{IsSeparated, at_fault, at_end, one_more, last_rule, stray_rule, rules-push}
+use Rattle.mbe_parser.proofs.RuleReading.{rules-push-more}
 use Rattle.mbe_parser.proofs.rules.parse_rules.Goals as goal
 
 pub returns-in-Err : goal.returns-in-Err

@@ -5,7 +5,7 @@ use Rattle.mbe_tt.specs.Trees.Tree.{Forest, Leaf_tree, Group_tree, first, rest_o
 use Rattle.mbe_tt.specs.declared.tt.Delimiter.{Delimiter}
 use Rattle.mbe_tt.proofs.Trees.Firsts.{nothing, whole}
 use Rattle.mbe_tt.proofs.Trees.Walks.{IsWalk}
-use Rattle.mbe_program.specs.Replies.Flat.Writing.{State, a_leaf, opened, closed, written, written_around}
+use Rattle.mbe_program.specs.Replies.Flat.Encoder.{State, a_leaf, opened, closed, written, written_around}
 
 -- the flat tokens of the groups around: their closings, and what follows
 abbrev pub tokens_around : List (Delimiter × Forest) → ℕ

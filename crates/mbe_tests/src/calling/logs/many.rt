@@ -3,7 +3,8 @@ use mbe_log::log::BindingLog;
 use mbe_tt::symbol::Symbol;
 use std::alloc::{AllocError, Global};
 
-/// Whether the last of so many handles has no entry and one round, each of which has bound a name.
+/// Makes `count` handles, each of which binds a name. Returns whether the last has no entry and one
+/// round.
 pub fn is_last_of_many(alloc: Global, count: usize) -> Result<bool, AllocError> {
     let name = Symbol::intern(alloc, "x")?;
     let mut log = BindingLog::new(alloc);

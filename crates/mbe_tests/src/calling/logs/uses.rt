@@ -1,16 +1,18 @@
-// How one uses a log: two positions from one, one of them nested in a third.
+// How a caller uses a log: two threads that part from one, one of them nested in a third.
 ghost use Rattle.std.specs.Prelude.{◌≡◌, IfOk, OnOk};
-ghost use Rattle.mbe_semantics.specs.Bindings.Account.{environment_of_account, no_account, pushed, pushed_nested};
+ghost use Rattle.mbe_semantics.specs.Bindings.Account.{environment_of_account, no_account, pushed};
+ghost use Rattle.mbe_semantics.specs.Bindings.Account.{pushed_nested};
 ghost use Rattle.mbe_semantics.specs.Bindings.Account.{Command as Written};
-ghost use Rattle.mbe_log.specs.Accounts.{Held, HasAccounts};
-ghost use Rattle.mbe_bindings.specs.BindingViews.{bound_by as bound_in};
+ghost use Rattle.mbe_log.specs.Accounts.{HandleAccounts, HasAccounts};
+ghost use Rattle.mbe_bindings.specs.BindingViews.{env_of as bound_in};
 
 use mbe_bindings::bindings::Bindings;
 use mbe_log::log::BindingLog;
 use mbe_tt::symbol::Symbol;
 use std::alloc::{AllocError, Allocator};
 
-/// What the third position binds: neither what the first position binds nor what is pushed later. Other handles' accounts stay.
+/// What the third position binds: neither what the first position binds nor what is pushed later.
+/// Other handles' accounts stay.
 pub fn split<'a, A: Allocator + Copy>(
     log: &mut BindingLog<'a, A>,
     name: &Symbol<A>,
@@ -19,7 +21,7 @@ pub fn split<'a, A: Allocator + Copy>(
     ensures binds { IfOk result (λ b. bound_in b ≡ environment_of_account (pushed_nested no_account
         (pushed (Written.binds_nothing other.now) (pushed (Written.skips name.now) no_account)))) }
     ensures others { OnOk result
-        ((held : Held) → HasAccounts log.old held → HasAccounts log.new held) }
+        ((closure : HandleAccounts) → HasAccounts log.old closure → HasAccounts log.new closure) }
 {
     let mut first = log.alloc()?;
     log.push_empty(&mut first, name)?;

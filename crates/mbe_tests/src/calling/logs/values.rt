@@ -1,19 +1,19 @@
 use mbe_bindings::bindings::{Binding, Bindings};
 use mbe_log::fragment::{Fragment, TokensOrigin};
-use mbe_semantics::kinds::{ExprKind, MetaVarKind};
+use mbe_semantics::fragment_kinds::{ExprKind, MetaVarKind};
 use mbe_tt::span::{DelimSpan, Span};
 use mbe_tt::symbol::Symbol;
 use mbe_tt::tt::{TokenTreesView, TopSubtree};
 use std::alloc::{AllocError, Global};
 
-// Names in the order of their binding, each with the kind of expression that is missing, or a list.
+// Names in the order of their binding, each with a list, or the kind of expression that is missing.
 type Bound = &'static [(&'static str, Option<ExprKind>)];
 
 const ONE: Bound = &[("x", None), ("y", Some(ExprKind::Expr))];
 
 const OTHER_WAY: Bound = &[("y", Some(ExprKind::Expr)), ("x", None)];
 
-// What is bound later replaces.
+// A later binding replaces an earlier one.
 const OTHER_KIND: Bound = &[
     ("y", Some(ExprKind::Expr)),
     ("x", None),
@@ -53,7 +53,7 @@ fn is_printed(alloc: Global, one: &Bindings<'_>) -> Result<bool, AllocError> {
     Ok(format!(in alloc; "{one:?}")?.as_str() == PRINTED)
 }
 
-/// Whether bindings are equal in any order, and print their names in that of their binding.
+/// Whether bindings are equal in any order, and print their names in the order of their binding.
 pub fn are_bindings(alloc: Global) -> Result<bool, AllocError> {
     let one = bindings(alloc, ONE)?;
     let are_compared = is_equal(alloc, &one, OTHER_WAY)? && !is_equal(alloc, &one, OTHER_KIND)?;
@@ -70,7 +70,7 @@ fn is_one(one: &Fragment<'_>, other: &Fragment<'_>) -> Result<bool, AllocError> 
     Ok(copy == *one && copy != *other)
 }
 
-/// Whether fragments are equal where trees and writing are.
+/// Whether fragments are equal if their trees and the way they are written are.
 pub fn are_fragments(alloc: Global) -> Result<bool, AllocError> {
     let tree = TopSubtree::empty(alloc, DelimSpan::from_single(Span::default()))?;
     let (raw, found) = (TokensOrigin::Raw, TokensOrigin::Ast);

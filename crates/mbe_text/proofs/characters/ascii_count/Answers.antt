@@ -6,29 +6,29 @@ pub bytes-preserved : goal.bytes-preserved
 bytes-preserved c =
     let same = c.as_bytes-byte-items.ensures.value in
     let at = c.bytes.invariant.at in
-    let more = counts_more c.args.class c.args.text.now c.bytes.count _ c.is_ascii_of.result c.utf8.text
+    let more = counts_more c.args.class c.args.text.now c.bytes.count _ c.is_ascii_in.result c.utf8.text
     (omega (arith, at, ap (λ (l : List ℕ). length l) same))
     (ap (λ (l : List ℕ). get_or l c.bytes.byte-index 0) same ∙ ap (λ (n : ℕ). get_or c.args.text.now n 0) (sym at))
-    c.is_ascii_of.ensures c.if-not-is_ascii_of.false c.bytes.invariant.exact in
+    c.is_ascii_in.ensures c.if-not-is_ascii_in.false c.bytes.invariant.exact in
     record {
       at = omega (arith, at);
       utf8 = more.0;
       exact = more.1;
     }
 
-pub returns-then-not-is_ascii_of-clause-within : goal.returns-then-not-is_ascii_of-clause-within
-returns-then-not-is_ascii_of-clause-within c =
+pub returns-then-not-is_ascii_in-clause-within : goal.returns-then-not-is_ascii_in-clause-within
+returns-then-not-is_ascii_in-clause-within c =
     let same = c.as_bytes-byte-items.ensures.value in
     let at = c.bytes.invariant.at in omega (arith, at, ap (λ (l : List ℕ). length l) same)
 
-pub returns-then-not-is_ascii_of-clause-stops : goal.returns-then-not-is_ascii_of-clause-stops
-returns-then-not-is_ascii_of-clause-stops c = λ small.
+pub returns-then-not-is_ascii_in-clause-stops : goal.returns-then-not-is_ascii_in-clause-stops
+returns-then-not-is_ascii_in-clause-stops c = λ small.
     let same = c.as_bytes-byte-items.ensures.value in
     let at = c.bytes.invariant.at in
-    stops_there c.args.class c.args.text.now c.bytes.count _ c.is_ascii_of.result c.utf8.text
+    stops_there c.args.class c.args.text.now c.bytes.count _ c.is_ascii_in.result c.utf8.text
     (omega (arith, at, ap (λ (l : List ℕ). length l) same))
     (ap (λ (l : List ℕ). get_or l c.bytes.byte-index 0) same ∙ ap (λ (n : ℕ). get_or c.args.text.now n 0) (sym at))
-    c.is_ascii_of.ensures c.if-not-is_ascii_of.true small
+    c.is_ascii_in.ensures c.if-not-is_ascii_in.true small
 
 pub returns-clause-within : goal.returns-clause-within
 returns-clause-within c =

@@ -1,8 +1,8 @@
 use Rattle.std.proofs.Common.{◌≡◌, chars, length, false}
 use denote.Text.{Utf8}
 use denote.Shadow.{shadow}
-use Rattle.mbe_text.specs.Extents as extents
-use Rattle.mbe_text.specs.Ends.{IsEnd}
+use Rattle.mbe_text.specs.QuoteEnds as extents
+use Rattle.mbe_text.specs.Rests.{IsEnd}
 use Rattle.mbe_text.proofs.escapes.string_end.Given as goal
 
 abbrev pub invariant-chars : goal.invariant-chars

@@ -1,7 +1,7 @@
 use Rattle.std.proofs.Common.{sym, ap, ◌∙◌}
 use Rattle.mbe_tt.specs.Trees.Leaf.{Leaf}
 use Rattle.mbe_tt.specs.Trees.Tree.{Forest, none, leaf}
-use Rattle.mbe_tt.specs.Views.Shown.{leaf_of}
+use Rattle.mbe_tt.specs.Views.LeafViews.{leaf_of}
 use Rattle.mbe_tt.specs.declared.tt.Spacing.TheVariants.{Joint}
 use Rattle.mbe_text.specs.Characters.{number_sign}
 use Rattle.mbe_text.specs.Tokens.{punct_leaf, doc_marks}

@@ -1,8 +1,8 @@
 use Rattle.std.proofs.Common.{◌-◌, ◌+◌, codes}
 use Rattle.std.proofs.lemmas.Result.{err_from_is_err_and}
-use Rattle.mbe_text.specs.Printing.{indentation}
+use Rattle.mbe_text.specs.TreeDump.{indentation}
 use Rattle.mbe_text.proofs.Lines.{indentation-next}
-use Rattle.mbe_text.proofs.Taken.{holds_failed, grows_off, grows_on}
+use Rattle.mbe_text.proofs.WriterLemmas.{holds_failed, grows_off, grows_on}
 use Rattle.mbe_text.proofs.output.indent.Goals as goal
 
 pub returns-in_err-push : goal.returns-in_err-push

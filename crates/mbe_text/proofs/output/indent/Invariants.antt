@@ -1,6 +1,6 @@
 use Rattle.std.proofs.Common.{◌-◌, ◌++◌}
-use Rattle.mbe_text.specs.Printing.{indentation}
-use Rattle.mbe_text.proofs.Taken.{Grows}
+use Rattle.mbe_text.specs.TreeDump.{indentation}
+use Rattle.mbe_text.proofs.WriterLemmas.{Grows}
 use Rattle.mbe_text.proofs.output.indent.Given as goal
 
 abbrev pub invariant-groups : goal.invariant-groups

@@ -1,7 +1,7 @@
 use Rattle.std.proofs.Common.{List, ℕ, ◌++◌, ap, sym, subst}
 use Rattle.std.specs.Io.KnownBytes.{Appends}
 use Rattle.std.proofs.lemmas.Result.{err_from_is_err_and}
-use Rattle.mbe_text.proofs.Taken.{writes_failed, fails_more, writes_then}
+use Rattle.mbe_text.proofs.WriterLemmas.{writes_failed, fails_more, writes_then}
 use Rattle.mbe_text.proofs.output.overflow.Goals as goal
 
 pub returns-in_err-write_whole-clause-written : goal.returns-in_err-write_whole-clause-written

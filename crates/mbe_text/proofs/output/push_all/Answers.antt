@@ -1,7 +1,7 @@
 use Rattle.std.proofs.Common.{◌≡◌, List, ℕ, ◌++◌, ◌+◌, ◌<◌, length, drop, get_or, ap, add-one, drop-cons, Bor}
 use Rattle.std.proofs.lemmas.Result.{err_from_is_err_and}
 use Rattle.std.specs.Prelude.{flat_map}
-use Rattle.mbe_text.proofs.Taken.{holds_failed, grows_off, grows_on}
+use Rattle.mbe_text.proofs.WriterLemmas.{holds_failed, grows_off, grows_on}
 use Rattle.mbe_text.proofs.output.push_all.Goals as goal
 
 -- the bytes of texts

@@ -1,6 +1,6 @@
 use Rattle.std.proofs.Common.{◌++◌, drop}
 use Rattle.std.specs.Prelude.{flat_map}
-use Rattle.mbe_text.proofs.Taken.{Grows}
+use Rattle.mbe_text.proofs.WriterLemmas.{Grows}
 use Rattle.mbe_text.proofs.output.push_all.Given as goal
 
 abbrev pub invariant-texts : goal.invariant-texts

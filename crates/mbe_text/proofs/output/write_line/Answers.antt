@@ -1,9 +1,9 @@
 use Rattle.std.proofs.Common.{[], ◌++◌, codes, refl, sym, append-nil, subst}
 use Rattle.std.proofs.lemmas.Result.{err_from_is_err_and}
 use Rattle.std.specs.Prelude.{flat_map}
-use Rattle.mbe_text.specs.Printing.{indentation, line}
-use Rattle.mbe_text.specs.Writing.{Writes}
-use Rattle.mbe_text.proofs.Taken.{writes_failed, grows_empty, grows_off, grows_on, grows_last, grows_written}
+use Rattle.mbe_text.specs.TreeDump.{indentation, line}
+use Rattle.mbe_text.specs.WriterBytes.{Writes}
+use Rattle.mbe_text.proofs.WriterLemmas.{writes_failed, grows_empty, grows_off, grows_on, grows_last, grows_written}
 use Rattle.mbe_text.proofs.output.write_line.Goals as goal
 
 pub returns-in_err-indent : goal.returns-in_err-indent

@@ -1,4 +1,4 @@
-use Rattle.mbe_text.proofs.Taken.{takes_on, takes_kept}
+use Rattle.mbe_text.proofs.WriterLemmas.{takes_on, takes_kept}
 use Rattle.mbe_text.proofs.output.write_whole.Goals as goal
 use Rattle.mbe_text.proofs.output.write_whole.Goals.{in-Ok, in-Err+else-ne}
 

@@ -1,16 +1,18 @@
-use Rattle.std.proofs.Common.{◌≡◌, ◌<◌, ◌+◌, ◌-◌, ◌∷◌, vec_len, length-append, ◌++◌, [], ◌∙◌, ap, sym, drop, length, refl, rules, arith}
+use Rattle.std.proofs.Common.{◌≡◌, ◌<◌, ◌+◌, ◌-◌, ◌∷◌, vec_len, length-append, ◌++◌, [], ◌∙◌, ap, sym, drop, length}
+use Rattle.std.proofs.Common.{refl, rules, arith}
 use Rattle.std.specs.Prelude.{is_some, option_map}
-use Rattle.mbe_tt.specs.Views.Shown.{literal_of, ident_of}
-use Rattle.mbe_semantics.specs.Writing.Rounds.{level, kept}
-use Rattle.mbe_semantics.specs.Writing.Substitution.{extent_faults}
+use Rattle.mbe_tt.specs.Views.LeafViews.{literal_of, ident_of}
+use Rattle.mbe_semantics.specs.Transcription.Rounds.{level, kept}
+use Rattle.mbe_semantics.specs.Transcription.Substitution.{extent_faults}
 use Rattle.mbe_ops.specs.Views.{op_of, ops_of, separator_seen}
-use Rattle.mbe_bindings.specs.BindingViews.{bound_by}
+use Rattle.mbe_bindings.specs.BindingViews.{env_of}
 use Rattle.mbe_ops.proofs.EqualityLemmas.{op_weight, ops_weight, op_no_heavier}
-use Rattle.mbe_ops.proofs.OpViews.{view-repeat, view-var, view-subtree, view-literal, view-punct, view-ident, view-expression}
+use Rattle.mbe_ops.proofs.OpViews.{view-repeat, view-var, view-subtree, view-literal, view-punct, view-ident}
+use Rattle.mbe_ops.proofs.OpViews.{view-expression}
 use Rattle.mbe_variables.proofs.FollowLemmas.{ops_split, ops_over}
 use Rattle.mbe_variables.proofs.FollowLemmas.{seen_copied}
 use Rattle.mbe_variables.specs.FaultViews.{error_of_fault}
-use Rattle.mbe_variables.specs.Lost.{extent_fault}
+use Rattle.mbe_variables.specs.LookupErrors.{extent_fault}
 use Rattle.mbe_transcriber.proofs.FaultLemmas as firsts
 use Rattle.mbe_transcriber.proofs.LeftLemmas as lefts
 use Rattle.mbe_transcriber.proofs.WroteLemmas as lemmas
@@ -96,7 +98,7 @@ expand_ops-loop-op-preserved g t c = record {
       (ops_split c.args.ops.now c.loop-op.op-index c.op-item.result c.loop-op-test.true c.op-item.is)
       (ap is_some c.or-first.ensures ∙ or_either c.loop-op.first c.in_ok-fault.fault) c.loop-op.invariant.wrote
       c.in_ok-fault.ensures.wrote;
-  first = firsts.ops_step error_of_fault c.args.ctx.now.call_site (bound_by c.args.ctx.now.bindings.now) c.args.path.now
+  first = firsts.ops_step error_of_fault c.args.ctx.now.call_site (env_of c.args.ctx.now.bindings.now) c.args.path.now
       (ops_of c.args.ops.now)
       (ops_of (drop c.loop-op.op-index c.args.ops.now)) (ops_of (drop (c.loop-op.op-index + 1) c.args.ops.now))
       (op_of c.op-item.result)
@@ -131,11 +133,11 @@ expand_repeat-loop-index-init g t c = record {
 
 pub expand_repeat-expand_ops-requires : goal.expand_repeat-expand_ops-requires
 expand_repeat-expand_ops-requires g t c κs within =
-    let some : 0 < length c.write_between.new.builder =
+    let some : 0 < length c.write_separator_if.new.builder =
     omega (
       arith,
       c.requires.some_group,
-      c.in_ok-write_between.ensures.open_groups,
+      c.in_ok-write_separator_if.ensures.open_groups,
       c.loop-index.invariant.rounded.groups,
     ) in
     (omega (arith, c.decreases), (within.0, (within.1.0, (within.1.1, (c.requires.marks, some)))))
@@ -164,12 +166,12 @@ expand_repeat-loop-index-preserved g t c =
       rounded = lemmas.rounded_step _ _ _ _ _ seps (ops_of c.args.body.now) c.in-Ok.rounds c.loop-index.index
           (is_some c.loop-index.first) c.loop-index.separated
           (is_some c.in_ok-fault.fault) (is_some c.or-first.result) c.is_none-separated.result c.args.builder.now
-          c.loop-index.builder c.write_between.new.builder c.expand_ops.new.builder
+          c.loop-index.builder c.write_separator_if.new.builder c.expand_ops.new.builder
           c.deref.result.now (ops_of c.args.body.now) inner refl
           (ap is_some c.or-first.ensures ∙ or_either c.loop-index.first c.in_ok-fault.fault)
           (swapped (is_some c.in_ok-fault.fault) c.is_none-separated.result c.is_none-separated.ensures)
-          c.loop-index.invariant.rounded c.in_ok-write_between.ensures.parted c.in_ok-fault.ensures.wrote;
-      first = firsts.rounds_step error_of_fault c.args.ctx.now.call_site (bound_by c.args.ctx.now.bindings.now)
+          c.loop-index.invariant.rounded c.in_ok-write_separator_if.ensures.parted c.in_ok-fault.ensures.wrote;
+      first = firsts.rounds_step error_of_fault c.args.ctx.now.call_site (env_of c.args.ctx.now.bindings.now)
           c.args.path.now (ops_of c.args.body.now)
           c.in-Ok.rounds c.loop-index.index c.loop-index.first c.in_ok-fault.fault c.or-first.result c.deref.result.now
           inner c.or-first.ensures
@@ -177,11 +179,11 @@ expand_repeat-loop-index-preserved g t c =
       left = lefts.begun_more _ _ _ _ _ seps (ops_of c.args.body.now) c.in-Ok.rounds c.loop-index.index
           c.loop-index.separated
           (is_some c.in_ok-fault.fault) c.is_none-separated.result c.args.builder.now c.loop-index.builder
-          c.write_between.new.builder
+          c.write_separator_if.new.builder
           c.expand_ops.new.builder c.deref.result.now inner c.in_ok-fault.ensures.wrote.reported
           (swapped (is_some c.in_ok-fault.fault) c.is_none-separated.result c.is_none-separated.ensures)
           c.loop-index.invariant.left
-          c.in_ok-write_between.ensures.parted c.in_ok-fault.ensures.left;
+          c.in_ok-write_separator_if.ensures.parted c.in_ok-fault.ensures.left;
     }
 
 pub expand_repeat-returns-clause-wrote : goal.expand_repeat-returns-clause-wrote
@@ -205,7 +207,7 @@ pub expand_repeat-returns-clause-first : goal.expand_repeat-returns-clause-first
 expand_repeat-returns-clause-first g t c =
     let seps = option_map (λ s. separator_seen s.now) c.args.separator in
     let all : c.loop-index.index ≡ c.in-Ok.rounds = omega arith in
-    firsts.rounds_end error_of_fault c.args.ctx.now.call_site (bound_by c.args.ctx.now.bindings.now) c.args.path.now
+    firsts.rounds_end error_of_fault c.args.ctx.now.call_site (env_of c.args.ctx.now.bindings.now) c.args.path.now
     (ops_of c.args.body.now) seps
     c.args.kind c.in-Ok.rounds c.loop-index.first
     (ap (kept c.args.kind) (sym c.rounds_of.ensures) ∙ c.in-Ok.ensures.kept.0)
@@ -268,7 +270,7 @@ expand_op-returns-in-Repeat-clause-left g t c =
 
 pub expand_ops-returns-clause-first : goal.expand_ops-returns-clause-first
 expand_ops-returns-clause-first g t c =
-    firsts.ops_end error_of_fault c.args.ctx.now.call_site (bound_by c.args.ctx.now.bindings.now) c.args.path.now
+    firsts.ops_end error_of_fault c.args.ctx.now.call_site (env_of c.args.ctx.now.bindings.now) c.args.path.now
     (ops_of c.args.ops.now) _ c.loop-op.first (ops_over c.args.ops.now c.loop-op.op-index c.loop-op-test.false)
     c.loop-op.invariant.first
 

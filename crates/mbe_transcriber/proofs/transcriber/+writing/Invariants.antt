@@ -2,11 +2,11 @@ use Rattle.std.proofs.Common.{◌≡◌, ◌+◌, ◌*◌, drop}
 use Rattle.std.specs.Prelude.{is_some, option_map}
 use Rattle.mbe_ops.specs.Views.{op_of, ops_of, separator_seen}
 use Rattle.mbe_ops.proofs.EqualityLemmas.{op_weight, ops_weight}
-use Rattle.mbe_bindings.specs.BindingViews.{bound_by}
+use Rattle.mbe_bindings.specs.BindingViews.{env_of}
 use Rattle.std.specs.Option.{option_or}
-use Rattle.mbe_semantics.specs.Writing.Rounds.{level}
+use Rattle.mbe_semantics.specs.Transcription.Rounds.{level}
 use Rattle.mbe_variables.specs.FaultViews.{error_of_fault}
-use Rattle.mbe_transcriber.specs.Faults.{first_below, first_fault}
+use Rattle.mbe_transcriber.specs.TemplateFaults.{first_below, first_fault}
 use Rattle.mbe_transcriber.proofs.LeftLemmas.{GoesOn, Begun}
 use Rattle.mbe_transcriber.proofs.WroteLemmas.{Sofar, Rounded}
 use Rattle.mbe_transcriber.proofs.transcriber.+writing.Given as goal
@@ -14,13 +14,13 @@ use Rattle.mbe_transcriber.proofs.transcriber.+writing.Given as goal
 abbrev pub invariant-expand_ops-loop-op : goal.invariant-expand_ops-loop-op
 invariant-expand_ops-loop-op g l = record {
   wrote : Sofar (g.G.FragmentGrammar.grammar l.ctx.grammar.now) (λ s t. g.M.Fn.post l.ctx.marker (s, tt) t)
-      l.ctx.call_site (bound_by l.ctx.bindings.now) l.path
+      l.ctx.call_site (env_of l.ctx.bindings.now) l.path
       (is_some l.first) (ops_of l.ops) (ops_of (drop l.op-index l.ops)) l.initial.builder l.builder;
-  first : first_fault l.ctx.call_site (bound_by l.ctx.bindings.now) l.path (ops_of l.ops)
+  first : first_fault l.ctx.call_site (env_of l.ctx.bindings.now) l.path (ops_of l.ops)
       ≡ option_or (option_map error_of_fault l.first)
-      (first_fault l.ctx.call_site (bound_by l.ctx.bindings.now) l.path (ops_of (drop l.op-index l.ops)));
+      (first_fault l.ctx.call_site (env_of l.ctx.bindings.now) l.path (ops_of (drop l.op-index l.ops)));
   left : GoesOn (g.G.FragmentGrammar.grammar l.ctx.grammar.now) (λ s t. g.M.Fn.post l.ctx.marker (s, tt) t)
-      l.ctx.call_site (bound_by l.ctx.bindings.now) l.path
+      l.ctx.call_site (env_of l.ctx.bindings.now) l.path
       (ops_of l.ops) (ops_of (drop l.op-index l.ops)) l.initial.builder l.builder;
 }
 
@@ -28,14 +28,14 @@ abbrev pub invariant-expand_repeat-loop-index : goal.invariant-expand_repeat-loo
 invariant-expand_repeat-loop-index g l = record {
   path : l.inside.items ≡ l.path;
   rounded : Rounded (g.G.FragmentGrammar.grammar l.ctx.grammar.now) (λ s t. g.M.Fn.post l.ctx.marker (s, tt) t)
-      l.ctx.call_site (bound_by l.ctx.bindings.now) l.path
+      l.ctx.call_site (env_of l.ctx.bindings.now) l.path
       (option_map (λ s. separator_seen s.now) l.separator) (ops_of l.body) l.rounds l.index (is_some l.first)
       l.separated l.initial.builder l.builder;
   first : option_map error_of_fault l.first
-      ≡ first_below (λ i. first_fault l.ctx.call_site (bound_by l.ctx.bindings.now) (level i l.rounds l.path)
+      ≡ first_below (λ i. first_fault l.ctx.call_site (env_of l.ctx.bindings.now) (level i l.rounds l.path)
       (ops_of l.body)) l.index;
   left : Begun (g.G.FragmentGrammar.grammar l.ctx.grammar.now) (λ s t. g.M.Fn.post l.ctx.marker (s, tt) t)
-      l.ctx.call_site (bound_by l.ctx.bindings.now) l.path
+      l.ctx.call_site (env_of l.ctx.bindings.now) l.path
       (option_map (λ s. separator_seen s.now) l.separator) (ops_of l.body) l.rounds l.index l.separated
       l.initial.builder l.builder;
 }

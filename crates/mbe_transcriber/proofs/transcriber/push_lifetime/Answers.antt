@@ -1,6 +1,6 @@
 use Rattle.std.proofs.Common.{◌≡◌, ap, refl, rules}
 use Rattle.mbe_tt.specs.Trees.Leaf.{punct, ident}
-use Rattle.mbe_tt.specs.Views.Shown.{ident_of}
+use Rattle.mbe_tt.specs.Views.LeafViews.{ident_of}
 use Rattle.mbe_variables.proofs.PutLemmas.{two_leaves}
 use Rattle.mbe_transcriber.proofs.transcriber.push_lifetime.Goals as goal
 

@@ -1,6 +1,6 @@
 use Rattle.std.proofs.Common.{◌≡◌, drop}
-use Rattle.mbe_tt.specs.Buffers.Building.{put}
-use Rattle.mbe_semantics.specs.Writing.Substitution.{punct_trees}
+use Rattle.mbe_tt.specs.Buffers.GroupStack.{put}
+use Rattle.mbe_semantics.specs.Transcription.Substitution.{punct_trees}
 use Rattle.mbe_transcriber.proofs.transcriber.push_puncts.Given as goal
 
 abbrev pub invariant-loop-punct : goal.invariant-loop-punct

@@ -1,5 +1,5 @@
 use Rattle.std.proofs.Common.{◌≡◌, ap, rules}
-use Rattle.mbe_tt.specs.Views.Shown.{ident_of}
+use Rattle.mbe_tt.specs.Views.LeafViews.{ident_of}
 use Rattle.mbe_variables.proofs.FragmentLemmas.{if_ok}
 use Rattle.mbe_transcriber.proofs.WroteLemmas.{ident_written}
 use Rattle.mbe_transcriber.proofs.transcriber.write_ident.Goals as goal

@@ -1,5 +1,5 @@
 use Rattle.std.proofs.Common.{◌≡◌, ap, rules}
-use Rattle.mbe_tt.specs.Views.Shown.{literal_of}
+use Rattle.mbe_tt.specs.Views.LeafViews.{literal_of}
 use Rattle.mbe_variables.proofs.FragmentLemmas.{if_ok}
 use Rattle.mbe_transcriber.proofs.WroteLemmas.{literal_written}
 use Rattle.mbe_transcriber.proofs.transcriber.write_literal.Goals as goal

@@ -1,7 +1,7 @@
 use Rattle.std.proofs.Common.{◌∙◌, ap, sym}
 use Rattle.std.specs.Prelude.{option_map}
-use Rattle.mbe_tt.specs.Buffers.Building.{put}
-use Rattle.mbe_semantics.specs.Writing.Substitution.{separator_trees}
+use Rattle.mbe_tt.specs.Buffers.GroupStack.{put}
+use Rattle.mbe_semantics.specs.Transcription.Substitution.{separator_trees}
 use Rattle.mbe_ops.specs.Views.{separator_seen}
 use Rattle.mbe_variables.proofs.PutLemmas.{put-none}
 use Rattle.mbe_transcriber.proofs.transcriber.write_separator.Goals as goal

@@ -1,5 +1,5 @@
 use Rattle.std.proofs.Common.{◌∙◌, ap, sym}
-use Rattle.mbe_tt.specs.Views.Shown.{entry_of}
+use Rattle.mbe_tt.specs.Views.LeafViews.{entry_of}
 use Rattle.mbe_tt.proofs.Buffers.Seen.{opens_here, opens_with, opens_not}
 use Rattle.mbe_tt.proofs.builder.opening_at.Goals as goal
 

@@ -1,11 +1,11 @@
 use Rattle.std.proofs.Common.{◌≡◌, ◌∙◌, ◌∷◌, ap, length, arith, sym, length-append, Some}
 use Rattle.mbe_tt.specs.Trees.Tree.{Forest, Group_tree}
-use Rattle.mbe_tt.specs.Views.Entries.{spell}
-use Rattle.mbe_tt.specs.Views.Entry.{Leaf, Open}
-use Rattle.mbe_tt.specs.Views.Shown.{entries_of, entry_of, leaf_of}
+use Rattle.mbe_tt.specs.Views.BufferEntries.{spell}
+use Rattle.mbe_tt.specs.Views.BufferEntry.{Leaf, Open}
+use Rattle.mbe_tt.specs.Views.LeafViews.{entries_of, entry_of, leaf_of}
 use Rattle.mbe_tt.proofs.Buffers.Seen.{length-shown, shown_take}
 use Rattle.mbe_tt.proofs.Buffers.Spelled.{spelled, read_back, take_front}
-use Rattle.mbe_tt.proofs.Places.Placed.{first_group, leaf_tree}
+use Rattle.mbe_tt.proofs.Offsets.CursorLemmas.{first_group, leaf_tree}
 use Rattle.mbe_tt.proofs.cursor.first_tree.Goals as goal
 
 pub split_at-requires : goal.split_at-requires

@@ -1,4 +1,4 @@
-use Rattle.mbe_tt.proofs.Places.PlaceLemmas.{rest_after_trees}
+use Rattle.mbe_tt.proofs.Offsets.OffsetLemmas.{rest_after_trees}
 use Rattle.mbe_tt.proofs.laws.rest_after_trees.Goals as goal
 
 pub returns : goal.returns

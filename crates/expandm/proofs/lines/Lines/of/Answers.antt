@@ -1,12 +1,12 @@
 use Rattle.std.proofs.Common.{rules, refl, subst, sym}
-use Rattle.expandm.specs.Returns.{Rises}
+use Rattle.expandm.specs.LineEndings.{IsAscending}
 use Rattle.expandm.proofs.ReturnLemmas.{returns_rise, taken_out}
 use Rattle.expandm.proofs.lines.Lines.of.Goals as goal
 
 pub invariant_of-result : goal.invariant_of-result
 invariant_of-result g c = record {
   table = search rules;
-  rising = subst Rises (sym c.in_ok-returns.ensures) (returns_rise 0 c.args.text.now);
+  ascending = subst IsAscending (sym c.in_ok-returns.ensures) (returns_rise 0 c.args.text.now);
 }
 
 pub returns-clause-text : goal.returns-clause-text

@@ -1,7 +1,7 @@
 use Rattle.std.proofs.Common.{rules, ap, subst, sym, ◌∙◌, ◌+◌, ◌-◌, ◌^◌, min, count_by, nat_lt}
 use Rattle.std.proofs.Math.Dec.{ltb}
 use Rattle.std.proofs.lemmas.List.Sorted.{IsPartitionPoint-from_clause}
-use Rattle.expandm.specs.Returns.{Rises}
+use Rattle.expandm.specs.LineEndings.{IsAscending}
 use Rattle.expandm.proofs.PlaceLemmas.{point_before}
 use Rattle.expandm.proofs.ReturnLemmas.{counted, parted}
 use Rattle.expandm.proofs.lines.Lines.place.Goals as goal
@@ -9,10 +9,10 @@ use Rattle.expandm.proofs.lines.Lines.place.Goals as goal
 pub returns : goal.returns
 returns g c =
     let same = c.as_slice.ensures.value in
-    let rising = parted c.as_slice.result.now c.args.at (subst Rises (sym same) c.args.self.now.rising) in
+    let ascending = parted c.as_slice.result.now c.args.at (subst IsAscending (sym same) c.args.self.now.ascending) in
     let before = point_before c.as_slice.result.now c.args.at c.partition_point-before.result
     c.partition_point-before.ensures.bound
-    (IsPartitionPoint-from_clause (λ y. ltb y c.args.at) _ _ c.partition_point-before.ensures.partitioned rising
+    (IsPartitionPoint-from_clause (λ y. ltb y c.args.at) _ _ c.partition_point-before.ensures.partitioned ascending
     (λ a r q k. search rules)) in
     c.saturating_add.ensures
     ∙ ap (λ n. min (c.args.at + n) (2 ^ 64 - 1)) (counted _ _ _ before ∙ ap (count_by (λ f. nat_lt f c.args.at)) same)

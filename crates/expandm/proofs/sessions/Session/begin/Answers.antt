@@ -1,19 +1,20 @@
-use Rattle.std.proofs.Common.{◌≡◌, ◌∙◌, [], ap, sym, arith, length, map}
+use Rattle.std.proofs.Common.{◌≡◌, ◌∙◌, [], ap, sym, subst, arith, length, map}
 use Rattle.std.proofs.lemmas.Simd.{map-map}
 use Rattle.mbe_grammar.specs.Tables.Lawful.{grammar_of}
-use Rattle.mbe_expanding.specs.Shown.{setting_of, state_of}
-use Rattle.expandm.specs.ShownFiles.{source_of}
-use Rattle.expandm.specs.ShownOptions.{conditions_of, names_of}
+use Rattle.mbe_session.specs.SessionViews.{setting_of, state_of}
+use Rattle.expandm.specs.Conditions.{IsUnder}
+use Rattle.expandm.specs.FileViews.{source_of}
+use Rattle.expandm.specs.OptionViews.{conditions_of, names_of}
 use Rattle.expandm.specs.Sources.{source_text}
 use Rattle.expandm.proofs.SessionLemmas.{crates_are, others_are, read_as_asked}
 use Rattle.expandm.proofs.sessions.Session.begin.Goals as goal
 
-pub know_others-requires : goal.know_others-requires
-know_others-requires c =
+pub load_externs-requires : goal.load_externs-requires
+load_externs-requires c =
     let options = c.args.options.now in
     omega (
       arith,
-      c.len-given.ensures,
+      c.len-root_count.ensures,
       options.names.ok.0,
       options.externs.ok.0,
       ap length c.as_slice-externs.ensures.value,
@@ -23,38 +24,43 @@ pub returns : goal.returns
 returns c =
     let files = c.in_ok-files.files.items in
     let at_start = c.new-expander.ensures.setting in
-    let before = c.in_ok-know_others.ensures.setting ∙ at_start in
+    let before = c.in_ok-load_externs.ensures.setting ∙ at_start in
     let setting = c.in_ok-define_crates.ensures.setting ∙ before in
     let options = c.args.options.now in
-    let n : c.len-given.result ≡ length options.names.items =
-    omega (arith, c.len-given.ensures, options.names.ok.0) in
+    let n : c.len-root_count.result ≡ length options.names.items =
+    omega (arith, c.len-root_count.ensures, options.names.ok.0) in
     record {
       texts_are = map-map source_text source_of files ∙ c.in_ok-files.ensures.texts;
-      reading = c.reading-reading.result;
-      is_reading = read_as_asked options.edition (conditions_of options) c.rust_rules-grammar.result
-          c.reading-reading.result c.rust_rules-grammar.ensures.keywords c.rust_rules-grammar.ensures.starts
-          c.rust_rules-grammar.ensures.edition c.reading-reading.ensures.edition c.reading-reading.ensures.conditions
-          c.reading-reading.ensures.grammar;
+      source_settings = c.source_settings-source_settings.result;
+      are_source_settings = read_as_asked options.edition (conditions_of options) c.rust_rules-grammar.result
+          c.source_settings-source_settings.result c.rust_rules-grammar.ensures.keywords
+          c.rust_rules-grammar.ensures.starts
+          c.rust_rules-grammar.ensures.edition c.source_settings-source_settings.ensures.edition
+          c.source_settings-source_settings.ensures.conditions
+          c.source_settings-source_settings.ensures.grammar;
       are_read = c.in_ok-files.ensures.read;
-      grammar = ap (λ e. e.grammar) setting ∙ ap grammar_of (sym c.reading-reading.ensures.grammar);
+      grammar = ap (λ e. e.grammar) setting ∙ ap grammar_of (sym c.source_settings-source_settings.ensures.grammar);
+      conditions = subst (IsUnder (conditions_of options)) (sym (ap (λ e. e.conditions) setting)) c.conditions.ensures;
       edition_is = ap (λ e. e.edition) setting ∙ c.settings-settings.ensures.edition;
-      limit = c.limit_of.result;
+      limit = c.first_limit.result;
       depth_is = ap (λ e. e.depth) setting ∙ c.settings-settings.ensures.depth;
-      known = (state_of c.know_others.new.expander).scope;
-      outside = others_are (setting_of c.new-expander.result).edition options.edition options.follows
-          (map source_of c.deref-2.result.now) (map source_of files) c.len-given.result (length options.names.items)
+      known = (state_of c.load_externs.new.expander).scope;
+      outside = others_are (setting_of c.new-expander.result).edition options.edition options.with_modules
+          (map source_of c.deref-2.result.now) (map source_of files) c.len-root_count.result
+          (length options.names.items)
           (state_of c.new-expander.result).scope (record { definitions = []; visible = []; crates = [] })
-          (state_of c.know_others.new.expander).scope (map (λ x. x.name.now) c.as_slice-externs.result.now)
+          (state_of c.load_externs.new.expander).scope (map (λ x. x.name.now) c.as_slice-externs.result.now)
           (names_of options) (ap (λ e. e.edition) at_start ∙ c.settings-settings.ensures.edition)
           (ap (map source_of) c.deref-2.ensures.value) n (ap (λ s. s.scope) c.new-expander.ensures.state)
-          (ap (map (λ x. x.name.now)) c.as_slice-externs.ensures.value) c.in_ok-know_others.ensures.knows;
-      defines = crates_are (setting_of c.know_others.new.expander).edition options.edition options.follows
-          (map source_of c.deref-3.result.now) (map source_of files) c.len-given.result (length options.names.items)
-          (state_of c.know_others.new.expander).scope (state_of c.define_crates.new.expander).scope
+          (ap (map (λ x. x.name.now)) c.as_slice-externs.ensures.value) c.in_ok-load_externs.ensures.knows;
+      defines = crates_are (setting_of c.load_externs.new.expander).edition options.edition options.with_modules
+          (map source_of c.deref-3.result.now) (map source_of files) c.len-root_count.result
+          (length options.names.items)
+          (state_of c.load_externs.new.expander).scope (state_of c.define_crates.new.expander).scope
           (ap (λ e. e.edition) before ∙ c.settings-settings.ensures.edition)
           (ap (map source_of) c.deref-3.ensures.value) n c.in_ok-define_crates.ensures.defines;
-      fuel_is = c.in_ok-define_crates.ensures.fuel ∙ c.in_ok-know_others.ensures.fuel
+      fuel_is = c.in_ok-define_crates.ensures.fuel ∙ c.in_ok-load_externs.ensures.fuel
           ∙ ap (λ s. s.fuel) c.new-expander.ensures.state ∙ c.settings-settings.ensures.fuel;
-      contexts_are = c.in_ok-define_crates.ensures.contexts ∙ c.in_ok-know_others.ensures.contexts
+      contexts_are = c.in_ok-define_crates.ensures.contexts ∙ c.in_ok-load_externs.ensures.contexts
           ∙ ap (λ s. s.contexts) c.new-expander.ensures.state;
     }

@@ -4,9 +4,9 @@ use Rattle.mbe_semantics.specs.Readings.Verdict.{IsVerdict, one_reading}
 use Rattle.mbe_semantics.specs.Bindings.Account.{run}
 use Rattle.mbe_semantics.specs.Bindings.Environment.{environment_of}
 use Rattle.mbe_laws.proofs.Bindings.CommandLemmas.{commands_bind_alike}
-use Rattle.mbe_bindings.specs.BindingViews.{bound_by}
+use Rattle.mbe_bindings.specs.BindingViews.{env_of}
 use Rattle.mbe_parser.specs.RuleViews.{rule_of}
-use Rattle.mbe_matcher.specs.Matched.{verdict_seen, Binds}
+use Rattle.mbe_matcher.specs.MatchResults.{verdict_seen, Binds}
 use Rattle.mbe.specs.MacroViews.{macro_of}
 use Rattle.mbe.proofs.BindsLemmas.{none_if_many, none_if_ambiguous, none_if_stuck}
 use Rattle.mbe.proofs.ChoiceLemmas.{seen_there}
@@ -27,7 +27,7 @@ returns-in-OneReading g c =
     let one : verdict_seen c.in_ok-matched.matched.verdict ≡ one_reading = ap verdict_seen c.in-OneReading.is in
     let binds = subst (λ f. Binds h r.reads f c.match_argument.new.log c.in_ok-matched.matched.bindings) same
     (c.in_ok-matched.ensures.binds one) in
-    let bound : bound_by c.in_ok-build-in-OneReading.field-0 ≡ environment_of binds.0 =
+    let bound : env_of c.in_ok-build-in-OneReading.field-0 ≡ environment_of binds.0 =
     c.in_ok-build-in-OneReading.ensures binds.2.0 binds.2.1 ∙ ap (λ cs. run cs []) binds.2.2
     ∙ commands_bind_alike h r.reads c.args.tt.now.1 binds.0 binds.1.1.0 in
     record { binds = (r, here, (binds.0, binds.1, bound)) }

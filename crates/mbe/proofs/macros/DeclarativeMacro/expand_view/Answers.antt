@@ -1,6 +1,6 @@
 use Rattle.std.proofs.Common.{subst, sym}
 use Rattle.mbe_parser.specs.RuleViews.{rules_seen}
-use Rattle.mbe.specs.Choice.{AreChecked}
+use Rattle.mbe.specs.RuleChoice.{AreChecked}
 use Rattle.mbe.specs.MacroViews.{macro_of}
 use Rattle.mbe.proofs.ClosestLemmas.{all_checked}
 use Rattle.mbe.proofs.macros.DeclarativeMacro.expand_view.Goals as goal

@@ -3,7 +3,7 @@ use Rattle.mbe_tt.specs.Views.View.{trees, group_of}
 use Rattle.mbe_semantics.specs.Readings.Verdict.{IsVerdict}
 use Rattle.mbe_ops.specs.Views.{template_of}
 use Rattle.mbe_parser.specs.RuleViews.{rule_of}
-use Rattle.mbe_matcher.specs.Matched.{verdict_seen}
+use Rattle.mbe_matcher.specs.MatchResults.{verdict_seen}
 use Rattle.mbe.specs.MacroViews.{macro_of}
 use Rattle.mbe.proofs.ChoiceLemmas.{seen_there}
 use Rattle.mbe.proofs.ClosestLemmas.{all_checked}

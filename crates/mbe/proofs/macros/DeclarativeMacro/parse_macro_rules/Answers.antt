@@ -6,7 +6,7 @@ use Rattle.mbe.proofs.macros.DeclarativeMacro.parse_macro_rules.Goals as goal
 
 pub returns : goal.returns
 returns g c =
-    IfOk-weaker c.of_rules.result _ _
+    IfOk-weaker c.from_rules.result _ _
     (λ m e. read_as _ c.iter.result c.args.tt.now.1 (rules_seen c.in_ok-rules.rules.items) c.in_ok-rules.fault
     (macro_of m) c.iter.ensures
-    c.in_ok-rules.ensures e) c.of_rules.ensures
+    c.in_ok-rules.ensures e) c.from_rules.ensures

@@ -1,4 +1,5 @@
-use Rattle.std.proofs.Common.{◌≡◌, ◌+◌, ◌<◌, ◌++◌, ◌∷◌, [], ℕ, List, refl, length, get_or, ap, sym, subst, ◌∙◌, take, rules}
+use Rattle.std.proofs.Common.{◌≡◌, ◌+◌, ◌<◌, ◌++◌, ◌∷◌, [], ℕ, List, refl, length, get_or, ap, sym, subst, ◌∙◌, take}
+use Rattle.std.proofs.Common.{rules}
 use Rattle.std.specs.Int.RustNames.{bit_or}
 use Rattle.std.proofs.lemmas.List.{take_more, take_all}
 use Rattle.mbe_parser.specs.declared.rules.Rule as code
@@ -39,7 +40,7 @@ returns g c =
     let i = c.loop-rule.rule-index in
     let all = c.args.self.now.rules.items in
     let some : all ≡ [] → ⊥ = search rules in
-    let whole : take i all ≡ all = subst (λ ys. take i ys ≡ ys) c.deref-rule-items.ensures.value
+    let whole_view : take i all ≡ all = subst (λ ys. take i ys ≡ ys) c.deref-rule-items.ensures.value
     (take_all i c.deref-rule-items.result.now c.loop-rule-test.false) in
-    c.loop-rule.invariant ∙ (ap (λ ys. styles_of (rules_seen ys)) whole
+    c.loop-rule.invariant ∙ (ap (λ ys. styles_of (rules_seen ys)) whole_view
     ∙ styles_whole (rules_seen all) (some_seen all some))

@@ -9,4 +9,4 @@ returns g c =
     grown-at c.args.number c.args.self.now.inner.entries
     (set_value_at c.args.self.now.inner.entries c.args.index c.grow_value.new.binding) c.args.index c.args.name.now
     (value_seen c.args.value) c.in-Some.found.now c.grow_value.new.binding c.get_index_mut.ensures.unique
-    (c.if-is_at.ensures refl) (sym c.in-Some.ensures.value) refl c.in_ok-grow_value.ensures
+    (c.if-has_name_at.ensures refl) (sym c.in-Some.ensures.value) refl c.in_ok-grow_value.ensures

@@ -9,8 +9,8 @@ extend-requires g c =
 
 pub invariant_of-self-2 : goal.invariant_of-self-2
 invariant_of-self-2 g c =
-    let d = c.push_reserved.ensures.items ∙ ap (λ x. x ++ c.linked.result ∷ []) c.in_ok-reserve.ensures.items
-    ∙ ap (λ l. c.self.inside.commands.items ++ l ∷ []) c.linked.ensures in
+    let d = c.push_reserved.ensures.items ∙ ap (λ x. x ++ c.from_link.result ∷ []) c.in_ok-reserve.ensures.items
+    ∙ ap (λ l. c.self.inside.commands.items ++ l ∷ []) c.from_link.ensures in
     default-sound c.self.inside.commands.items c.self.inside.rounds.items c.args.self.now c.self.view_is
     c.handle.inside.current c.handle.inside.finished c.args.handle.now c.handle.view_is c.self.inside.nested
     c.push_reserved.new.self.items c.extend.new.lists.items c.in_ok-finished.finished d
@@ -18,8 +18,8 @@ invariant_of-self-2 g c =
 
 pub returns-clause-ok : goal.returns-clause-ok
 returns-clause-ok g c =
-    let d = c.push_reserved.ensures.items ∙ ap (λ x. x ++ c.linked.result ∷ []) c.in_ok-reserve.ensures.items
-    ∙ ap (λ l. c.self.inside.commands.items ++ l ∷ []) c.linked.ensures in
+    let d = c.push_reserved.ensures.items ∙ ap (λ x. x ++ c.from_link.result ∷ []) c.in_ok-reserve.ensures.items
+    ∙ ap (λ l. c.self.inside.commands.items ++ l ∷ []) c.from_link.ensures in
     let i : c.len-list.result ≡ length c.self.inside.commands.items = search rules in
     default-changed c.self.inside.commands.items c.self.inside.rounds.items c.args.self.now c.self.view_is
     c.handle.inside.current c.handle.inside.finished c.args.handle.now c.handle.view_is

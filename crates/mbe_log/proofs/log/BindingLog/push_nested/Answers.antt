@@ -1,5 +1,6 @@
 use Rattle.std.proofs.Common.{◌≡◌, ◌+◌, rules}
-use Rattle.mbe_log.proofs.CodeLemmas.{current_within, nested-sound, child-current, child-finished, nested-changes, push-writes}
+use Rattle.mbe_log.proofs.CodeLemmas.{current_within, nested-sound, child-current, child-finished, nested-changes}
+use Rattle.mbe_log.proofs.CodeLemmas.{push-writes}
 use Rattle.mbe_log.proofs.log.BindingLog.push_nested.Goals as goal
 use Rattle.mbe_log.specs.declared.log.Command.TheVariants.{Nested}
 

@@ -1,4 +1,4 @@
-use Rattle.mbe_tt.specs.Laws.Same.{same_by}
+use Rattle.mbe_tt.specs.Laws.CodeEquality.{same_by}
 use Rattle.mbe_ops.specs.Expressions.{element_code}
 use Rattle.mbe_ops.proofs.expression.ConcatMetaVarExprElemPartialEq.eq.Goals as goal
 

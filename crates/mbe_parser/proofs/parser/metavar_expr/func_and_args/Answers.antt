@@ -1,6 +1,6 @@
 use Rattle.std.proofs.Common.{◌≡◌, Some, sym, rules}
 use denote.Enum.Bare.{same_true}
-use Rattle.mbe_tt.specs.Views.Shown.{ident_of}
+use Rattle.mbe_tt.specs.Views.LeafViews.{ident_of}
 use Rattle.mbe_tt.specs.Trees.Tree.{rest_of, front_ident, front_group}
 use Rattle.mbe_tt.specs.contracts.tt.DelimiterKind.{the_type}
 use Rattle.mbe_tt.specs.declared.tt.DelimiterKind.TheVariants.{Parenthesis}

@@ -1,6 +1,6 @@
 use Rattle.std.proofs.Common.{◌≡◌, Some, rules}
 use Rattle.mbe_tt.specs.Trees.Leaf as leaves
-use Rattle.mbe_tt.specs.Views.Shown.{literal_of, ident_of}
+use Rattle.mbe_tt.specs.Views.LeafViews.{literal_of, ident_of}
 use Rattle.mbe_tt.specs.Trees.Tree.{Leaf_tree, first, rest_of, front_char, any_ident}
 use Rattle.mbe_ops.proofs.Fragments.{first_tree}
 use Rattle.mbe_parser.proofs.ExpressionLemmas.{literal_in_front, ident_in_front, variable_in_front}

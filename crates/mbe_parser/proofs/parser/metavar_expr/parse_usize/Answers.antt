@@ -1,4 +1,4 @@
-use Rattle.mbe_tt.specs.Views.Shown.{literal_of}
+use Rattle.mbe_tt.specs.Views.LeafViews.{literal_of}
 use Rattle.std.proofs.Common.{◌∙◌}
 use Rattle.mbe_parser.proofs.ExpressionLemmas.{reads_depth}
 use Rattle.mbe_parser.proofs.parser.metavar_expr.parse_usize.Goals as goal

@@ -1,5 +1,5 @@
 use Rattle.std.proofs.Common.{◌≡◌, ◌++◌, arith, chars, subst, List, ℕ}
-use Rattle.mbe_text.specs.Ends.{IsRest}
+use Rattle.mbe_text.specs.Rests.{IsRest}
 use Rattle.mbe_text.proofs.LiteralLemmas.{number_read, rest_of_rest}
 use Rattle.mbe_text.proofs.Reading.{reads_literal}
 use Rattle.mbe_text.proofs.scanner.Scanner.number.Goals as goal

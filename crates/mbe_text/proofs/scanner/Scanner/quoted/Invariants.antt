@@ -1,11 +1,11 @@
 use Rattle.std.proofs.Common.{◌≡◌, ◌≤◌, false, chars, length}
-use Rattle.mbe_text.specs.Literals.{from_quote}
-use Rattle.mbe_text.specs.Scanning.{GoesOn}
+use Rattle.mbe_text.specs.SampleLiterals.{from_quote}
+use Rattle.mbe_text.specs.ScannerSteps.{ScansForward}
 use Rattle.mbe_text.proofs.scanner.Scanner.quoted.Given as goal
 
 abbrev pub invariant-chars : goal.invariant-chars
 invariant-chars l = record {
-  on : GoesOn l.initial.self l.self;
+  on : ScansForward l.initial.self l.self;
   within : length l.self.rest.now ≤ length l.text;
   exact : from_quote l.end false (chars l.self.rest.now) ≡ from_quote l.end false (chars l.text);
 }

@@ -1,6 +1,6 @@
 use Rattle.std.proofs.Common.{ℕ, lit<, subst, sym}
 use Rattle.std.proofs.lemmas.Str.{encode_ascii}
-use Rattle.mbe_text.specs.Ends.{Begins}
+use Rattle.mbe_text.specs.Rests.{Begins}
 use Rattle.mbe_text.proofs.scanner.Scanner.sample_lexeme.Goals as goal
 
 pub returns-then-char-eq34-clause-reads : goal.returns-then-char-eq34-clause-reads

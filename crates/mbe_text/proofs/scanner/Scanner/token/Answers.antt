@@ -1,5 +1,5 @@
 use Rattle.std.proofs.Common.{◌∙◌, ℕ, List, arith, subst, sym, ap, chars}
-use Rattle.mbe_text.specs.Ends.{IsRest}
+use Rattle.mbe_text.specs.Rests.{IsRest}
 use Rattle.mbe_text.specs.Characters.{offset}
 use Rattle.mbe_text.specs.Dialect.{read_shape}
 use Rattle.mbe_text.specs.declared.dialect.Dialect.{Dialect}

@@ -1,10 +1,10 @@
 use Rattle.std.proofs.Common.{subst, Some, ◌≡◌, ◌∙◌, ap, sym, rules}
 use Rattle.std.specs.Prelude.{is_some, string_bytes, chars}
-use Rattle.mbe_semantics.specs.Writing.Concat.{are_identifier_chars}
-use Rattle.mbe_bindings.specs.BindingViews.{bound_by}
+use Rattle.mbe_semantics.specs.Transcription.Concat.{are_identifier_chars}
+use Rattle.mbe_bindings.specs.BindingViews.{env_of}
 use Rattle.mbe_ops.specs.Expressions.{elements_seen}
-use Rattle.mbe_transcriber.specs.Writing.{IsConcatWritten}
-use Rattle.mbe_variables.specs.Fragments.{Appends}
+use Rattle.mbe_transcriber.specs.TranscriberSteps.{IsConcatWritten}
+use Rattle.mbe_variables.specs.FragmentWriter.{Appends}
 use Rattle.mbe_transcriber.proofs.LeftLemmas.{name_is, name_replaced}
 use Rattle.mbe_transcriber.proofs.JoinLemmas.{joined_wrote, dummy_wrote, or_reported}
 use Rattle.mbe_transcriber.proofs.transcriber.expressions.write_concat.Goals as goal
@@ -15,7 +15,7 @@ returns-then-is_identifier-clause-wrote g c =
     let first : c.as_str.result.now ≡ string_bytes c.in_ok-text.text = search rules in
     joined_wrote (g.G.FragmentGrammar.grammar c.args.ctx.now.grammar.now)
     (λ s t. g.M.Fn.post c.args.ctx.now.marker (s, tt) t) c.args.span
-    (bound_by c.args.ctx.now.bindings.now) c.args.path.now (elements_seen c.args.elements.now)
+    (env_of c.args.ctx.now.bindings.now) c.args.path.now (elements_seen c.args.elements.now)
     (string_bytes c.in_ok-text.text) (is_some c.in_ok-text.fault)
     c.args.builder.now c.write_name.new.builder c.in_ok-text.ensures.all
     (ap (λ x. are_identifier_chars (chars x)) (sym first) ∙ (sym c.is_identifier.ensures ∙ c.if-is_identifier.true))
@@ -26,7 +26,7 @@ returns-clause-wrote g c =
     let first : c.as_str.result.now ≡ string_bytes c.in_ok-text.text = search rules in
     dummy_wrote (g.G.FragmentGrammar.grammar c.args.ctx.now.grammar.now)
     (λ s t. g.M.Fn.post c.args.ctx.now.marker (s, tt) t) c.args.span
-    (bound_by c.args.ctx.now.bindings.now) c.args.path.now (elements_seen c.args.elements.now)
+    (env_of c.args.ctx.now.bindings.now) c.args.path.now (elements_seen c.args.elements.now)
     (string_bytes c.in_ok-text.text) (is_some c.in_ok-text.fault) (is_some c.or.result) _
     c.args.builder.now c.write_name-2.new.builder c.in_ok-text.ensures.all
     (ap (λ x. are_identifier_chars (chars x)) (sym first) ∙ (sym c.is_identifier.ensures ∙ c.if-is_identifier.false))

@@ -1,5 +1,5 @@
 use Rattle.std.proofs.Common.{◌≡◌, ◌∙◌, ap, sym}
-use Rattle.mbe_semantics.specs.Writing.Substitution.{rawness}
+use Rattle.mbe_semantics.specs.Transcription.Substitution.{rawness}
 use Rattle.mbe_variables.proofs.FragmentLemmas.{if_ok}
 use Rattle.mbe_transcriber.proofs.WroteLemmas.{name_written}
 use Rattle.mbe_transcriber.proofs.transcriber.expressions.write_name.Goals as goal

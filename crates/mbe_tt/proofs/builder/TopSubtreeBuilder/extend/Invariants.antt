@@ -1,6 +1,6 @@
 use Rattle.std.proofs.Common.{◌≡◌}
-use Rattle.mbe_tt.specs.Buffers.Building.{put}
-use Rattle.mbe_tt.specs.Views.Shown.{leaves_of}
+use Rattle.mbe_tt.specs.Buffers.GroupStack.{put}
+use Rattle.mbe_tt.specs.Views.LeafViews.{leaves_of}
 use Rattle.mbe_tt.proofs.builder.TopSubtreeBuilder.extend.Given as goal
 
 abbrev pub invariant-loop-leaf : goal.invariant-loop-leaf

@@ -2,19 +2,19 @@ use Rattle.std.proofs.Common.{◌∙◌, ◌+◌, ◌≤◌, ◌++◌, List, ari
 use Rattle.std.specs.Vec.{vec_capacity}
 use Rattle.std.specs.List.{each_same}
 use Rattle.mbe_tt.specs.Views.View.{trees}
-use Rattle.mbe_tt.specs.Buffers.Building.{put, levels_of}
-use Rattle.mbe_tt.specs.Views.Entry.{Entry}
-use Rattle.mbe_tt.specs.Views.Shown.{entries_of}
+use Rattle.mbe_tt.specs.Buffers.GroupStack.{put, stack_of}
+use Rattle.mbe_tt.specs.Views.BufferEntry.{Entry}
+use Rattle.mbe_tt.specs.Views.LeafViews.{entries_of}
 use Rattle.mbe_tt.proofs.Buffers.Seen.{length-shown, shown_append}
 use Rattle.mbe_tt.proofs.Buffers.Built.{Put, after_put}
 use Rattle.mbe_tt.proofs.builder.TopSubtreeBuilder.extend_with_tt.Goals as goal
 use Rattle.mbe_tt.proofs.builder.TopSubtreeBuilder.extend_with_tt.Goals.{In_ok-extend_from_slice}
 
 -- the trees are at the end of what was written
-written : (g : _) (c : In_ok-extend_from_slice g) → Put (levels_of (entries_of c.self.inside.entries.items))
+stack_entries : (g : _) (c : In_ok-extend_from_slice g) → Put (stack_of (entries_of c.self.inside.entries.items))
     (trees c.args.view) (entries_of c.extend_from_slice.new.self.items) (vec_capacity c.extend_from_slice.new.self)
     c.self.inside.at c.self.inside.depth
-written g c =
+stack_entries g c =
     let room : length (entries_of c.extend_from_slice.new.self.items) + c.self.inside.depth
     ≤ vec_capacity c.extend_from_slice.new.self =
     omega (
@@ -35,9 +35,9 @@ written g c =
     room
 
 pub invariant_of-self-2 : goal.invariant_of-self-2
-invariant_of-self-2 g c = (written g (goal.at.invariant_of-self-2 g c).In_ok-extend_from_slice).building
+invariant_of-self-2 g c = (stack_entries g (goal.at.invariant_of-self-2 g c).In_ok-extend_from_slice).building
 
 pub returns-clause-ok : goal.returns-clause-ok
 returns-clause-ok g c =
-    (written g (goal.at.returns-clause-ok g c).In_ok-extend_from_slice).levels
+    (stack_entries g (goal.at.returns-clause-ok g c).In_ok-extend_from_slice).levels
     ∙ ap (put (trees c.args.view)) c.self.view_is

@@ -1,27 +1,28 @@
-use Rattle.std.proofs.Common.{◌≡◌, ◌∙◌, ◌+◌, ◌≤◌, ◌++◌, ◌∷◌, [], List, Some, arith, ap, length, sym, subst, length-append, append_assoc}
+use Rattle.std.proofs.Common.{◌≡◌, ◌∙◌, ◌+◌, ◌≤◌, ◌++◌, ◌∷◌, [], List, Some, arith, ap, length, sym, subst}
+use Rattle.std.proofs.Common.{length-append, append_assoc}
 use Rattle.std.specs.Vec.{vec_capacity}
 use Rattle.std.specs.List.{each_same}
 use Rattle.std.specs.Prelude.{OnOk}
-use Rattle.mbe_tt.specs.Views.Entries.{spell}
+use Rattle.mbe_tt.specs.Views.BufferEntries.{spell}
 use Rattle.mbe_tt.specs.Views.View.{trees}
 use Rattle.mbe_tt.specs.Trees.Tree.{Forest, alone}
-use Rattle.mbe_tt.specs.Buffers.Building.{put, levels_of}
-use Rattle.mbe_tt.specs.Views.Entry.{Entry, Leaf, entry_punct}
+use Rattle.mbe_tt.specs.Buffers.GroupStack.{put, stack_of}
+use Rattle.mbe_tt.specs.Views.BufferEntry.{Entry, Leaf, entry_punct}
 use Rattle.mbe_tt.specs.Trees.Leaf.{punct}
-use Rattle.mbe_tt.specs.Views.Shown.{entries_of, entry_of}
+use Rattle.mbe_tt.specs.Views.LeafViews.{entries_of, entry_of}
 use Rattle.mbe_tt.specs.declared.tt.Punct.{Punct}
 use Rattle.mbe_tt.specs.declared.tt.Spacing.TheVariants.{Alone}
 use Rattle.mbe_tt.proofs.Buffers.Seen.{length-shown, shown_append}
 use Rattle.mbe_tt.proofs.Buffers.Built.{Put, after_put}
-use Rattle.mbe_tt.proofs.Places.Last.{none_is, alone_keeps, alone_punct}
+use Rattle.mbe_tt.proofs.Offsets.LastTreeLemmas.{none_is, alone_keeps, alone_punct}
 use Rattle.mbe_tt.proofs.builder.TopSubtreeBuilder.extend_with_tt_alone.Goals as goal
 use Rattle.mbe_tt.proofs.builder.TopSubtreeBuilder.extend_with_tt_alone.Goals.{In-Ok}
 
 -- the trees, the last of them alone, are at the end of what was written
-written : (g : _) (c : In-Ok g) → Put (levels_of (entries_of c.self.inside.entries.items))
+stack_entries : (g : _) (c : In-Ok g) → Put (stack_of (entries_of c.self.inside.entries.items))
     (alone (trees c.args.view)) (entries_of c.push.new.self.items) (vec_capacity c.push.new.self)
     c.self.inside.at c.self.inside.depth
-written g c =
+stack_entries g c =
     let room : length (entries_of c.push.new.self.items) + c.self.inside.depth ≤ vec_capacity c.push.new.self =
     omega (
       arith,
@@ -55,11 +56,11 @@ written g c =
     after_put _ _ _ _ _ _ (alone (trees c.args.view)) c.self.invariant w room
 
 pub invariant_of-self-2 : goal.invariant_of-self-2
-invariant_of-self-2 g c = (written g (goal.at.invariant_of-self-2 g c).In-Ok).building
+invariant_of-self-2 g c = (stack_entries g (goal.at.invariant_of-self-2 g c).In-Ok).building
 
 pub returns-clause-ok : goal.returns-clause-ok
 returns-clause-ok g c =
-    (written g (goal.at.returns-clause-ok g c).In-Ok).levels ∙ ap (put (alone (trees c.args.view))) c.self.view_is
+    (stack_entries g (goal.at.returns-clause-ok g c).In-Ok).levels ∙ ap (put (alone (trees c.args.view))) c.self.view_is
 
 pub returns-in_default-entry_punct-clause-ok : goal.returns-in_default-entry_punct-clause-ok
 returns-in_default-entry_punct-clause-ok g c =

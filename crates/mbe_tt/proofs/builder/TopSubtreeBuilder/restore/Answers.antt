@@ -1,13 +1,13 @@
 use Rattle.std.proofs.Common.{◌≡◌, ◌∙◌, ◌<◌, arith, ap, length, sym}
-use Rattle.mbe_tt.specs.Buffers.Building.{levels_of, put, written}
-use Rattle.mbe_tt.specs.Views.Shown.{entries_of}
+use Rattle.mbe_tt.specs.Buffers.GroupStack.{stack_of, put, stack_entries}
+use Rattle.mbe_tt.specs.Views.LeafViews.{entries_of}
 use Rattle.mbe_tt.proofs.Buffers.Seen.{length-shown, shown_take}
 use Rattle.mbe_tt.proofs.Buffers.Built.{point_fits, length-put, after_restore}
 use Rattle.mbe_tt.proofs.builder.TopSubtreeBuilder.restore.Goals as goal
 
 pub overflow_add-point : goal.overflow_add-point
 overflow_add-point g c =
-    let b : levels_of (entries_of c.self.inside.entries.items) ≡ put c.requires.1.0 c.requires.0 =
+    let b : stack_of (entries_of c.self.inside.entries.items) ≡ put c.requires.1.0 c.requires.0 =
     c.self.view_is ∙ c.requires.1.1 in
     let some : 0 < length c.requires.0 = omega
     (arith, c.self.invariant.some, c.self.invariant.depth, ap length b, length-put c.requires.0 c.requires.1.0) in
@@ -15,7 +15,7 @@ overflow_add-point g c =
       arith,
       length-shown c.self.inside.entries.items,
       point_fits c.requires.0 c.requires.1.0 (entries_of c.self.inside.entries.items) some
-          (c.self.invariant.spelled ∙ ap written b),
+          (c.self.invariant.spelled ∙ ap stack_entries b),
       c.requires.1.2,
     )
 

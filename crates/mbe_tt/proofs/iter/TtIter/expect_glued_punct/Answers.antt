@@ -4,7 +4,8 @@ use Rattle.mbe_tt.specs.Trees.Tree.{Forest}
 use Rattle.mbe_tt.specs.declared.tt.Punct.{Punct}
 use Rattle.mbe_tt.proofs.Glue.GlueLemmas.{Front, Glues, pushed_three, three_glued, two_glued, one_glued}
 use Rattle.mbe_tt.proofs.iter.TtIter.expect_glued_punct.Goals as goal
-use Rattle.mbe_tt.proofs.iter.TtIter.expect_glued_punct.Goals.{After-iter-beyond, then-is_two, else-is_two}
+use Rattle.mbe_tt.proofs.iter.TtIter.expect_glued_punct.Goals.{After-iter-beyond, then-is_double_operator}
+use Rattle.mbe_tt.proofs.iter.TtIter.expect_glued_punct.Goals.{else-is_double_operator}
 
 front : (g : _) (c : After-iter-beyond g)
     → Front c.args.self.now c.iter-ahead.result c.iter-beyond.result c.in_ok-first.field-0.now c.in-Some.second
@@ -54,11 +55,12 @@ pub returns-clause-value : goal.returns-clause-value
 returns-clause-value g c =
     let here = (goal.at.returns-clause-value g c).After-iter-beyond in
     let fails = c.in_default-next_third.ensures.value in
-    let all : Glues c.args.self.now c.if-is_two.self c.if-is_two.glued.items = (elim c.if-is_two.branch [
-      | then-is_two w ↦ two g here _ _ _ fails c.is_two.ensures w.if-is_two.true
+    let all : Glues c.args.self.now c.if-is_double_operator.self c.if-is_double_operator.glued.items =
+    (elim c.if-is_double_operator.branch [
+      | then-is_double_operator w ↦ two g here _ _ _ fails c.is_double_operator.ensures w.if-is_double_operator.true
           (w.self-is ∙ sym (c.iter-beyond.ensures ∙ c.remaining-2.ensures))
-          (ap (λ x. x.items) w.glued-is ∙ w.push-then-is_two.ensures.items)
-      | else-is_two w ↦ one g here _ _ _ fails c.is_two.ensures w.if-is_two.false
+          (ap (λ x. x.items) w.glued-is ∙ w.push-then-is_double_operator.ensures.items)
+      | else-is_double_operator w ↦ one g here _ _ _ fails c.is_double_operator.ensures w.if-is_double_operator.false
           (w.self-is ∙ sym (c.iter-ahead.ensures ∙ c.remaining.ensures)) (ap (λ x. x.items) w.glued-is)
     ]) in
     all.value
@@ -66,12 +68,14 @@ returns-clause-value g c =
 pub returns-clause-rest : goal.returns-clause-rest
 returns-clause-rest g c =
     let here = (goal.at.returns-clause-rest g c).After-iter-beyond in
-    elim c.if-is_two.branch [
-      | then-is_two w ↦ (two g here _ c.if-is_two.glued.items _ c.in_default-next_third.ensures.value
-          c.is_two.ensures w.if-is_two.true
+    elim c.if-is_double_operator.branch [
+      | then-is_double_operator w ↦ (two g here _ c.if-is_double_operator.glued.items _
+          c.in_default-next_third.ensures.value
+          c.is_double_operator.ensures w.if-is_double_operator.true
           (w.self-is ∙ sym (c.iter-beyond.ensures ∙ c.remaining-2.ensures))
-          (ap (λ x. x.items) w.glued-is ∙ w.push-then-is_two.ensures.items)).rest
-      | else-is_two w ↦ (one g here _ c.if-is_two.glued.items _ c.in_default-next_third.ensures.value
-          c.is_two.ensures w.if-is_two.false
+          (ap (λ x. x.items) w.glued-is ∙ w.push-then-is_double_operator.ensures.items)).rest
+      | else-is_double_operator w ↦ (one g here _ c.if-is_double_operator.glued.items _
+          c.in_default-next_third.ensures.value
+          c.is_double_operator.ensures w.if-is_double_operator.false
           (w.self-is ∙ sym (c.iter-ahead.ensures ∙ c.remaining.ensures)) (ap (λ x. x.items) w.glued-is)).rest
     ]

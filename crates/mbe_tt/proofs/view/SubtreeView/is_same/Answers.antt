@@ -1,6 +1,6 @@
 use Rattle.std.proofs.Common.{◌≡◌, ◌∙◌, ap}
-use Rattle.mbe_tt.specs.Views.Entries.{forest_code}
-use Rattle.mbe_tt.specs.Laws.Same.{same_tells}
+use Rattle.mbe_tt.specs.Views.BufferEntries.{forest_code}
+use Rattle.mbe_tt.specs.Laws.CodeEquality.{same_tells}
 use Rattle.mbe_tt.specs.Trees.Top.{Top, delimiter_of, inside}
 use Rattle.mbe_tt.specs.Trees.Tree.{Forest}
 use Rattle.mbe_tt.specs.Views.View.{group_of, trees}

@@ -1,4 +1,4 @@
-use Rattle.mbe_tt.specs.Laws.Same.{same_by}
+use Rattle.mbe_tt.specs.Laws.CodeEquality.{same_by}
 use Rattle.mbe_tt.specs.Trees.Top.{top_code}
 use Rattle.mbe_tt.proofs.view.SubtreeViewPartialEq.eq.Goals as goal
 

@@ -1,5 +1,5 @@
 use Rattle.std.proofs.Common.{sym, arith}
-use Rattle.mbe_tt.proofs.Places.PlaceLemmas.{depth_at-zero}
+use Rattle.mbe_tt.proofs.Offsets.OffsetLemmas.{depth_at-zero}
 use Rattle.mbe_tt.proofs.view.TokenTreesView.cursor.Goals as goal
 
 pub invariant_of-result : goal.invariant_of-result

@@ -1,4 +1,4 @@
-use Rattle.mbe_tt.specs.Laws.Same.{same_by}
+use Rattle.mbe_tt.specs.Laws.CodeEquality.{same_by}
 use Rattle.mbe_ops.specs.Codes.{key_code, macro_key}
 use Rattle.mbe_ops.proofs.EqualityLemmas.{macros_by_key}
 use Rattle.mbe.specs.MacroViews.{macro_of}

@@ -1,5 +1,5 @@
 use Rattle.mbe_program.specs.Replies.Answers.{answer_of}
-use Rattle.mbe_program.specs.Replies.Calls.{no_grammar, no_macro}
+use Rattle.mbe_program.specs.Replies.Requests.{no_grammar, no_macro}
 use Rattle.mbe_program.proofs.ReplyLemmas.CallLemmas.{unread_by}
 use Rattle.mbe_program.proofs.ReplyLemmas.ReadLemmas.{grammar_read}
 use Rattle.mbe_program.proofs.replies.read_macro.ReadMacro.of_trees.Goals as goal

@@ -1,6 +1,6 @@
 use Rattle.mbe_program.specs.Replies.Answers.{answer_of}
-use Rattle.mbe_program.specs.Replies.Calls.{IsNoResult, source_of}
-use Rattle.mbe_program.specs.Replies.ReadOnce.{IsUnread, no_macro_to_read, no_trees_to_read}
+use Rattle.mbe_program.specs.Replies.Requests.{IsNoResult, source_of}
+use Rattle.mbe_program.specs.Replies.ReadMacros.{IsUnread, no_macro_to_read, no_trees_to_read}
 use Rattle.mbe_program.proofs.ReplyLemmas.CallLemmas.{err_map}
 use Rattle.mbe_program.proofs.replies.read_macro.ReadMacro.read.Goals as goal
 

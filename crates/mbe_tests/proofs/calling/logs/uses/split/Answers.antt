@@ -73,4 +73,4 @@ returns-clause-others g c =
     let k7 = kept-on c.args.log.now c.alloc-2.new.self c.push_nested.new.self k6 nested.kept in
     let k8 = kept-on c.args.log.now c.push_nested.new.self c.push_empty-3.new.self k7
     c.in_ok-push_empty-3.ensures.ok.kept in
-    λ held a. all_accounts c.args.log.now c.push_empty-3.new.self k8 held a
+    λ closure a. all_accounts c.args.log.now c.push_empty-3.new.self k8 closure a

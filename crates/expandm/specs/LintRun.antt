@@ -1,0 +1,40 @@
+-- The lints of the definitions of files.
+use Rattle.std.specs.Prelude.{◌≡◌, ℕ, if◌then◌else◌, ◌==◌, ◌&&◌, List, [], ◌∷◌, map, Option, Some}
+use Rattle.std.specs.Prelude.{None}
+use Rattle.mbe_tt.specs.declared.span.Edition.{Edition}
+use Rattle.mbe_tt.specs.Trees.Top.{Top}
+use Rattle.mbe_session.specs.Scopes.{IsEdition}
+use Rattle.mbe_diagnostics.specs.Lints.Definitions.{definitions}
+use Rattle.mbe_diagnostics.specs.Lints.Lint.{Lint}
+use Rattle.mbe_diagnostics.specs.Lints.Linter.{AreLinted}
+use Rattle.expandm.specs.declared.source_settings.SourceSettings.{SourceSettings}
+use Rattle.expandm.specs.Conditions.{Conditions}
+use Rattle.expandm.specs.SourceSettings.{AreSourceSettings}
+use Rattle.expandm.specs.Sources.{Source, Text, AreSources, source_text}
+
+-- The lints of a file's definitions are added. A file that isn't Rust has none.
+abbrev pub FileLints : Edition → Option Top → List Lint → List Lint → Type 0
+FileLints edition None before after = after ≡ before
+FileLints edition (Some tree) before after =
+    AreLinted (IsEdition edition) (definitions 1001 tree.1) before after
+
+-- The lints of the definitions of each file are added, in order.
+abbrev pub FilesLinted : Edition → List (Option Top) → List Lint → List Lint → Type 0
+FilesLinted edition [] before after = after ≡ before
+FilesLinted edition (file ∷ files) before after =
+    (mid : List Lint) × FileLints edition file before mid × FilesLinted edition files mid after
+
+-- The lints of the definitions of files with these texts. Definitions that a `cfg` disables are
+-- left out.
+pub record AreTextsLinted (edition : Edition) (c : Conditions) (texts : List Text)
+    (files : List Source)
+    (lints : List Lint) : Type 0 where
+  pub texts_are : map source_text files ≡ texts
+  pub source_settings : SourceSettings
+  pub are_source_settings : AreSourceSettings edition c source_settings
+  pub are_read : AreSources source_settings files
+  pub linted : FilesLinted edition (map (λ f. f.tree) files) [] lints
+
+-- The exit status of a run with so many notes and so many lints.
+abbrev pub lint_status : ℕ → ℕ → ℕ
+lint_status notes lints = if notes == 0 && lints == 0 then 0 else 1

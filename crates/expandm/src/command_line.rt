@@ -1,0 +1,432 @@
+// The command line: a table of the options, and the parser of arguments.
+//
+// `OPTIONS` has a row for each option. `command` makes a clap command of the rows, which parses the
+// arguments and writes the help. `checked_invocation` then checks the values that clap takes as texts, and
+// collects all values in `RunOptions`.
+use crate::arguments::{ExternCrate, RunOptions, edition, target};
+use crate::locations::CallPosition;
+use clap::builder::ValueRange;
+use clap::error::ErrorKind;
+use clap::{Arg, ArgAction, ArgMatches, Command, Error, value_parser};
+use mbe_cfg::cfg_options::CfgOption;
+use std::alloc::{AllocError, Global};
+
+const VERSION: &str = "0.1.0";
+
+const ABOUT: &str = "Expands the macro calls of Rust files, and prints the last file.";
+
+// The name of the argument for files.
+const FILES: &str = "FILE.rs";
+
+static EDITIONS: [&str; 4] = ["2015", "2018", "2021", "2024"];
+
+static TARGETS: [&str; 5] = [
+    "x86_64-unknown-linux-gnu",
+    "x86_64-pc-windows-msvc",
+    "x86_64-apple-darwin",
+    "aarch64-apple-darwin",
+    "wasm32-unknown-unknown",
+];
+
+// What an option takes. The texts are the names of values in the help.
+#[derive(Drop)]
+enum OptionValue {
+    Flag,
+    Text(&'static str),
+    Number(&'static str),
+    /// One of `choices_of` the option.
+    Choice(&'static str),
+    /// A value after `=`, or none.
+    Optional(&'static str),
+    /// Each use of the option adds a value.
+    List(&'static str),
+    /// The same, and a value may be several with commas between them.
+    CommaList(&'static str),
+}
+
+// An option of the command line.
+#[derive(Drop)]
+struct OptionRow {
+    name: &'static str,
+    value: OptionValue,
+    help: &'static str,
+}
+
+static OPTIONS: [OptionRow; 17] = [
+    OptionRow {
+        name: "once",
+        value: OptionValue::Flag,
+        help: "Expand each call once, and no call in its expansion",
+    },
+    OptionRow {
+        name: "depth",
+        value: OptionValue::Number("N"),
+        help: "Limit the depth of nested calls (128, or #![recursion_limit])",
+    },
+    OptionRow {
+        name: "fuel",
+        value: OptionValue::Number("N"),
+        help: "Limit the number of calls (100000)",
+    },
+    OptionRow {
+        name: "call",
+        value: OptionValue::Text("LINE[:COL]"),
+        help: "Print only the expansion of the call there",
+    },
+    OptionRow {
+        name: "no-modules",
+        value: OptionValue::Flag,
+        help: "Read no files of modules (`mod name;`)",
+    },
+    OptionRow {
+        name: "extern",
+        value: OptionValue::List("NAME=PATH"),
+        help: "Expand the macros of an external crate too",
+    },
+    OptionRow {
+        name: "write",
+        value: OptionValue::Text("DIR"),
+        help: "Write each file into a folder",
+    },
+    OptionRow {
+        name: "edition",
+        value: OptionValue::Choice("YEAR"),
+        help: "Set the edition (2021)",
+    },
+    OptionRow {
+        name: "cfg",
+        value: OptionValue::List("NAME[=\"VALUE\"]"),
+        help: "Set an option for `cfg`",
+    },
+    OptionRow {
+        name: "features",
+        value: OptionValue::CommaList("A,B"),
+        help: "Set `feature = \"A\"` and `feature = \"B\"` for `cfg`",
+    },
+    OptionRow {
+        name: "target",
+        value: OptionValue::Choice("TRIPLE"),
+        help: "Set the target for `cfg` (x86_64-unknown-linux-gnu)",
+    },
+    OptionRow {
+        name: "test",
+        value: OptionValue::Flag,
+        help: "Set `test` for `cfg`",
+    },
+    OptionRow {
+        name: "trace",
+        value: OptionValue::Flag,
+        help: "Report each step",
+    },
+    OptionRow {
+        name: "origin",
+        value: OptionValue::Flag,
+        help: "Report the origin of each token of an expansion",
+    },
+    OptionRow {
+        name: "explain",
+        value: OptionValue::Optional("LINE[:COL]"),
+        help: "Explain the calls that no rule matches, or those there",
+    },
+    OptionRow {
+        name: "lint",
+        value: OptionValue::Flag,
+        help: "Check the definitions, and expand nothing",
+    },
+    OptionRow {
+        name: "json",
+        value: OptionValue::Flag,
+        help: "Report in JSON, as rustc does",
+    },
+];
+
+/// What the command line asks for.
+#[derive(Drop)]
+pub enum Invocation<'w> {
+    Run(RunOptions<'w>),
+    /// The help or the version, for standard output.
+    Text(String),
+    /// The error of an invalid command line, in one line.
+    Refused(String),
+}
+
+// ---- the command
+
+fn choices_of<'w>(name: &str) -> &'w [&'w str] {
+    match name {
+        "edition" => EDITIONS.as_slice(),
+        _ => TARGETS.as_slice(),
+    }
+}
+
+// Returns the clap argument of a row. A later use of an option overrides an earlier one.
+fn argument_of<'w>(alloc: Global, row: &'static OptionRow) -> Result<Arg<'w>, AllocError> {
+    let argument = Arg::new(alloc, row.name).long(row.name).help(row.help);
+    match row.value {
+        OptionValue::Flag => argument.action(ArgAction::SetTrue).overrides_with(row.name),
+        OptionValue::Text(name) => argument.value_name(name).overrides_with(row.name),
+        OptionValue::Number(name) => argument
+            .value_name(name)
+            .value_parser(value_parser!(u32))
+            .overrides_with(row.name),
+        OptionValue::Choice(name) => argument
+            .value_name(name)
+            .value_parser(choices_of(row.name))
+            .hide_possible_values(true)
+            .overrides_with(row.name),
+        OptionValue::Optional(name) => argument
+            .value_name(name)
+            .num_args(0..=1)
+            .require_equals(true)
+            .overrides_with(row.name),
+        OptionValue::List(name) => Ok(argument.value_name(name).action(ArgAction::Append)),
+        OptionValue::CommaList(name) => Ok(
+            argument
+                .value_name(name)
+                .action(ArgAction::Append)
+                .value_delimiter(','),
+        ),
+    }
+}
+
+// Returns the command, with an argument for each row, and one for files.
+fn command<'w>(alloc: Global) -> Result<Command<'w>, AllocError> {
+    let mut command = Command::new(alloc, "expandm").version(VERSION).about(ABOUT);
+    for row in &OPTIONS {
+        let argument = argument_of(alloc, row)?;
+        command = command.arg(match row.name {
+            "once" => argument.conflicts_with("depth")?,
+            _ => argument,
+        })?;
+    }
+    let files = Arg::new(alloc, FILES)
+        .required(true)
+        .num_args(1..)
+        .help("Files; the last one is printed. `-` is standard input");
+    command.arg(files)
+}
+
+// ---- errors
+
+// Returns the message of an error of clap in one line, without the usage.
+fn one_line(alloc: Global, text: &str) -> Result<String, AllocError> {
+    let mut line = String::new(alloc);
+    for part in text.split('\n') {
+        let part = part.trim();
+        if part.starts_with("Usage:") || part.starts_with("For more information") {
+            break;
+        }
+        if part.is_empty() {
+            continue;
+        }
+        if !line.is_empty() {
+            line.push_str(if part.starts_with("tip:") { "; " } else { " " })?;
+        }
+        line.push_str(part)?;
+    }
+    Ok(line)
+}
+
+fn refusal<'w>(alloc: Global, error: &Error) -> Result<Invocation<'w>, AllocError> {
+    let text = format!(in alloc; "{error}")?;
+    match error.kind() {
+        ErrorKind::DisplayHelp | ErrorKind::DisplayVersion => Ok(Invocation::Text(text)),
+        ErrorKind::OutOfMemory => Err(AllocError),
+        _ => Ok(Invocation::Refused(one_line(alloc, text.as_str())?)),
+    }
+}
+
+// The error of a value that isn't what the option takes.
+fn invalid(
+    alloc: Global,
+    value: &str,
+    option: &str,
+    expected: &str,
+) -> Result<Option<String>, AllocError> {
+    Ok(Some(format!(in alloc;
+        "error: invalid value '{value}' for '{option}': expected {expected}"
+    )?))
+}
+
+// ---- values
+
+// Parses the value of `--cfg`: `name` or `name="value"`.
+fn parse_cfg(text: &str) -> Option<CfgOption<'_>> {
+    let (name, value) = match text.split_once('=') {
+        Some((name, value)) => (name.trim(), Some(unquote(value.trim())?)),
+        None => (text.trim(), None),
+    };
+    if name.is_empty() {
+        return None;
+    }
+    Some(CfgOption { name, value })
+}
+
+// Returns the text between the quotes.
+fn unquote(text: &str) -> Option<&str> {
+    text.strip_prefix('"')?.strip_suffix('"')
+}
+
+// Parses the value of `--extern`: `name=path`.
+fn parse_extern(text: &str) -> Option<ExternCrate<'_>> {
+    let (name, path) = text.split_once('=')?;
+    if name.is_empty() || path.is_empty() {
+        return None;
+    }
+    Some(ExternCrate { name, path })
+}
+
+// Returns the options that clap has checked, and the defaults of the others.
+fn checked_options<'w>(alloc: Global, matches: &ArgMatches<'w>) -> RunOptions<'w> {
+    let mut options = RunOptions::new(alloc);
+    options.is_test = matches.get_flag("test");
+    options.is_traced = matches.get_flag("trace");
+    options.is_origin_noted = matches.get_flag("origin");
+    options.is_lint = matches.get_flag("lint");
+    options.is_json = matches.get_flag("json");
+    options.with_modules = !matches.get_flag("no-modules");
+    options.write = matches.get_str("write");
+    options.depth = matches.get_one::<u32>("depth");
+    if matches.get_flag("once") {
+        options.depth = Some(1);
+    }
+    if let Some(fuel) = matches.get_one::<u32>("fuel") {
+        options.fuel = fuel;
+    }
+    if let Some(edition) = matches.get_str("edition").and_then(edition) {
+        options.edition = edition;
+    }
+    if let Some(target) = matches.get_str("target").and_then(target) {
+        options.target = target;
+    }
+    options
+}
+
+// Adds the options for `cfg`. Returns the message of an invalid value.
+fn add_cfgs<'w>(
+    alloc: Global,
+    matches: &ArgMatches<'w>,
+    options: &mut RunOptions<'w>,
+) -> Result<Option<String>, AllocError> {
+    let Some(texts) = matches.get_strs("cfg") else {
+        return Ok(None);
+    };
+    for text in texts {
+        let Some(option) = parse_cfg(*text) else {
+            return invalid(
+                alloc,
+                *text,
+                "--cfg <NAME[=\"VALUE\"]>",
+                "`NAME` or `NAME=\"VALUE\"`",
+            );
+        };
+        options.given.push(option)?;
+    }
+    Ok(None)
+}
+
+// Adds the features, and the names of files.
+fn add_names<'w>(matches: &ArgMatches<'w>, options: &mut RunOptions<'w>) -> Result<(), AllocError> {
+    if let Some(features) = matches.get_strs("features") {
+        for feature in features {
+            options.features.push(*feature)?;
+        }
+    }
+    if let Some(files) = matches.get_strs(FILES) {
+        for file in files {
+            options.names.push(*file)?;
+        }
+    }
+    Ok(())
+}
+
+// Adds the external crates. Returns the message of an invalid value, or of a crate that is named
+// twice.
+fn add_externs<'w>(
+    alloc: Global,
+    matches: &ArgMatches<'w>,
+    options: &mut RunOptions<'w>,
+) -> Result<Option<String>, AllocError> {
+    let Some(texts) = matches.get_strs("extern") else {
+        return Ok(None);
+    };
+    for text in texts {
+        let Some(one) = parse_extern(*text) else {
+            return invalid(
+                alloc,
+                *text,
+                "--extern <NAME=PATH>",
+                "a name, `=` and a path",
+            );
+        };
+        if options.externs.iter().any(|other| other.name == one.name) {
+            return invalid(alloc, *text, "--extern <NAME=PATH>", "each crate once");
+        }
+        options.externs.push(one)?;
+    }
+    Ok(None)
+}
+
+// Sets the positions of `--call` and `--explain`. Returns the message of an invalid value.
+fn set_positions<'w>(
+    alloc: Global,
+    matches: &ArgMatches<'w>,
+    options: &mut RunOptions<'w>,
+) -> Result<Option<String>, AllocError> {
+    if let Some(text) = matches.get_str("call") {
+        options.call = CallPosition::read(text);
+        if options.call.is_none() {
+            return invalid(
+                alloc,
+                text,
+                "--call <LINE[:COL]>",
+                "a line, or a line and a column",
+            );
+        }
+    }
+    if matches.contains_id("explain") {
+        options.explain = Some(None);
+    }
+    if let Some(text) = matches.get_str("explain") {
+        let Some(position) = CallPosition::read(text) else {
+            return invalid(
+                alloc,
+                text,
+                "--explain[=<LINE[:COL]>]",
+                "a line, or a line and a column",
+            );
+        };
+        options.explain = Some(Some(position));
+    }
+    Ok(None)
+}
+
+// Returns a run with what clap matched, or the error of an invalid value.
+fn checked_invocation<'w>(
+    alloc: Global,
+    matches: &ArgMatches<'w>,
+) -> Result<Invocation<'w>, AllocError> {
+    let mut options = checked_options(alloc, matches);
+    if let Some(message) = add_cfgs(alloc, matches, &mut options)? {
+        return Ok(Invocation::Refused(message));
+    }
+    if let Some(message) = add_externs(alloc, matches, &mut options)? {
+        return Ok(Invocation::Refused(message));
+    }
+    if let Some(message) = set_positions(alloc, matches, &mut options)? {
+        return Ok(Invocation::Refused(message));
+    }
+    add_names(matches, &mut options)?;
+    Ok(Invocation::Run(options))
+}
+
+/// Parses the arguments, of which the first is the program's name. `AllocError` if out of memory.
+pub fn parse_arguments<'w>(
+    alloc: Global,
+    argv: &'w [String],
+) -> Result<Invocation<'w>, AllocError> {
+    match command(alloc)?.try_get_matches_from(argv) {
+        Ok(matches) => checked_invocation(alloc, &matches),
+        Err(error) => refusal(alloc, &error),
+    }
+}

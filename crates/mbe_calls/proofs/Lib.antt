@@ -1,5 +1,0 @@
-pub mod PartingLemmas
-pub mod PathLemmas
-pub mod SplicingLemmas
-pub mod Renaming
-pub mod Worded

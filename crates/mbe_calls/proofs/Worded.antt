@@ -1,6 +1,0 @@
--- What is looked for in trees whose text would be read otherwise, and that just that is written in its place.
-pub mod NameLemmas
-pub mod SearchLemmas
-pub mod TypeLemmas
-pub mod WordLemmas
-pub mod WrittenLemmas

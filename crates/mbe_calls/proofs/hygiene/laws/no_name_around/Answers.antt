@@ -1,5 +1,0 @@
-use Rattle.mbe_calls.proofs.Renaming.ApartLemmas.{no_name_around}
-use Rattle.mbe_calls.proofs.hygiene.laws.no_name_around.Goals as goal
-
-pub returns : goal.returns
-returns c = no_name_around

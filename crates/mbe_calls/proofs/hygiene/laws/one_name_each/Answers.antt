@@ -1,5 +1,0 @@
-use Rattle.mbe_calls.proofs.Renaming.ApartLemmas.{one_name_each}
-use Rattle.mbe_calls.proofs.hygiene.laws.one_name_each.Goals as goal
-
-pub returns : goal.returns
-returns c = one_name_each

@@ -1,5 +1,0 @@
-use Rattle.std.proofs.Common.{arith}
-use Rattle.mbe_calls.proofs.hygiene.lists.numbered_words.Goals as goal
-
-pub offset_bounds-words-word-index : goal.offset_bounds-words-word-index
-offset_bounds-words-word-index g c = let k = c.loop-word-test.true in omega (arith, k)

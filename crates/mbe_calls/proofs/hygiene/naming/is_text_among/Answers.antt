@@ -1,5 +1,0 @@
-use Rattle.std.proofs.Common.{arith}
-use Rattle.mbe_calls.proofs.hygiene.naming.is_text_among.Goals as goal
-
-pub offset_bounds-names-name-index : goal.offset_bounds-names-name-index
-offset_bounds-names-name-index g c = let k = c.loop-name-test.true in omega (arith, k)

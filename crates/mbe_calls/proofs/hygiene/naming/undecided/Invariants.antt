@@ -1,9 +1,0 @@
-use Rattle.std.proofs.Common.{◌≡◌, ◌++◌, map, drop}
-use Rattle.mbe_calls.specs.Hygiene.Shown.{word_of}
-use Rattle.mbe_calls.specs.Hygiene.Naming as spec
-use Rattle.mbe_calls.proofs.hygiene.naming.undecided.Given as goal
-
-abbrev pub invariant-loop-local : goal.invariant-loop-local
-invariant-loop-local g l =
-    l.found.items ++ spec.undecided_of (map word_of l.words) l.names (map word_of (drop l.local-index l.locals))
-    ≡ spec.undecided_of (map word_of l.words) l.names (map word_of l.locals)

@@ -1,5 +1,0 @@
-use Rattle.mbe_tt.specs.Trees.Tree.{tree_count}
-use Rattle.mbe_cfg.proofs.stripping.after_all.Given as goal
-
-abbrev pub decreases-trees : goal.decreases-trees
-decreases-trees g l = tree_count l.iter

@@ -1,0 +1,3 @@
+-- What the root of a crate exports from other crates.
+pub mod Exports
+pub mod ExportViews

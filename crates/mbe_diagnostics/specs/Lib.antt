@@ -1,0 +1,7 @@
+pub mod Excerpt
+pub mod Outcome
+pub mod SpanAt
+pub mod Diagnostics
+pub mod Json
+pub mod RuleChecks
+pub mod Lints

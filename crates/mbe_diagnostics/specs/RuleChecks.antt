@@ -1,0 +1,7 @@
+-- Checks of the rules of a macro alone, without a call.
+pub mod Variables
+pub mod FollowCheck
+pub mod Findings
+pub mod Equivalence
+pub mod Infallibility
+pub mod UnreachableRules

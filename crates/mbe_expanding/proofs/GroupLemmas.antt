@@ -1,9 +1,0 @@
--- How many groups of a builder are open.
-use Rattle.std.proofs.Common.{◌≡◌, [], ◌∷◌, length, refl}
-use Rattle.mbe_tt.specs.Trees.Tree.{Forest}
-use Rattle.mbe_tt.specs.Buffers.Building.{Levels, put}
-
--- trees open none
-pub length_put : (f : Forest) (b : Levels) → length (put f b) ≡ length b
-length_put f [] = refl
-length_put f (g ∷ outer) = refl

@@ -1,4 +1,0 @@
-pub mod SpanLemmas
-pub mod ExcerptLemmas
-pub mod RuleLemmas
-pub mod LintLemmas

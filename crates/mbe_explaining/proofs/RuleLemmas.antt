@@ -1,4 +1,0 @@
--- What can be said of the rules of a macro alone: lemmas.
-pub mod Loops
-pub mod Sizes
-pub mod Sure

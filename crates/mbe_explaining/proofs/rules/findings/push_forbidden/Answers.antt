@@ -1,5 +1,0 @@
-use Rattle.std.proofs.Common.{arith}
-use Rattle.mbe_explaining.proofs.rules.findings.push_forbidden.Goals as goal
-
-pub offset_bounds-all-one-index : goal.offset_bounds-all-one-index
-offset_bounds-all-one-index g c = let k = c.loop-one-test.true in omega (arith, k)

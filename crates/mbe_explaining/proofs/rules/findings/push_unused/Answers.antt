@@ -1,5 +1,0 @@
-use Rattle.std.proofs.Common.{arith}
-use Rattle.mbe_explaining.proofs.rules.findings.push_unused.Goals as goal
-
-pub offset_bounds-bound-one-index : goal.offset_bounds-bound-one-index
-offset_bounds-bound-one-index g c = let k = c.loop-one-test.true in omega (arith, k)

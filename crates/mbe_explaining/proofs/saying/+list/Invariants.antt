@@ -1,5 +1,0 @@
-use Rattle.std.proofs.Common.{length}
-use Rattle.mbe_explaining.proofs.saying.+list.Given as goal
-
-abbrev pub decreases-list : goal.decreases-list
-decreases-list g l = length l.parts.now

@@ -1,9 +1,0 @@
--- What a definition that is read shows, whatever memory holds it.
-use Rattle.std.specs.Prelude.{option_map}
-use Rattle.mbe_ops.specs.Errors.ErrorViews.{parse_error_of}
-use Rattle.mbe_parser.specs.RuleViews.{rules_seen}
-use Rattle.mbe_semantics.specs.Expansion.Macro.{Macro}
-use Rattle.mbe_explaining.specs.declared.lints.reading.ReadMacro as code
-
-abbrev pub macro_read : {A : Type 0} → code.ReadMacro A → Macro
-macro_read r = record { rules = rules_seen r.rules.items; err = option_map parse_error_of r.err }

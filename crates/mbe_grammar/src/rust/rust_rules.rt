@@ -1,0 +1,47 @@
+// Rust's grammar of fragments: the table of rules, the keywords, and the rules of the entry points.
+ghost use Rattle.std.specs.Prelude.{◌≡◌, true};
+ghost use Rattle.mbe_grammar.specs.Rust.Closed.{all_defined};
+ghost use Rattle.mbe_grammar.specs.Rust.Starts.{rust_entry_rules};
+ghost use Rattle.mbe_grammar.specs.Rust.Keywords.{rust_keywords, rows};
+
+use crate::rust::keywords::KEYWORDS;
+use crate::rust::nodes::NODES;
+use crate::rust::positions::{
+    BLOCK, EXPR_FRAGMENT, ITEM, META, PAT_FRAGMENT, PAT_TOP_FRAGMENT, STMT, TYPE, TYPE_PATH, VIS,
+};
+use crate::tables::peg_table::{EntryRules, RuleTable};
+use mbe_tt::span::Edition;
+
+/// The grammar of Rust's fragments, for the editions from 2015 to 2024. Where a rule depends on the
+/// edition, the edition is that of the span's syntax context: `editions[n]` for context `n`, and
+/// `edition` for contexts that the list doesn't have. Each rule names rules that exist.
+///
+/// For each text that rustc accepts, a fragment has as many trees as in rustc 1.95. Groups are
+/// consumed whole: only the content of `pub (..)` and of a bound's `[const]` is looked at.
+/// `rust.peg` is the same grammar in a readable form.
+pub fn rust_rules(edition: Edition, editions: &[Edition]) -> RuleTable<'_>
+    ensures keywords { rows result.keywords.now ≡ rust_keywords }
+    ensures starts { result.starts ≡ rust_entry_rules }
+    ensures edition { result.edition ≡ edition }
+    ensures editions { result.editions.now ≡ editions.now }
+    ensures closed { all_defined result.nodes.now ≡ true }
+{
+    RuleTable {
+        nodes: NODES,
+        keywords: KEYWORDS,
+        starts: EntryRules {
+            path: TYPE_PATH,
+            expr: EXPR_FRAGMENT,
+            ty: TYPE,
+            pat_top: PAT_TOP_FRAGMENT,
+            pat: PAT_FRAGMENT,
+            stmt: STMT,
+            block: BLOCK,
+            meta: META,
+            item: ITEM,
+            vis: VIS,
+        },
+        edition,
+        editions,
+    }
+}

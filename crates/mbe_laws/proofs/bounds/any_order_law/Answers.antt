@@ -1,5 +1,0 @@
-use Rattle.mbe_laws.proofs.Orders.OrderLemmas.{any_order_law}
-use Rattle.mbe_laws.proofs.bounds.any_order_law.Goals as goal
-
-pub returns : goal.returns
-returns c = any_order_law

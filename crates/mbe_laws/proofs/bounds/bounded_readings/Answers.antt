@@ -1,5 +1,0 @@
-use Rattle.mbe_laws.proofs.Run.BoundedRun.{bounded_readings}
-use Rattle.mbe_laws.proofs.bounds.bounded_readings.Goals as goal
-
-pub returns : goal.returns
-returns c = bounded_readings

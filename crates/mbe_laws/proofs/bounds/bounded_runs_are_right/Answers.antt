@@ -1,5 +1,0 @@
-use Rattle.mbe_laws.proofs.Run.BoundedRun.{bounded_runs_are_right}
-use Rattle.mbe_laws.proofs.bounds.bounded_runs_are_right.Goals as goal
-
-pub returns : goal.returns
-returns c = bounded_runs_are_right

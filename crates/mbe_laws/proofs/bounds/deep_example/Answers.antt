@@ -1,5 +1,0 @@
-use Rattle.mbe_laws.proofs.Run.ExampleLemmas.{deep_example}
-use Rattle.mbe_laws.proofs.bounds.deep_example.Goals as goal
-
-pub returns : goal.returns
-returns c = deep_example

@@ -1,5 +1,0 @@
-use Rattle.mbe_laws.proofs.Orders.DropLemmas.{drops_law}
-use Rattle.mbe_laws.proofs.bounds.drops_law.Goals as goal
-
-pub returns : goal.returns
-returns c = drops_law

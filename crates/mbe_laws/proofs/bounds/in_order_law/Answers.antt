@@ -1,5 +1,0 @@
-use Rattle.mbe_laws.proofs.Orders.OrderLemmas.{in_order_law}
-use Rattle.mbe_laws.proofs.bounds.in_order_law.Goals as goal
-
-pub returns : goal.returns
-returns c = in_order_law

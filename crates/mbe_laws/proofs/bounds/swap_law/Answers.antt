@@ -1,5 +1,0 @@
-use Rattle.mbe_laws.proofs.Reports.BackwardLemmas.{swap_law}
-use Rattle.mbe_laws.proofs.bounds.swap_law.Goals as goal
-
-pub returns : goal.returns
-returns c = swap_law

@@ -1,5 +1,0 @@
-use Rattle.mbe_laws.proofs.Expansion.FromTreesLemmas.{expands_from_trees}
-use Rattle.mbe_laws.proofs.marking.expands_from_trees.Goals as goal
-
-pub returns : goal.returns
-returns g c = expands_from_trees _ _

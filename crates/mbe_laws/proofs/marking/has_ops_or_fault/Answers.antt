@@ -1,5 +1,0 @@
-use Rattle.mbe_laws.proofs.Definitions.HeadLemmas.{has_ops_or_fault}
-use Rattle.mbe_laws.proofs.marking.has_ops_or_fault.Goals as goal
-
-pub returns : goal.returns
-returns g c = has_ops_or_fault _

@@ -1,5 +1,0 @@
-use Rattle.mbe_laws.proofs.Definitions.TemplateLemmas.{one_definition}
-use Rattle.mbe_laws.proofs.marking.one_definition.Goals as goal
-
-pub returns : goal.returns
-returns g c = one_definition _

@@ -1,5 +1,0 @@
-use Rattle.mbe_laws.proofs.Definitions.TemplateLemmas.{ops_or_fault}
-use Rattle.mbe_laws.proofs.marking.ops_or_fault.Goals as goal
-
-pub returns : goal.returns
-returns g c = ops_or_fault _

@@ -1,5 +1,0 @@
-use Rattle.mbe_laws.proofs.Writing.SpanLemmas.{spans_have_sources}
-use Rattle.mbe_laws.proofs.marking.spans_have_sources.Goals as goal
-
-pub returns : goal.returns
-returns g c = spans_have_sources _

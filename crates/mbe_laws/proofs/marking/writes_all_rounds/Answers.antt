@@ -1,5 +1,0 @@
-use Rattle.mbe_laws.proofs.Writing.LawLemmas.{writes_all_rounds}
-use Rattle.mbe_laws.proofs.marking.writes_all_rounds.Goals as goal
-
-pub returns : goal.returns
-returns g c = writes_all_rounds _

@@ -1,0 +1,8 @@
+use Rattle.std.proofs.Common.{◌∙◌}
+use Rattle.mbe_semantics.specs.Syntax.Op as ops
+use Rattle.mbe_matcher.proofs.Widths.{token_width}
+use Rattle.mbe_matcher.proofs.token_widths.puncts_width.Goals as goal
+
+pub returns : goal.returns
+returns g c = c.width_to.ensures ∙ token_width c.eat_puncts-passed.result (ops.puncts c.args.puncts.now) c.args.src.now
+    _ (rw c.fork-ahead.ensures at c.eat_puncts-passed.ensures)

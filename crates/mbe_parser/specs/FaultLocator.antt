@@ -1,0 +1,7 @@
+-- The offset at which a definition is refused.
+pub mod OpHeads
+pub mod OpBodies
+pub mod FaultOffsets
+pub mod RuleTrees
+pub mod RefusedRepetitions
+pub mod Refusals

@@ -1,8 +1,0 @@
-use Rattle.std.proofs.Common.{◌≡◌, map, take}
-use Rattle.mbe_matcher.specs.Matched.{verdict_seen}
-use Rattle.mbe_program.specs.Replies.Calls.{flat_verdict}
-use Rattle.mbe_program.proofs.replies.calls.flat_verdicts.Given as goal
-
-abbrev pub invariant-loop-verdict : goal.invariant-loop-verdict
-invariant-loop-verdict g l =
-    l.flat.items ≡ map (λ v. flat_verdict (verdict_seen v)) (take l.verdict-index l.verdicts)

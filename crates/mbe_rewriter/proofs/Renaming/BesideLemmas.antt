@@ -1,0 +1,42 @@
+-- A word that doesn't concern a local is no doubt of it, and after it the local is as it was.
+use Rattle.std.proofs.Common.{◌≡◌, ℕ, false, refl}
+use Rattle.std.specs.Prelude.{◌==◌}
+use Rattle.std.proofs.Math.Bool.{and-false}
+use Rattle.mbe_rewriter.specs.declared.hygiene.local_names.BindingState.{BindingState}
+use Rattle.mbe_rewriter.specs.declared.hygiene.local_names.BindingState.TheVariants.{Unbound, Later, Bound}
+use Rattle.mbe_rewriter.specs.declared.hygiene.scan_state.TokenRole.{TokenRole}
+use Rattle.mbe_rewriter.specs.declared.hygiene.scan_state.TokenRole.TheVariants as roles
+use Rattle.mbe_rewriter.specs.Hygiene.LocalNames.{Word, context, is_same, is_same_namespace, is_inner, is_undecided_use}
+use Rattle.mbe_rewriter.specs.Hygiene.LocalNames.{is_edge, is_relevant, later, after_word}
+use Rattle.mbe_rewriter.proofs.Renaming.SameLemmas.{neither_left, neither_right}
+
+other_context : (w v : Word) → is_relevant w v ≡ false → (context w == context v) ≡ false
+other_context w v h = neither_left (context w == context v) (is_edge v.role) h
+
+not_same : (w v : Word) → is_relevant w v ≡ false → is_same w v ≡ false
+not_same w v h = rw (other_context w v h) (and-false (is_same_namespace w.role v.role))
+
+pub no_doubt : (w : Word) (p : BindingState) (v : Word) → is_relevant w v ≡ false → is_undecided_use w p v ≡ false
+no_doubt w p v h =
+    rw (other_context w v h) (rw (and-false (is_same_namespace w.role v.role)) (and-false (is_inner v.role w.role)))
+
+stays_later : (n : ℕ) (r : TokenRole) → is_edge r ≡ false → later n false r ≡ Later n
+stays_later n roles.Other h = refl
+stays_later n roles.Used h = refl
+stays_later n roles.Bound h = refl
+stays_later n roles.Late h = refl
+stays_later n roles.Shorthand h = refl
+stays_later n roles.Unsure h = refl
+stays_later n roles.Label h = refl
+stays_later n roles.Jump h = refl
+stays_later n roles.Text h = refl
+stays_later n roles.Inner h = refl
+stays_later n roles.InnerLabel h = refl
+stays_later n roles.Begin h = cc
+stays_later n roles.End h = cc
+
+pub as_before : (w : Word) (p : BindingState) (v : Word) → is_relevant w v ≡ false → after_word w p v ≡ p
+as_before w Unbound v h = rw (not_same w v h) refl
+as_before w (Later n) v h =
+    rw (not_same w v h) (stays_later n v.role (neither_right (context w == context v) (is_edge v.role) h))
+as_before w Bound v h = refl

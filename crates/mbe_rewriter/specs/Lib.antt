@@ -1,0 +1,9 @@
+pub mod Surroundings
+pub mod MacroItems
+pub mod PunctSpacing
+pub mod ReplacementViews
+pub mod MacroItemViews
+pub mod Splice
+pub mod AttributedCalls
+pub mod Hygiene
+pub mod WholeFragments

@@ -1,0 +1,14 @@
+pub mod NestedExpansion
+pub mod CallExpansion
+pub mod CfgFaults
+pub mod Collector
+pub mod Explanation
+pub mod Faults
+pub mod Adjustment
+pub mod Linker
+pub mod CfgFront
+pub mod CallReplacements
+pub mod Scopes
+pub mod SessionViews
+pub mod BindingText
+pub mod Imports

@@ -1,0 +1,232 @@
+-- The scope of macros: the definitions that were read, and which of them a call resolves to.
+use Rattle.std.specs.Prelude.{◌≡◌, ℕ, zero, suc, Bool, true, false, not, ◌&&◌, ◌==◌, ◌-◌}
+use Rattle.std.specs.Prelude.{if◌then◌else◌, nat_le, nat_lt, List, [], ◌∷◌, ◌++◌, length, take}
+use Rattle.std.specs.Prelude.{Option, Some, None, option_map, option_and_then}
+use Rattle.std.specs.List.{list_any, slice_get}
+use Rattle.std.specs.Option.{option_or}
+use Rattle.std.specs.Str.{bytes_eq}
+use Rattle.mbe_tt.specs.declared.span.Edition.{Edition}
+use Rattle.mbe_tt.specs.declared.span.Span.{Span}
+use Rattle.mbe_tt.specs.declared.span.SyntaxContext.{SyntaxContext}
+use Rattle.mbe_semantics.specs.Expansion.Macro.{Macro}
+use Rattle.mbe_semantics.specs.Expansion.ParsedMacro.{IsParsedRules, IsParsedMacro}
+use Rattle.mbe_rewriter.specs.MacroItems.{MacroCall, DefinitionForm, Rules, Body, Arguments}
+use Rattle.mbe_rewriter.specs.MacroItems.{MacroDefinition}
+use Rattle.mbe_rewriter.specs.Hygiene.Contexts.{contexts_in}
+use Rattle.mbe_rewriter.specs.WholeFragments.VariableParentheses.{parenthesized, parenthesize_rules}
+use Rattle.mbe_session.specs.declared.scope.Visibility.{Visibility}
+use Rattle.mbe_session.specs.declared.scope.Visibility.TheVariants.{Text, Files, Paths, Crates}
+
+-- A definition: its name, its rules, the contexts of its tokens, what it is found by, and the span
+-- of its name.
+pub record Definition : Type 0 where
+  pub name : List ℕ
+  pub rules : Macro
+  pub contexts : List ℕ
+  pub visibility : Visibility
+  pub place : Span
+
+-- Definitions of another crate: the name of the crate, the number of the first definition, and how
+-- many follow each other from there on.
+pub record CrateDefinitions : Type 0 where
+  pub name : List ℕ
+  pub first : ℕ
+  pub count : ℕ
+
+-- A scope: the definitions that were read, in order; the numbers of those that are visible at
+-- present, the latest last; and the definitions of other crates.
+pub record Scope : Type 0 where
+  pub definitions : List Definition
+  pub visible : List ℕ
+  pub crates : List CrateDefinitions
+
+-- The definition of that number.
+abbrev pub definition_at : Scope → ℕ → Option Definition
+definition_at s n = slice_get s.definitions n
+
+-- ---- reading
+
+-- Every context is of that edition.
+abbrev pub IsEdition : Edition → SyntaxContext → Edition → Type 0
+IsEdition edition context answer = answer ≡ edition
+
+-- What a definition of a form is read as. Types and receivers are in parentheses where their text
+-- would be read otherwise.
+abbrev pub IsReadIn : Edition → DefinitionForm → MacroDefinition → Macro → Type 0
+IsReadIn edition Rules d m = IsParsedRules (IsEdition edition) (parenthesize_rules d.rules) m
+IsReadIn edition Body d m = IsParsedMacro (IsEdition edition) None (parenthesize_rules d.rules) m
+IsReadIn edition (Arguments k pattern) d m =
+    IsParsedMacro (IsEdition edition) (Some pattern) (parenthesized pattern d.rules) m
+
+-- A scope with one definition more, which isn't visible yet.
+pub record IsRead (edition : Edition) (d : MacroDefinition) (visibility : Visibility)
+    (before after : Scope) : Type 0 where
+  pub rules : Macro
+  pub read : IsReadIn edition d.form d rules
+  pub definitions : after.definitions
+      ≡ before.definitions ++ (record {
+        name = d.name.sym;
+        rules = rules;
+        contexts = contexts_in d.rules;
+        visibility = visibility;
+        place = d.name.span;
+      }) ∷ []
+  pub visible : after.visible ≡ before.visible
+  pub crates : after.crates ≡ before.crates
+
+-- ---- other crates
+
+abbrev pub is_within : ℕ → CrateDefinitions → Bool
+is_within n c = nat_le c.first n && nat_lt (n - c.first) c.count
+
+abbrev pub is_named : List ℕ → ℕ → CrateDefinitions → Bool
+is_named name n c = bytes_eq c.name name && is_within n c
+
+abbrev pub contains_both : ℕ → ℕ → CrateDefinitions → Bool
+contains_both m n c = is_within m c && is_within n c
+
+-- Whether that definition is another crate's.
+abbrev pub is_extern : List CrateDefinitions → ℕ → Bool
+is_extern crates n = list_any (is_within n) crates
+
+-- Whether it is one of the crate of that name.
+abbrev pub is_in_crate : List ℕ → List CrateDefinitions → ℕ → Bool
+is_in_crate crate crates n = list_any (is_named crate n) crates
+
+-- Whether two definitions are of the same other crate.
+abbrev pub is_in_same_crate : ℕ → List CrateDefinitions → ℕ → Bool
+is_in_same_crate m crates n = list_any (contains_both m n) crates
+
+-- Among which definitions a lookup searches: those that are no other crate's, those of all other
+-- crates, those of the crate of that name, or those of all other crates except the one of a
+-- definition.
+pub data CrateFilter : Type 0 where
+  Own : CrateFilter
+  Others : CrateFilter
+  Crate : List ℕ → CrateFilter
+  ExceptCrateOf : ℕ → CrateFilter
+
+abbrev pub is_admitted : List CrateDefinitions → CrateFilter → ℕ → Bool
+is_admitted crates Own n = not (is_extern crates n)
+is_admitted crates Others n = is_extern crates n
+is_admitted crates (Crate name) n = is_in_crate name crates n
+is_admitted crates (ExceptCrateOf m) n = is_extern crates n && not (is_in_same_crate m crates n)
+
+-- The definitions from the number `first` on are those of the crate of that name.
+abbrev pub with_crate : List ℕ → ℕ → Scope → Scope
+with_crate name first s = record s {
+  crates = s.crates ++ (record {
+    name = name;
+    first = first;
+    count = length s.definitions - first;
+  }) ∷ [];
+}
+
+-- ---- lookup
+
+-- The last number below `n` that passes the test.
+unfoldable pub last_below : (ℕ → Bool) → ℕ → Option ℕ
+last_below p zero = None
+last_below p (suc n) = if p n then Some n else last_below p n
+
+-- A name that finds no other definition finds all but those that only their group sees.
+abbrev pub is_wide : Visibility → Bool
+is_wide Text = false
+is_wide Files = true
+is_wide Paths = true
+is_wide Crates = true
+
+abbrev pub is_public : Visibility → Bool
+is_public Text = false
+is_public Files = false
+is_public Paths = true
+is_public Crates = true
+
+-- Other crates find definitions that are exported, and `macro` items.
+abbrev pub is_offered : Visibility → Bool
+is_offered Text = false
+is_offered Files = false
+is_offered Paths = false
+is_offered Crates = true
+
+-- Whether a lookup of the first kind finds a definition with the second reach.
+abbrev pub permits : Visibility → Visibility → Bool
+permits Text r = true
+permits Files r = is_wide r
+permits Paths r = is_public r
+permits Crates r = is_offered r
+
+-- Whether a definition has that name, and a lookup of the kind `asked` finds it.
+abbrev pub is_found : List ℕ → Visibility → Option Definition → Bool
+is_found name asked None = false
+is_found name asked (Some d) = permits asked d.visibility && bytes_eq d.name name
+
+-- The number of the last definition with that name which the lookup finds.
+abbrev pub last_found : CrateFilter → Scope → Visibility → List ℕ → Option ℕ
+last_found crate_filter s asked name =
+    last_below (λ n. is_admitted s.crates crate_filter n
+    && is_found name asked (definition_at s n)) (length s.definitions)
+
+abbrev pub unless_rival : ℕ → Option ℕ → Option ℕ
+unless_rival m None = Some m
+unless_rival m (Some n) = None
+
+-- The number of the definition that another crate offers by that name, if only one crate does.
+abbrev pub unique_extern : Scope → List ℕ → Option ℕ
+unique_extern s name =
+    option_and_then (λ n. unless_rival n (last_found (ExceptCrateOf n) s Crates name))
+    (last_found Others s Crates name)
+
+-- The definition at that index of those that are visible.
+abbrev pub visible_at : Scope → ℕ → Option Definition
+visible_at s n = option_and_then (definition_at s) (slice_get s.visible n)
+
+-- The number of the last visible definition of that name.
+abbrev pub last_visible : Scope → List ℕ → Option ℕ
+last_visible s name = option_and_then (slice_get s.visible)
+    (last_below (λ n. is_found name Text (visible_at s n)) (length s.visible))
+
+-- Resolves a path, to the last definition by that name which the crate at its start offers; else to
+-- the last one of no other crate that paths find.
+abbrev pub resolve_path : Scope → List ℕ → List ℕ → Option ℕ
+resolve_path s crate name =
+    option_or (last_found (Crate crate) s Crates name) (last_found Own s Paths name)
+
+-- Resolves a name, to the last visible definition; else to the last one that names find in all
+-- files; else to the one that another crate offers.
+abbrev pub resolve_name : Scope → List ℕ → Option ℕ
+resolve_name s name =
+    option_or (last_visible s name) (option_or (last_found Own s Files name) (unique_extern s name))
+
+-- The number of the definition that a call resolves to.
+abbrev pub resolve : Scope → MacroCall → Option ℕ
+resolve s c = if c.is_path then resolve_path s c.first.sym c.name.sym else resolve_name s c.name.sym
+
+-- The contexts of the tokens of the macro that a call names.
+abbrev pub contexts_found : Scope → MacroCall → Option (List ℕ)
+contexts_found s c = option_map (λ d. d.contexts) (option_and_then (definition_at s) (resolve s c))
+
+-- The rules of the macro that a call names.
+abbrev pub rules_found : Scope → MacroCall → Option Macro
+rules_found s c = option_map (λ d. d.rules) (option_and_then (definition_at s) (resolve s c))
+
+-- ---- spans
+
+-- Whether the name of a definition begins there.
+abbrev pub is_placed : Span → Option Definition → Bool
+is_placed place None = false
+is_placed place (Some d) = d.place.file == place.file && d.place.start == place.start
+
+-- The number of the definition whose name begins there.
+abbrev pub placed : Scope → Span → Option ℕ
+placed s place = last_below (λ n. is_placed place (definition_at s n)) (length s.definitions)
+
+-- ---- groups
+
+-- That definition is visible from here on.
+abbrev pub with_shown : ℕ → Scope → Scope
+with_shown n s = record s { visible = s.visible ++ n ∷ [] }
+
+-- Only the first `mark` definitions stay visible: those from before a group.
+abbrev pub with_left : ℕ → Scope → Scope
+with_left mark s = record s { visible = take mark s.visible }

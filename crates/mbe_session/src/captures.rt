@@ -1,0 +1,222 @@
+// Notes captures: names that hygiene keeps apart, but that the text of an expansion would bring
+// together.
+//
+// The call's argument binds one of them, and the macro uses the other where the first is bound. (A
+// name that the macro binds is renamed instead.) The span of a token tells where it is from,
+// because the tokens of the argument keep their spans. What isn't surely a binding or a use is left
+// out.
+ghost use Rattle.std.specs.Prelude.{◌≡◌, OnOk};
+ghost use Rattle.mbe_session.specs.SessionViews.{setting_of, state_of};
+
+mod pattern_scope;
+
+use crate::file_expander::FileExpander;
+use crate::notes::{Level, Note};
+use mbe_rewriter::macro_items::MacroCall;
+use mbe_tt::span::Span;
+use mbe_tt::tt::{DelimiterKind, Ident, Leaf, TokenTreesView, TopSubtree, TtElement};
+use pattern_scope::{PatternScope, is_bound, is_rebound, is_used, scope_at, scope_end};
+use std::alloc::{AllocError, Allocator};
+
+// A token of an expansion. A group is two tokens, an opening and a closing delimiter.
+#[derive(Drop)]
+pub(crate) enum Token<'t, A: Allocator> {
+    Name(&'t Ident<A>),
+    Punct(char),
+    Open(DelimiterKind),
+    Close,
+    Literal,
+}
+
+// A name that the argument binds, and the span where the macro uses it.
+#[derive(Drop)]
+#[derive_where(Clone, Copy)]
+struct Capture<'t, A: Allocator> {
+    name: &'t Ident<A>,
+    used: Span,
+}
+
+// Returns the tokens of trees, one after another.
+fn tokens_of<'t, A: Allocator + Copy>(
+    alloc: A,
+    trees: TokenTreesView<'t, A>,
+) -> Result<Vec<Token<'t, A>, A>, AllocError> {
+    let mut tokens = Vec::new(alloc);
+    let mut cursor = trees.cursor();
+    for _ in 0..trees.flat_len() {
+        tokens.push(match cursor.token_tree() {
+            Some(TtElement::Leaf(Leaf::Ident(ident))) => Token::Name(ident),
+            Some(TtElement::Leaf(Leaf::Punct(punct))) => Token::Punct(punct.char),
+            Some(TtElement::Leaf(Leaf::Literal(_))) => Token::Literal,
+            Some(TtElement::Subtree(group, _)) => Token::Open(group.delimiter.kind),
+            None => Token::Close,
+        })?;
+        cursor.bump_or_end();
+    }
+    Ok(tokens)
+}
+
+// Returns a number for where a token begins: its file and its byte.
+fn span_key(span: Span) -> u64 {
+    (span.file as u64) << 32 | span.start as u64
+}
+
+// Returns the numbers of the names of an argument, sorted.
+fn span_keys<A: Allocator + Copy>(
+    alloc: A,
+    argument: TokenTreesView<'_, A>,
+) -> Result<Vec<u64, A>, AllocError> {
+    let mut places = Vec::new(alloc);
+    for token in &tokens_of(alloc, argument)? {
+        if let Token::Name(name) = token {
+            places.push(span_key(name.span))?;
+        }
+    }
+    places.sort_unstable();
+    Ok(places)
+}
+
+// Whether a name is from the argument whose names have these numbers.
+fn is_from_argument<A: Allocator>(places: &[u64], name: &Ident<A>) -> bool {
+    places.binary_search(&span_key(name.span)).is_ok()
+}
+
+// Returns the first use of a name by the macro where the argument binds it, if it isn't bound again
+// before.
+fn first_use<A: Allocator>(
+    tokens: &[Token<'_, A>],
+    places: &[u64],
+    binding: PatternScope,
+    name: &Ident<A>,
+) -> Option<Span> {
+    for at in binding.scope_from..scope_end(tokens, binding) {
+        if let Some(Token::Name(found)) = tokens.get(at)
+            && found.sym.as_str() == name.sym.as_str()
+        {
+            if is_rebound(tokens, at) {
+                return None;
+            }
+            if !is_from_argument(places, found) && is_used(tokens, at) {
+                return Some(found.span);
+            }
+        }
+    }
+    None
+}
+
+// Returns the names of the macro, sorted.
+fn macro_names<'t, A: Allocator + Copy>(
+    alloc: A,
+    tokens: &[Token<'t, A>],
+    places: &[u64],
+) -> Result<Vec<&'t str, A>, AllocError> {
+    let mut names = Vec::new(alloc);
+    for token in tokens {
+        if let Token::Name(name) = token
+            && !is_from_argument(places, name)
+        {
+            names.push(name.sym.as_str())?;
+        }
+    }
+    names.sort_unstable();
+    Ok(names)
+}
+
+// The tokens of an expansion, the numbers of the names of its argument, and the names of the macro.
+#[derive(Drop)]
+struct ExpansionTokens<'t, A: Allocator> {
+    tokens: Vec<Token<'t, A>, A>,
+    places: Vec<u64, A>,
+    names: Vec<&'t str, A>,
+}
+
+// Whether a name is from the argument, and the macro has the same name.
+fn is_shared<A: Allocator>(texts: &ExpansionTokens<'_, A>, name: &Ident<A>) -> bool {
+    let names = texts.names.as_slice();
+    is_from_argument(texts.places.as_slice(), name)
+        && names.binary_search(&name.sym.as_str()).is_ok()
+}
+
+// Adds the names of the argument that a pattern binds and the macro uses.
+fn add_captures<'t, A: Allocator>(
+    captures: &mut Vec<Capture<'t, A>, A>,
+    texts: &ExpansionTokens<'t, A>,
+    binding: PatternScope,
+) -> Result<(), AllocError> {
+    let tokens = texts.tokens.as_slice();
+    let places = texts.places.as_slice();
+    for at in binding.from..binding.to {
+        if let Some(Token::Name(name)) = tokens.get(at)
+            && is_bound(tokens, at)
+            && is_shared(texts, name)
+            && let Some(used) = first_use(tokens, places, binding, name)
+        {
+            captures.push(Capture { name, used })?;
+        }
+    }
+    Ok(())
+}
+
+// Notes a captured name where it is used, and where it is bound.
+fn note_capture<A: Allocator + Copy>(
+    alloc: A,
+    notes: &mut Vec<Note<A>, A>,
+    called: &str,
+    capture: Capture<'_, A>,
+) -> Result<(), AllocError> {
+    let name = capture.name.sym.as_str();
+    notes.push(Note {
+        level: Level::Note,
+        span: capture.used,
+        message: format!(in alloc;
+            "in the expansion of `{called}!` this `{name}` is the one that the call binds"
+        )?,
+    })?;
+    notes.push(Note {
+        level: Level::Note,
+        span: capture.name.span,
+        message: format!(in alloc; "`{name}` is bound here")?,
+    })?;
+    Ok(())
+}
+
+// Notes the names that the argument of a call binds and the macro uses.
+fn note_all<A: Allocator + Copy>(
+    alloc: A,
+    notes: &mut Vec<Note<A>, A>,
+    call: MacroCall<'_, A>,
+    tree: &TopSubtree<A>,
+) -> Result<(), AllocError> {
+    let tokens = tokens_of(alloc, tree.iter().remaining())?;
+    let places = span_keys(alloc, call.argument)?;
+    let names = macro_names(alloc, tokens.as_slice(), places.as_slice())?;
+    let texts = ExpansionTokens {
+        tokens,
+        places,
+        names,
+    };
+    let mut captures = Vec::new(alloc);
+    for at in 0..texts.tokens.len() {
+        if let Some(binding) = scope_at(texts.tokens.as_slice(), at) {
+            add_captures(&mut captures, &texts, binding)?;
+        }
+    }
+    for capture in &captures {
+        note_capture(alloc, notes, call.name.sym.as_str(), *capture)?;
+    }
+    Ok(())
+}
+
+impl<A: Allocator + Copy> FileExpander<'_, A> {
+    // Notes the captures in the expansion of a call.
+    pub(crate) fn note_captures(
+        &mut self,
+        call: MacroCall<'_, A>,
+        tree: &TopSubtree<A>,
+    ) -> Result<(), AllocError>
+        ensures setting { OnOk result (setting_of self.new ≡ setting_of self.old) }
+        ensures state { OnOk result (state_of self.new ≡ state_of self.old) }
+    {
+        note_all(self.alloc, &mut self.notes, call, tree)
+    }
+}

@@ -1,0 +1,292 @@
+// Explains a call: for each rule of its macro, where the match stops and what the rule expects
+// there, or what its variables are bound to.
+ghost use Rattle.std.specs.Prelude.{◌≡◌, ◌++◌, ◌<◌, IfOk, OnOk, length, map};
+ghost use Rattle.std.specs.String.{string_bytes};
+ghost use Rattle.mbe_semantics.specs.Expansion.Macro.{IsChecked};
+ghost use Rattle.mbe.specs.MacroViews.{macro_of};
+ghost use Rattle.mbe_rewriter.specs.MacroItemViews.{call_shown};
+ghost use Rattle.mbe_diagnostics.specs.Outcome.{part_seen, outcome_seen};
+ghost use Rattle.mbe_semantics.specs.Readings.Verdict.{many_readings};
+ghost use Rattle.mbe.specs.RuleExplanation.{Explains};
+ghost use Rattle.mbe_matcher.specs.Readings.Views.{divergence_seen};
+ghost use Rattle.mbe_session.specs.Explanation as spec;
+ghost use Rattle.mbe_session.specs.Explanation.{NotesRules, ExplainsRules, HasOutcome};
+ghost use Rattle.mbe_session.specs.Explanation.{DivergesThere, selects};
+ghost use Rattle.mbe_session.specs.Explanation.{note_seen, explanation_seen};
+ghost use Rattle.mbe_session.specs.SessionViews.{setting_of, state_of};
+ghost use Rattle.mbe_session.specs.BindingText.{binding_text_seen};
+
+use crate::binding_text::{BindingText, rule_binding_texts};
+use crate::file_expander::FileExpander;
+use crate::notes::{Level, Note};
+use mbe::DeclarativeMacro;
+use mbe_diagnostics::outcome::{
+    MatchOutcome, diverging_outcome, match_outcome, message, message_parts,
+};
+use mbe_diagnostics::rule_part::RulePart;
+use mbe_matcher::matcher::Verdict;
+use mbe_matcher::readings::divergence::{Divergence, first_divergence};
+use mbe_rewriter::macro_items::MacroCall;
+use mbe_tt::grammar::FragmentGrammar;
+use mbe_tt::tt::TopSubtree;
+use std::alloc::{AllocError, Allocator, Global};
+
+/// The explanation of a call by one rule. Clauses see it by `explanation_seen`.
+#[derive(Drop)]
+pub struct RuleExplanation<A: Allocator = Global> {
+    pub outcome: MatchOutcome<A>,
+    /// What the variables of the rule are bound to, if it matches.
+    pub matched: Vec<BindingText<A>, A>,
+}
+
+// Returns where two readings of an argument by the rule with this index first diverge, and by what
+// they go on.
+fn divergence_of<'a, A: Allocator + Copy, G: FragmentGrammar>(
+    alloc: A,
+    grammar: &G,
+    rules: &'a DeclarativeMacro<A>,
+    argument: &'a TopSubtree<A>,
+    index: usize,
+) -> Result<Divergence<'a, A>, AllocError>
+    requires rule { index < length (macro_of rules.now).rules }
+    requires several { Explains (G.grammar grammar.now) (macro_of rules.now).rules argument.now.1
+        index many_readings }
+    ensures { IfOk result (λ p. DivergesThere (G.grammar grammar.now) (macro_of rules.now).rules
+        argument.now.1 index (divergence_seen p)) }
+{
+    let pattern = rules.pattern(index);
+    let tokens = argument.iter().remaining();
+    let Some(divergence) = first_divergence(alloc, grammar, pattern, tokens)? else {
+        unreachable!()
+    };
+    Ok(divergence)
+}
+
+/// Returns the outcome of the rule with this index on an argument: the verdict, the token where the
+/// match stops, and all that the rule expects there. For a local ambiguity it has two parts by
+/// which the match could go on. For several readings it has the token where two of them first
+/// diverge, and the two parts by which they go on there. `AllocError` if out of memory.
+pub fn outcome_of_rule<A: Allocator + Copy, G: FragmentGrammar>(
+    alloc: A,
+    grammar: &G,
+    rules: &DeclarativeMacro<A>,
+    argument: &TopSubtree<A>,
+    index: usize,
+) -> Result<MatchOutcome<A>, AllocError>
+    requires checked { IsChecked (macro_of rules.now) }
+    requires rule { index < length (macro_of rules.now).rules }
+    ensures match_outcome { IfOk result
+        (λ outcome. HasOutcome (G.grammar grammar.now) (macro_of rules.now).rules
+        argument.now index (outcome_seen outcome)) }
+{
+    let expectations = rules.expectations(alloc, grammar, argument, index)?;
+    let close = argument.top_subtree().delimiter.close;
+    let tokens = argument.iter().remaining();
+    match expectations.verdict {
+        Verdict::ManyReadings => {
+            let divergence = divergence_of(alloc, grammar, rules, argument, index)?;
+            let two = (divergence.one, divergence.other);
+            diverging_outcome(alloc, &expectations, divergence.offset, two, tokens, close)
+        }
+        Verdict::OneReading | Verdict::Ambiguous(_) | Verdict::Stuck(_) => {
+            match_outcome(alloc, &expectations, tokens, close)
+        }
+    }
+}
+
+// Returns the name of a rule in messages.
+fn rule_name<A: Allocator>(alloc: A, number: usize, name: &str) -> Result<String<A>, AllocError>
+    ensures { IfOk result (λ text. string_bytes text ≡ spec.rule_name number name.now) }
+{
+    format!(in alloc; "rule {number} of `{name}!`")
+}
+
+// Notes where a part of a rule is, if it has a span.
+fn note_part<A: Allocator + Copy>(
+    alloc: A,
+    notes: &mut Vec<Note<A>, A>,
+    rule: &str,
+    part: &RulePart<A>,
+) -> Result<(), AllocError>
+    ensures { OnOk result (let part = part_seen part.now in map note_seen notes.new.items
+        ≡ map note_seen notes.old.items ++ spec.part_note rule.now part.text part.place) }
+{
+    let Some(span) = part.span else {
+        return Ok(());
+    };
+    let expected = part.text.as_str();
+    notes.push(Note {
+        level: Level::Note,
+        span,
+        message: format!(in alloc; "{expected} in {rule}")?,
+    })?;
+    Ok(())
+}
+
+// Notes where the parts of a rule are.
+fn note_parts<A: Allocator + Copy>(
+    alloc: A,
+    notes: &mut Vec<Note<A>, A>,
+    rule: &str,
+    parts: &[&RulePart<A>],
+) -> Result<(), AllocError>
+    ensures { OnOk result (map note_seen notes.new.items ≡ map note_seen notes.old.items
+        ++ spec.part_notes rule.now (map (λ p. part_seen p.now) parts.now)) }
+{
+    for part in parts {
+        note_part(alloc, notes, rule, part)?;
+    }
+    Ok(())
+}
+
+// Notes what a variable of a rule is bound to.
+fn note_binding<A: Allocator + Copy>(
+    alloc: A,
+    notes: &mut Vec<Note<A>, A>,
+    rule: &str,
+    matched: &BindingText<A>,
+) -> Result<(), AllocError>
+    ensures { OnOk result (let matched = binding_text_seen matched.now in map note_seen
+        notes.new.items
+        ≡ map note_seen notes.old.items
+        ++ spec.binding_note rule.now matched.variable.text matched.text matched.variable.place) }
+{
+    let Some(span) = matched.variable.span else {
+        return Ok(());
+    };
+    let variable = matched.variable.text.as_str();
+    let text = matched.text.as_str();
+    notes.push(Note {
+        level: Level::Note,
+        span,
+        message: format!(in alloc; "{variable} in {rule} took {text}")?,
+    })?;
+    Ok(())
+}
+
+// Notes what the variables of a rule are bound to.
+fn note_bindings<A: Allocator + Copy>(
+    alloc: A,
+    notes: &mut Vec<Note<A>, A>,
+    rule: &str,
+    matched: &[BindingText<A>],
+) -> Result<(), AllocError>
+    ensures { OnOk result (map note_seen notes.new.items ≡ map note_seen notes.old.items
+        ++ spec.binding_notes rule.now (map binding_text_seen matched.now)) }
+{
+    for one in matched {
+        note_binding(alloc, notes, rule, one)?;
+    }
+    Ok(())
+}
+
+// Notes the outcome of a rule, and where the parts of the rule are that its message names.
+fn note_outcome<A: Allocator + Copy>(
+    alloc: A,
+    notes: &mut Vec<Note<A>, A>,
+    rule: &str,
+    outcome: &MatchOutcome<A>,
+) -> Result<(), AllocError>
+    ensures { OnOk result (map note_seen notes.new.items
+        ≡ map note_seen notes.old.items ++ spec.outcome_notes rule.now (outcome_seen outcome.now)) }
+{
+    notes.push(Note {
+        level: Level::Note,
+        span: outcome.span,
+        message: message(alloc, rule, outcome)?,
+    })?;
+    let parts = message_parts(alloc, outcome)?;
+    note_parts(alloc, notes, rule, parts.as_slice())
+}
+
+// Notes the outcome of a rule, and what its variables are bound to.
+fn note_rule<A: Allocator + Copy>(
+    alloc: A,
+    notes: &mut Vec<Note<A>, A>,
+    rule: &str,
+    match_outcome: &RuleExplanation<A>,
+) -> Result<(), AllocError>
+    ensures { OnOk result (map note_seen notes.new.items
+        ≡ map note_seen notes.old.items
+        ++ spec.rule_notes rule.now (explanation_seen match_outcome.now)) }
+{
+    note_outcome(alloc, notes, rule, &match_outcome.outcome)?;
+    note_bindings(alloc, notes, rule, match_outcome.matched.as_slice())
+}
+
+// Notes the explanations of rules. The first rule has that number.
+fn note_rules<A: Allocator + Copy>(
+    alloc: A,
+    notes: &mut Vec<Note<A>, A>,
+    name: &str,
+    number: usize,
+    explanations: &[RuleExplanation<A>],
+) -> Result<(), AllocError>
+    ensures { OnOk result (map note_seen notes.new.items ≡ map note_seen notes.old.items
+        ++ spec.rules_notes name.now number (map explanation_seen explanations.now)) }
+{
+    let mut number = number;
+    for match_outcome in explanations {
+        let rule = rule_name(alloc, number, name)?;
+        note_rule(alloc, notes, rule.as_str(), match_outcome)?;
+        number = number.saturating_add(1);
+    }
+    Ok(())
+}
+
+impl<'g, A: Allocator + Copy> FileExpander<'g, A> {
+    // Notes the explanations of a call by the rules of its macro, if the settings ask for it.
+    pub(crate) fn explain(
+        &mut self,
+        call: MacroCall<'_, A>,
+        argument: &TopSubtree<A>,
+        is_expanded: bool,
+    ) -> Result<(), AllocError>
+        ensures setting { OnOk result (setting_of self.new ≡ setting_of self.old) }
+        ensures state { OnOk result (state_of self.new ≡ state_of self.old) }
+        ensures notes { OnOk result (NotesRules (setting_of self.old) (call_shown call.entry)
+            (state_of self.old) argument.now
+            (selects self.old.settings.explain call.entry.start is_expanded)
+            (map note_seen self.old.notes.items) (map note_seen self.new.notes.items)) }
+    {
+        if !self.settings.explain.selects(call.start, is_expanded) {
+            return Ok(());
+        }
+        let explanations = self.rule_explanations(call, argument)?;
+        let name = call.name.sym.as_str();
+        note_rules(
+            self.alloc,
+            &mut self.notes,
+            name,
+            1,
+            explanations.as_slice(),
+        )?;
+        Ok(())
+    }
+
+    // Returns the explanation of a call by each rule of its macro. The list is empty if the macro
+    // has an error.
+    fn rule_explanations(
+        &self,
+        call: MacroCall<'_, A>,
+        argument: &TopSubtree<A>,
+    ) -> Result<Vec<RuleExplanation<A>, A>, AllocError>
+        ensures { IfOk result (λ v. ExplainsRules (setting_of self.now) (call_shown call.entry)
+            (state_of self.now) argument.now (map explanation_seen v.items)) }
+    {
+        let mut all = Vec::new(self.alloc);
+        let Some(rules) = self.rules(call) else {
+            return Ok(all);
+        };
+        if rules.err().is_some() {
+            return Ok(all);
+        }
+        for index in 0..rules.num_rules() {
+            all.push(RuleExplanation {
+                outcome: outcome_of_rule(self.alloc, &self.grammar, rules, argument, index)?,
+                matched: rule_binding_texts(self.alloc, &self.grammar, rules, argument, index)?,
+            })?;
+        }
+        Ok(all)
+    }
+}

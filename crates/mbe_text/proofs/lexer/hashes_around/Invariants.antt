@@ -1,6 +1,0 @@
-use Rattle.std.proofs.Common.{◌≡◌, max, drop}
-use Rattle.mbe_text.specs.Tokens.{most_guards}
-use Rattle.mbe_text.proofs.lexer.hashes_around.Given as goal
-
-abbrev pub invariant-bytes : goal.invariant-bytes
-invariant-bytes l = max l.most (most_guards l.guards (drop l.byte-index l.text)) ≡ most_guards 0 l.text

@@ -1,0 +1,49 @@
+"""Runs that report many things: each of them is reported, whatever the form of the reports is."""
+from collections import Counter
+
+from expandm import objects
+
+# How many calls fail in a text, how many rules a macro has, and how many definitions are reported on. None of these has made a run end
+# early, with a stack of the usual size.
+MANY = 50_000
+
+# Texts by their names. In `unreached`, rule 1 takes what the other rules take; their number is smaller, since each is compared with the
+# ones before it.
+TEXTS = {
+    "calls": "macro_rules! m { (a) => {} }\n" + "m!(b);\n" * MANY,
+    "rules": "macro_rules! m {\n" + "(a) => {};\n" * MANY + "}\nm!(b);\n",
+    "definitions": "macro_rules! m { ($a:ident) => {} }\n" * MANY,
+    "unreached": "macro_rules! m {\n" + "(a) => {};\n" * 10_000 + "}\n",
+}
+
+# The name of a text, the words, and how many reports of each level there are. Of a call that no rule fits each rule says where it
+# stops, and where it has what it wants. With the warning of an unused variable comes a help, as in rustc.
+ROWS = (
+    ("calls", "", {"error": MANY}),
+    ("calls", "--json", {"error": MANY}),
+    ("calls", "--explain", {"error": MANY, "note": 2 * MANY}),
+    ("rules", "--explain", {"error": 1, "note": 2 * MANY}),
+    ("definitions", "--lint", {"warning": MANY, "help": MANY}),
+    ("definitions", "--lint --json", {"warning": MANY, "help": MANY}),
+    ("unreached", "--lint", {"warning": 9_999, "note": 9_999}),
+)
+
+
+def level(line):
+    """The level of a report that begins in a line: in the form of rustc, or with its place before it."""
+    front = line.split(": ", 2)
+    return front[1] if front[0].startswith("a.rs:") else front[0]
+
+
+def levels(words, err):
+    """How many reports of each level there are."""
+    if "--json" in words:
+        return Counter(it["level"] for it in objects(err))
+    return Counter(it for it in map(level, err.splitlines()) if it in ("error", "warning", "note", "help"))
+
+
+def test(program):
+    for row in ROWS:
+        text, words, want = row
+        ran = program.run([*words.split(), "a.rs"], {"a.rs": TEXTS[text]})
+        program.check("many.ROWS", row, (ran.status, dict(levels(words, ran.err))), (1, want))
