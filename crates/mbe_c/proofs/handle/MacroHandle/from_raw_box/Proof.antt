@@ -28,8 +28,8 @@ use Rattle.mbe_c.proofs.handle.MacroHandle.from_raw_box.Code as code
 abbrev stayed : Stays f.ended.signature.params f.ended.kept
 stayed = (stay_dropped (plain (λ _. Blk)) yes, tt)
 
-pub of_block_spec : {M : Type 1} → statement M
-of_block_spec 𝓤 𝓛 𝓜 𝓡 wired =
+pub from_raw_box_spec : {M : Type 1} → statement M
+from_raw_box_spec 𝓤 𝓛 𝓜 𝓡 wired =
     let c = f.clauses 𝓛 𝓜.mem 𝓡.returns in let 𝓣 = tables 𝓤 𝓛.H 𝓜 𝓡 𝓡.env in let fn = code.function in
     proved_at 𝓛 f.ended stayed c 𝓜 𝓡 (Goes-dropped 𝓛 0 (plain (λ _. Blk)) yes (λ κs x w. refl), tt)
     f.Key.name fn (code.unfolded 𝓤 𝓛.H 𝓜 𝓡 wired) (λ z are.
