@@ -24,6 +24,18 @@ ROWS = (
         "0:52 this `a` is the one that the call binds; 1:8 `a` is bound here; ",
     ),
     ("m { ($x:pat) => { for $x in a { b } } }", "m!(a);", ""),
+    # A type may follow the name.
+    (
+        "m { ($x:ident) => { let $x: u8 = 1; a + $x } }",
+        "m!(a);",
+        "0:49 this `a` is the one that the call binds; 1:3 `a` is bound here; ",
+    ),
+    (
+        "m { ($x:ident) => { f(|$x: u8| a) } }",
+        "m!(a);",
+        "0:44 this `a` is the one that the call binds; 1:3 `a` is bound here; ",
+    ),
+    ("m { ($x:ident) => { let S { $x: b } = c; a } }", "m!(a);", ""),
     # What may be the macro's local, and may be none.
     (
         "m { ($x:expr) => { let a = 1; S { a } + $x } }",
@@ -55,6 +67,44 @@ ROWS = (
     ('m { ($x:expr) => { let a = 1; f!("{a}", $x) } }', "m!(b);", ""),
     ("m { ($x:expr) => { let a = 1; S { a } + $x } }", "m!(b);", ""),
     ("m { ($x:expr) => { fn f(a: u8) { a } $x } }", "m!(a);", ""),
+    # Names of several functions. None meets another context's in a local's scope.
+    (
+        "m { ($b:ident) => { fn f(a: u8) -> u8 { a } fn g() -> u8 { let a = 2; a } fn $b(a: u8) -> u8 { let b = a; b } } }",
+        "m!(a);",
+        "",
+    ),
+    ("m { ($x:expr) => { { let a = 1; f(a); } a + $x } }", "m!(a);", ""),
+    # After the scope of a local, its name isn't the local.
+    (
+        "m { ($x:expr) => { { let a = 1; f(a, $x); } a } }",
+        "m!(a);",
+        "0:57 `a` keeps its name, since this may be the one that a macro binds; 0:38 `a` is bound here; ",
+    ),
+    # A call that may be a pattern: what it binds is a local of its own.
+    (
+        "m { () => { a } }",
+        'let m!() = 2; f!("{a}");',
+        "1:17 `a` keeps its name, since this may be the one that a macro binds; 0:25 `a` is bound here; ",
+    ),
+    (
+        "m { () => { Some(a) } }",
+        "if let m!() = b { f(a); }",
+        "1:20 `a` keeps its name, since this may be the one that a macro binds; 0:30 `a` is bound here; ",
+    ),
+    (
+        "m { ($x:pat) => { (a, $x) } }",
+        "match c { m!(b) => a + b }",
+        "1:19 `a` keeps its name, since this may be the one that a macro binds; 0:32 `a` is bound here; ",
+    ),
+    (
+        "m { () => { a } }",
+        "for m!() in b { f(a); }",
+        "1:18 `a` keeps its name, since this may be the one that a macro binds; 0:25 `a` is bound here; ",
+    ),
+    ("m { () => { a } }", "let m!() = 2; f(b);", ""),
+    ("m { () => { a } }", "let b = m!(); f(a);", ""),
+    ("m { () => { A } }", "match b { m!() => A }", ""),
+    ("m { ($x:pat) => { $x } }", "let m!(a) = 2; f(a);", ""),
 )
 
 # Strings that name `a` if they are formats, and strings that don't.
@@ -152,6 +202,46 @@ RENAMED = (
     ("m { ($x:expr) => { let a = $x; } }", '{ m!(1); #[doc = "{a}"] fn f() {} }', '{ let a = 1; #[doc = "{a}"] fn f() {} }'),
     ("m { ($x:expr) => { { let a = $x; } } }", '{ m!(1); f!("{a}") }', '{ {\n    let a = 1;\n}; f!("{a}") }'),
     ("m { ($i:ident $j:ident) => {{ let $i = 1; $j }} }", "y = m!(a a);", "y = {\n    let a = 1;\n    a\n};"),
+    # What a built-in macro takes as text, or as the names of other things, keeps its names.
+    (
+        "m { ($x:expr) => {{ let a = $x; f(a, stringify!(a), std::stringify!((a + 1)), core::stringify!([a])) }} }",
+        "y = m!(a);",
+        "y = {\n    let a_1 = a;\n    f(a_1, stringify!(a), std::stringify!((a + 1)), core::stringify!([a]))\n};",
+    ),
+    (
+        'm { ($x:expr) => {{ let a = $x; f(a, cfg!(a), concat!("{a}", "b"), offset_of!(S, a)) }} }',
+        "y = m!(a);",
+        'y = {\n    let a_1 = a;\n    f(a_1, cfg!(a), concat!("{a}", "b"), offset_of!(S, a))\n};',
+    ),
+    (
+        "m { ($x:expr) => {{ let a = $x; stringify!(a) }} } macro_rules! stringify { ($e:expr) => { $e + 1 } }",
+        "y = m!(a);",
+        "y = {\n    let a_1 = a;\n    a_1 + 1\n};",
+    ),
+    # A name outside of the scope of the local of that name.
+    ("m { ($x:expr) => { f(|a| a) + a + $x } }", "y = m!(a);", "y = f(|a| a) + a + a;"),
+    (
+        "m { ($x:expr) => { (match 4 { a => a }) + a + $x } }",
+        "y = m!(a);",
+        "y = (match 4 {\n    a => a\n}) + a + a;",
+    ),
+    (
+        "m { ($x:expr) => { (match 4 { 1 => 2, a if a > 3 => a, _ => a }) + $x } }",
+        "y = m!(a);",
+        "y = (match 4 {\n    1 => 2, a if a > 3 => a, _ => a\n}) + a;",
+    ),
+    (
+        "m { ($x:expr) => {{ macro_rules! n { () => { $x } } let a = 1; n!() + a }} }",
+        "y = m!((|a: u8| a)(a));",
+        "y = {\n    macro_rules! n {\n        () => {\n            ((|a: u8| a)(a))\n        }\n    }\n"
+        "    let a_1 = 1;\n    ((|a: u8| a)(a)) + a_1\n};",
+    ),
+    # A local that a `match` in its own value binds too.
+    (
+        "m { ($x:expr) => {{ let a = match $x { Some(a) => a, None => 0 }; f(a) }} }",
+        "y = m!(a);",
+        "y = {\n    let a_1 = match a {\n        Some(a_1) => a_1, None => 0\n    };\n    f(a_1)\n};",
+    ),
 )
 
 # The example of docs/EXPANDM.md: a text, and what it becomes.

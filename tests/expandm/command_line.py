@@ -32,7 +32,7 @@ RUNS = (
     "-- -",
 )
 
-NO_FILE = "the following required arguments were not provided: <FILE.rs>..."
+NO_FILE = "no FILE.rs is named, and there is no Cargo.toml in this folder or above it"
 YEARS = "[possible values: 2015, 2018, 2021, 2024]"
 TARGETS = (
     "[possible values: x86_64-unknown-linux-gnu, x86_64-pc-windows-msvc, x86_64-apple-darwin, "
@@ -92,7 +92,7 @@ def test(program):
     helps = {program.run(words).out for words in (["--help"], ["-h"], ["a.rs", "--help"])}
     (text,) = helps if len(helps) == 1 else ("",)
     names = re.findall(r"^  (?:-\w, |    )--([a-z-]+)", text, re.M)
-    program.check("command_line.help", text, ("Usage: " in text, len(names)), (True, 19))
+    program.check("command_line.help", text, ("Usage: " in text, len(names)), (True, 26))
     for words in (["-V"], ["--version"], ["a.rs", "--version"]):
         ran = program.run(words)
         program.check("command_line.version", words, (ran.status, ran.out, ran.err), (0, "expandm 0.1.0\n", ""))

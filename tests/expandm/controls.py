@@ -41,7 +41,7 @@ def test(program):
         program.check("controls.ROWS in lines", row, (ran.status, line in ran.err.split("\n")), (1, True))
         ran = program.run(["--explain", "a.rs"], files)
         said = ran.err.split("\n")
-        wants = f'note: rule 1 of `m!` doesn\'t go on here: it wants `"{sign}"`'
+        wants = f'note: rule 1 of `m!` stops here; expected `"{sign}"`'
         lines = f'2 | m!(b, "{sign}");', f'1 | macro_rules! m {{ ("{sign}") => {{}} }}'
         program.check("controls.ROWS", row, [it in said for it in (wants, *lines)], [True] * 3)
         ran = program.run(["--explain", "--json", "a.rs"], files)

@@ -8,107 +8,107 @@ ROWS = (
     (
         "m { ($($x:expr),*) => {} }",
         "m!(1, 2,);",
-        "2:9 rule 1 of `m!` doesn't go on here: it wants `$x:expr`; 1:22 `$x:expr` in rule 1 of `m!`; ",
+        "2:9 rule 1 of `m!` stops here; expected `$x:expr`; 1:22 `$x:expr` in rule 1 of `m!`; ",
     ),
     (
         "m { ($($n:ident : $t:ty),*) => {} }",
         "m!(x: u8, y);",
-        "2:12 rule 1 of `m!` doesn't go on here: it wants `:`; 1:30 `:` in rule 1 of `m!`; ",
+        "2:12 rule 1 of `m!` stops here; expected `:`; 1:30 `:` in rule 1 of `m!`; ",
     ),
     (
         "m { ($($a:ident)* $b:ident) => {} }",
         "m!(x y);",
-        "2:4 rule 1 of `m!` is ambiguous here: it goes on by `$a:ident` and by `$b:ident`; "
+        "2:4 rule 1 of `m!` is ambiguous here: it can continue with `$a:ident` or `$b:ident`; "
         "1:22 `$a:ident` in rule 1 of `m!`; "
         "1:33 `$b:ident` in rule 1 of `m!`; ",
     ),
     (
         "m { ($k:ident => $v:ty) => {}; ($k:ident = $v:ty) => {} }",
         "m!(a + u8);",
-        "2:6 rule 1 of `m!` doesn't go on here: it wants `=>`; "
+        "2:6 rule 1 of `m!` stops here; expected `=>`; "
         "1:28 `=>` in rule 1 of `m!`; "
-        "2:6 rule 2 of `m!` doesn't go on here: it wants `=`; "
+        "2:6 rule 2 of `m!` stops here; expected `=`; "
         "1:55 `=` in rule 2 of `m!`; ",
     ),
     (
         "m { ($($x:ident),* ; $y:ty) => {} }",
         "m!(a b);",
-        "2:6 rule 1 of `m!` doesn't go on here: it wants `,` or `;`; "
+        "2:6 rule 1 of `m!` stops here; expected `,` or `;`; "
         "1:30 `,` in rule 1 of `m!`; "
         "1:33 `;` in rule 1 of `m!`; ",
     ),
-    ("m { (a) => {} }", "m!(a b);", "2:6 rule 1 of `m!` doesn't go on here: it wants the end of the call; "),
-    ("m { ((a)) => {} }", "m!((a b));", "2:7 rule 1 of `m!` doesn't go on here: it wants the end of the group; "),
+    ("m { (a) => {} }", "m!(a b);", "2:6 rule 1 of `m!` stops here; expected the end of the call; "),
+    ("m { ((a)) => {} }", "m!((a b));", "2:7 rule 1 of `m!` stops here; expected the end of the group; "),
     (
         "m { (a) => {}; (b) => {} }",
         "m!(b);",
-        "2:4 rule 1 of `m!` doesn't go on here: it wants `a`; 1:19 `a` in rule 1 of `m!`; 2:5 rule 2 of `m!` fits; ",
+        "2:4 rule 1 of `m!` stops here; expected `a`; 1:19 `a` in rule 1 of `m!`; 2:5 rule 2 of `m!` matches; ",
     ),
     (
         "m { ($(a)? $(a)?) => {} }",
         "m!(a);",
-        "2:4 rule 1 of `m!` reads the call in several ways: here it goes on by `a` and by `a`; "
+        "2:4 rule 1 of `m!` matches the call in several ways: here it can continue with `a` or `a`; "
         "1:21 `a` in rule 1 of `m!`; "
         "1:27 `a` in rule 1 of `m!`; ",
     ),
     (
         "m { ($(a)? $(a)? $x:ident) => {} }",
         "m!(a b);",
-        "2:4 rule 1 of `m!` is ambiguous here: it goes on by `a` and by `$x:ident`; "
+        "2:4 rule 1 of `m!` is ambiguous here: it can continue with `a` or `$x:ident`; "
         "1:21 `a` in rule 1 of `m!`; "
         "1:32 `$x:ident` in rule 1 of `m!`; ",
     ),
     (
         "m { ($(1)? $(1)? $x:ident) => {} }",
         "m!(1 c);",
-        "2:6 rule 1 of `m!` is ambiguous here: it goes on by `$x:ident` in two ways; "
+        "2:6 rule 1 of `m!` is ambiguous here: it can continue with `$x:ident` in two ways; "
         "1:32 `$x:ident` in rule 1 of `m!`; ",
     ),
     (
         "m { ($a:ident $($x:expr),* ; $([$($y:ident)*])*) => {} }",
         "m!(k 1, 2 + 3; [a b] [] [c]);",
-        "2:28 rule 1 of `m!` fits; "
-        "1:20 `$a:ident` in rule 1 of `m!` took `k`; "
-        "1:31 `$x:expr` in rule 1 of `m!` took `1`, `2 + 3` (2 rounds); "
-        "1:49 `$y:ident` in rule 1 of `m!` took (`a`, `b`), nothing, (`c`) (3 rounds); ",
+        "2:28 rule 1 of `m!` matches; "
+        "1:20 `$a:ident` in rule 1 of `m!` is bound to `k`; "
+        "1:31 `$x:expr` in rule 1 of `m!` is bound to `1`, `2 + 3` (2 rounds); "
+        "1:49 `$y:ident` in rule 1 of `m!` is bound to (`a`, `b`), nothing, (`c`) (3 rounds); ",
     ),
     (
         "m { ($v:vis fn $($x:ty),* ; $($y:ty);*) => {} }",
         "m!(fn ; u8);",
-        "2:11 rule 1 of `m!` fits; "
-        "1:20 `$v:vis` in rule 1 of `m!` took nothing; "
-        "1:32 `$x:ty` in rule 1 of `m!` took nothing; "
-        "1:45 `$y:ty` in rule 1 of `m!` took `u8` (1 round); ",
+        "2:11 rule 1 of `m!` matches; "
+        "1:20 `$v:vis` in rule 1 of `m!` is bound to nothing; "
+        "1:32 `$x:ty` in rule 1 of `m!` is bound to nothing; "
+        "1:45 `$y:ty` in rule 1 of `m!` is bound to `u8` (1 round); ",
     ),
     (
         "m { ($b:block) => {} }",
         "m!({ let a = 1; a });",
-        "2:20 rule 1 of `m!` fits; 1:20 `$b:block` in rule 1 of `m!` took `{ let a = 1; a }`; ",
+        "2:20 rule 1 of `m!` matches; 1:20 `$b:block` in rule 1 of `m!` is bound to `{ let a = 1; a }`; ",
     ),
     (
         "m { ($($t:tt)*) => {} }",
         "m!(a b c d e f g h i j k l m n o p q r);",
-        "2:39 rule 1 of `m!` fits; "
-        "1:22 `$t:tt` in rule 1 of `m!` took `a`, `b`, `c`, `d`, `e`, `f`, `g`, `h`, `i`, `j`, `k`, `l`, `m`, `n`, "
+        "2:39 rule 1 of `m!` matches; "
+        "1:22 `$t:tt` in rule 1 of `m!` is bound to `a`, `b`, `c`, `d`, `e`, `f`, `g`, `h`, `i`, `j`, `k`, `l`, `m`, `n`, "
         "`o`, `p`, … (18 rounds); ",
     ),
     (
         "m { ($e:expr) => {} }",
         'm!("123456789 123456789 123456789 123456789 123456789 123456789 ");',
-        "2:66 rule 1 of `m!` fits; "
-        '1:20 `$e:expr` in rule 1 of `m!` took `"123456789 123456789 123456789 123456789 123456789 123456789…`; ',
+        "2:66 rule 1 of `m!` matches; "
+        '1:20 `$e:expr` in rule 1 of `m!` is bound to `"123456789 123456789 123456789 123456789 123456789 123456789…`; ',
     ),
     (
         "m { ($e:expr) => {} }",
         'm!("123456789 123456789 123456789 123456789 123456789 12345678");',
-        "2:64 rule 1 of `m!` fits; "
-        '1:20 `$e:expr` in rule 1 of `m!` took `"123456789 123456789 123456789 123456789 123456789 12345678"`; ',
+        "2:64 rule 1 of `m!` matches; "
+        '1:20 `$e:expr` in rule 1 of `m!` is bound to `"123456789 123456789 123456789 123456789 123456789 12345678"`; ',
     ),
     (
         "m { ($e:expr) => {} }",
         'm!("123456789 123456789 123456789 123456789 123456789 1234567漢漢");',
-        "2:65 rule 1 of `m!` fits; "
-        '1:20 `$e:expr` in rule 1 of `m!` took `"123456789 123456789 123456789 123456789 123456789 1234567漢…`; ',
+        "2:65 rule 1 of `m!` matches; "
+        '1:20 `$e:expr` in rule 1 of `m!` is bound to `"123456789 123456789 123456789 123456789 123456789 1234567漢…`; ',
     ),
 )
 
@@ -156,12 +156,12 @@ macro_rules! pair { ($k:ident => $v:expr) => {}; ($k:ident = $v:expr) => {}; }
 fn main() { pair!(a -> 1); pair!(b = 2 + 3); }
 """,
         """\
-error: expected punct: `=>` in the call of `pair!`
+error: no rules expected `->` in the call of `pair!`
  --> a.rs:2:21
   |
 2 | fn main() { pair!(a -> 1); pair!(b = 2 + 3); }
   |                     ^
-note: rule 1 of `pair!` doesn't go on here: it wants `=>`
+note: rule 1 of `pair!` stops here; expected `=>`
  --> a.rs:2:21
   |
 2 | fn main() { pair!(a -> 1); pair!(b = 2 + 3); }
@@ -171,7 +171,7 @@ note: `=>` in rule 1 of `pair!`
   |
 1 | macro_rules! pair { ($k:ident => $v:expr) => {}; ($k:ident = $v:expr) => {}; }
   |                               ^
-note: rule 2 of `pair!` doesn't go on here: it wants `=`
+note: rule 2 of `pair!` stops here; expected `=`
  --> a.rs:2:21
   |
 2 | fn main() { pair!(a -> 1); pair!(b = 2 + 3); }
@@ -187,7 +187,7 @@ note: `=` in rule 2 of `pair!`
         "--explain=9 a.rs",
         'macro_rules! m { (a) => {} }\n\tx("漢", m!(b));',
         """\
-error: unexpected token in input in the call of `m!`
+error: no rules expected `b` in the call of `m!`
  --> a.rs:2:12
   |
 2 |     x("漢", m!(b));
@@ -212,11 +212,11 @@ fn main() { pair!(a -> 1); pair!(b = 2 + 3); }
 macro_rules! pair { ($k:ident => $v:expr) => {}; ($k:ident = $v:expr) => {}; }
 fn main() { pair!(a -> 1); pair!(b = 2 + 3); }
 """,
-        "2:36 rule 1 of `pair!` doesn't go on here: it wants `=>`; "
+        "2:36 rule 1 of `pair!` stops here; expected `=>`; "
         "1:31 `=>` in rule 1 of `pair!`; "
-        "2:43 rule 2 of `pair!` fits; "
-        "1:52 `$k:ident` in rule 2 of `pair!` took `b`; "
-        "1:63 `$v:expr` in rule 2 of `pair!` took `2 + 3`; ",
+        "2:43 rule 2 of `pair!` matches; "
+        "1:52 `$k:ident` in rule 2 of `pair!` is bound to `b`; "
+        "1:63 `$v:expr` in rule 2 of `pair!` is bound to `2 + 3`; ",
     ),
 )
 
@@ -226,12 +226,62 @@ OBJECTS = (
         "--explain=2 a.rs",
         "macro_rules! m { (a) => {} }\r\nm!(b);",
         """\
-2:4 33..34 error: unexpected token in input in the call of `m!`
-2:4 33..34 note: rule 1 of `m!` doesn't go on here: it wants `a`
+2:4 33..34 error: no rules expected `b` in the call of `m!`
+2:4 33..34 note: rule 1 of `m!` stops here; expected `a`
 1:19 18..19 note: `a` in rule 1 of `m!`
 """,
     ),
 )
+
+
+# What README.md shows: the file crates/expandm/data/mistake.rs, the explanation of its call, and the text with the missing `:`.
+MISTAKE = """\
+macro_rules! pairs {
+    ($($key:ident: $value:expr),*) => {
+        [$((stringify!($key), $value)),*]
+    };
+}
+
+fn main() {
+    let sizes = pairs!(width: 2, height 3);
+    println!("{sizes:?}");
+}
+"""
+MISTAKE_EXPLAINED = """\
+error: no rules expected `3` in the call of `pairs!`
+ --> mistake.rs:8:41
+  |
+8 |     let sizes = pairs!(width: 2, height 3);
+  |                                         ^
+note: rule 1 of `pairs!` stops here; expected `:`
+ --> mistake.rs:8:41
+  |
+8 |     let sizes = pairs!(width: 2, height 3);
+  |                                         ^
+note: `:` in rule 1 of `pairs!`
+ --> mistake.rs:2:18
+  |
+2 |     ($($key:ident: $value:expr),*) => {
+  |                  ^
+"""
+MENDED_LINE = """\
+    let sizes = [(stringify!(width), 2), (stringify!(height), 3)];
+"""
+
+
+def test_readme(program):
+    """The example of README.md, as it stands and mended. Rust doesn't tell how the tokens of an expansion are spaced."""
+    found = program.run(["--explain", "mistake.rs"], {"mistake.rs": MISTAKE})
+    row = "crates/expandm/data/mistake.rs"
+    program.check("explained.MISTAKE", row, (found.status, found.out, found.err), (1, MISTAKE, MISTAKE_EXPLAINED))
+    mended = MISTAKE.replace("height 3", "height: 3")
+    found = program.run(["mistake.rs"], {"mistake.rs": mended})
+    want = mended.replace("    let sizes = pairs!(width: 2, height: 3);\n", MENDED_LINE)
+    program.check("explained.MISTAKE", row, (found.status, unspaced(found.out), found.err), (0, unspaced(want), ""))
+
+
+def unspaced(text):
+    return text.replace(" ", "")
 
 
 def reported(program, words, text):
@@ -265,6 +315,7 @@ def test(program):
     for row in NOTES:
         words, text, want = row
         program.check("explained.NOTES", row, joined(notes(reported(program, words, text))), want)
+    test_readme(program)
     for row in OBJECTS:
         words, text, want = row
         found = objects(reported(program, f"--json {words}", text))

@@ -1,6 +1,6 @@
 """What is found of rules alone, by the reports of `expandm --lint`, in edition 2024: `followed NAME PLACE NEXT;` for what may follow a
-fragment and mayn't, `twice NAME PLACE LATER;`, `unknown NAME PLACE;`, `unused NAME PLACE;` and `repeats NAME PLACE USED;`. Places are
-byte offsets in the text of a definition, of names and of what follows.
+fragment and mayn't, `twice NAME PLACE LATER;`, `unknown NAME PLACE;`, `unbound NAME PLACE;`, `unused NAME PLACE;` and
+`repeats NAME PLACE USED;`. Places are byte offsets in the text of a definition, of names and of what follows.
 """
 import re
 
@@ -160,19 +160,25 @@ FOLLOWING = (
     ("($x:foo priv) => {$x}", "unknown x 2;"),
 )
 
-# Variables that a template doesn't name, and those that still repeat where it does. Worked out by hand.
+# Variables that a template may misspell, names that aren't bound, and variables that still repeat where the template names them. Worked
+# out by hand; rustc 1.95 warns of each unbound one with `-W meta_variable_misuse`, and also of those in `${count(..)}` and `${ignore(..)}`.
 VARIABLES = (
     ("() => {}", ""),
     ("($x:ident) => {$x}", ""),
-    ("($x:ident) => {}", "unused x 2;"),
+    ("($x:ident) => {}", ""),
+    ("($x:ident) => {[($y)]}", "unbound y 18;unused x 2;"),
+    ("($x:ident) => {$x $y $yy}", "unbound y 19;unbound yy 22;"),
+    ("($x:ident $y:ident) => {${ignore($z)} ${count($z)} $x}", ""),
     ("($x:ident) => {x}", "unused x 2;"),
     ("($_x:ident $_y:ident) => {}", ""),
-    ("($x:ident $y:tt) => {$y}", "unused x 2;"),
-    ("($($x:ident [$y:tt]),*) => {$($x)*}", "unused y 14;"),
+    ("($x:ident $y:tt) => {$y}", ""),
+    ("($x:ident $y:tt) => {$y [(x)]}", "unused x 2;"),
+    ("($($x:ident [$y:tt]),*) => {$($x)* {y}}", "unused y 14;"),
     ("($x:ident) => {${ignore($x)}}", ""),
     ("($($x:ident)*) => {${count($x)}}", ""),
     ("($x:ident) => {${concat(a, $x)}}", ""),
-    ("($x:ident) => {${concat(a, x)}}", "unused x 2;"),
+    ("($x:ident) => {${concat(a, x)}}", ""),
+    ("($x:ident) => {${concat(a, $y)} $x}", "unbound y 28;"),
     ("($($x:ident)*) => {$x}", "repeats x 4 20;"),
     ("($($x:ident)*) => {$($x)*}", ""),
     ("($($x:ident)*) => {$($($x)*)*}", ""),
@@ -180,18 +186,16 @@ VARIABLES = (
     ("($($($x:ident)*)*) => {$($($x)*)* $x}", "repeats x 6 35;"),
     ("($($x:ident)*) => {${concat(a, $x)}}", "repeats x 4 32;"),
     ("($($x:ident)*) => {${ignore($x)}}", ""),
-    ("($x:ident $($x:ident)*) => {$x $y}", "twice x 2 13;"),
-    (
-        "($x:ident) => {}; ($y:ident) => {$x}",
-        "unused x 2;unused y 20;",
-    ),
+    ("($x:ident $($x:ident)*) => {$x $y}", "twice x 2 13;unbound y 32;"),
+    ("($x:ident) => {}; ($y:ident) => {$x}", "unbound x 34;unused y 20;"),
 )
 
 # Definitions of which something else is reported too, which isn't of a finding.
 OTHERS = {
+    "($($x:ident)*) => {$($($x)*)*}": "attempted to repeat an expression containing no syntax variables matched as repeating at this depth; ",
     "($($($x:ident)*)*) => {$({$x})*}": "macro `m`, rule 1: empty token tree in repetition; ",
     "($($($x:ident)*)*) => {$($($x)*)* $x}": "macro `m`, rule 1: empty token tree in repetition; ",
-    "($x:ident) => {}; ($y:ident) => {$x}": "no call reaches this rule: rule 1 takes every argument that it takes; ",
+    "($x:ident) => {}; ($y:ident) => {$x}": "unreachable rule: rule 1 matches everything it does; ",
 }
 
 # Of each kind of finding, what is reported: the part of the text and what is said of it; and of the note at the variable, if that is
@@ -199,16 +203,17 @@ OTHERS = {
 KINDS = (
     (
         "followed",
-        r"(?P<next>.+): `\${name}:{specifier}` may be followed by `(?P=next).*`, which is not allowed for `{specifier}` fragments",
+        r"(?P<next>.+): `\${name}:{specifier}` (is|may be) followed by `(?P=next).*`, which is not allowed for `{specifier}` fragments",
         "allowed there are: .+",
     ),
     ("twice", r"\${name}:\w+: duplicate matcher binding", "previous binding"),
     ("unknown", r"\${name}:{specifier}: invalid fragment specifier `{specifier}`", None),
+    ("unbound", r"\${name}: unknown macro variable `{name}`", None),
     ("unused", r"\${name}:{specifier}: unused macro variable: `\${name}`", None),
     ("repeats", r"\${name}: variable `{name}` is still repeating at this depth", r"bound at depth \d+, and used at depth \d+"),
 )
 
-VARIABLE = re.compile(r"\$(?P<name>\w+):(?P<specifier>\w+)")
+VARIABLE = re.compile(r"\$(?P<name>\w+)(:(?P<specifier>\w+))?")
 
 # What is before a definition's text.
 BEFORE = "macro_rules! m { "
@@ -258,4 +263,5 @@ def test(program):
             found = "".join(line for line, _ in said if line)
             others = joined(message for line, message in said if not line)
             got = (ran.status, ran.out, found, others)
-            program.check(f"following.{table}", row, got, (int(want != ""), "", want, OTHERS.get(text, "")))
+            status = int(want != "" or text in OTHERS)
+            program.check(f"following.{table}", row, got, (status, "", want, OTHERS.get(text, "")))

@@ -95,6 +95,30 @@ RECEIVERS = (
     ),
 )
 
+# Patterns and types after a sign that would apply to a part of them, and paths before a `<`. rustc accepts `&(3 | 4)`, refuses `&1..=5`
+# and `&dyn A + B`, and reads `&mut x` as a reference to what is mutable.
+OPERANDS = (
+    ("m { ($p:pat) => { match x { &$p => 1, z @ $p => 2, $p => 3 } } }", "m!(3 | 4);", "match x {\n    &(3 | 4) => 1, z @ (3 | 4) => 2, 3 | 4 => 3\n};"),
+    ("m { ($p:pat) => { match x { &$p => 1, z @ $p => 2 } } }", "m!(1..=5);", "match x {\n    &(1..=5) => 1, z @ (1..=5) => 2\n};"),
+    ("m { ($p:pat) => { match x { Some(&$p) => 1, $p => 2 } } }", "m!(mut x);", "match x {\n    Some(&(mut x)) => 1, mut x => 2\n};"),
+    ("m { ($p:pat) => { |$p: i32| 3 } }", "x = m!(5 | 6 | _); x = m!(a);", "x = |(5 | 6 | _) : i32| 3; x = | a: i32| 3;"),
+    ("m { ($p:pat_param) => { match x { &$p => 1, [z @ $p] => 2 } } }", "m!(..);", "match x {\n    & .. => 1, [z @ ..] => 2\n};"),
+    ("m { ($t:ty) => { f::<&$t, &mut $t, *const $t, Box<$t>>() } }", "x = m!(dyn A + B);", "x = f::<&(dyn A + B), &mut (dyn A + B), *const (dyn A + B), Box<dyn A + B >>();"),
+    ("m { ($t:ty) => { f::<&$t, *mut $t>() } }", "x = m!(V<u8>);", "x = f::<&V<u8> , *mut V<u8> >();"),
+    ("m { ($t:path) => { 3 as $t << 1 } }", "x = m!(i64);", "x = 3 as (i64) << 1;"),
+)
+
+# Statements end before what follows them, and a `let` needs its `;`. In the argument of a macro nothing is added.
+STATEMENTS = (
+    ("s { ($s:stmt) => { $s - 1; } }", "fn f() { s!(let a = 3); }", "fn f() { let a = 3;\n- 1; }"),
+    ("t { ($($s:stmt);*) => { $($s)* } }", "fn f() { t!(z = 2; -3) }", "fn f() { z = 2;\n-3 }"),
+    ("m { ($s:stmt) => { { $s } } }", "fn f() { m!(let x = 1); m!(x + 1); }", "fn f() { {\n    let x = 1;\n}; {\n    x + 1\n}; }"),
+    ("m { ($s:stmt; $t:stmt) => { $s $t } }", "fn f() { m!(let a = 1; let b = 2); }", "fn f() { let a = 1;\nlet b = 2; }"),
+    ("m { ($s:stmt) => { $s; a() } }", "x = { m! { let b = 1 } };", "x = { let b = 1;\na() };"),
+    ("m { ($s:stmt) => { { n!($s); n! { $s } } } }", "m!(let b = 1);", "{\n    n!(let b = 1);\n    n! {\n        let b = 1\n    }\n};"),
+    ("m { ($s:stmt) => { f(|| { $s }) } }", "m!(let b = 1);", "f(|| {\n    let b = 1;\n});"),
+)
+
 # The same.
 BUILTINS = (
     (
@@ -122,4 +146,6 @@ BUILTINS = (
 def test(program):
     check_like(program, "fragments.TYPES", TYPES)
     check_like(program, "fragments.RECEIVERS", RECEIVERS)
+    check_like(program, "fragments.OPERANDS", OPERANDS)
+    check_like(program, "fragments.STATEMENTS", STATEMENTS)
     check_like(program, "fragments.BUILTINS", BUILTINS)

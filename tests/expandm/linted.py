@@ -1,5 +1,6 @@
-"""What is said of definitions alone. Where a row's messages are errors, rustc 1.95 reports them with these words at these places, but
-for its `is followed by`; the specifiers that are similar are those that it names for fields of these names: tools/rustc/lint-rows.py asks
+"""What is said of definitions alone. Where a row's messages are errors, rustc 1.95 reports them with these words at these places, except
+that a definition without rules is reported at its name, and that errors of depths are at the call's expansion; the warnings on unknown
+variables are those of its lint `meta_variable_misuse`. The specifiers that are similar are those that it names for fields of these names: tools/rustc/lint-rows.py asks
 it. The rest was worked out by hand.
 """
 import re
@@ -11,6 +12,9 @@ VALID = (
     "valid fragment specifiers are `ident`, `block`, `stmt`, `expr`, `pat`, `ty`, `lifetime`, `literal`, `path`, "
     "`meta`, `tt`, `item` and `vis`, along with `expr_2021` and `pat_param` for edition compatibility"
 )
+
+# What is said of a repetition without a variable that repeats there.
+FIXED = "attempted to repeat an expression containing no syntax variables matched as repeating at this depth"
 
 # A file, and what is said of its definitions.
 DEFINITIONS = (
@@ -30,60 +34,163 @@ DEFINITIONS = (
     ("macro_rules! m { ($c:zzz) => { $c } }", "1:19 error: invalid fragment specifier `zzz`; "),
     (
         "macro_rules! m { ($e:expr foo) => { $e } }",
-        "1:27 error: `$e:expr` may be followed by `foo`, which is not allowed for `expr` fragments; "
+        "1:27 error: `$e:expr` is followed by `foo`, which is not allowed for `expr` fragments; "
         "1:19 note: allowed there are: `=>`, `,` or `;`; ",
     ),
     (
         "macro_rules! m { ($e:expr_2021 $b:ty) => { $e $b } }",
-        "1:32 error: `$e:expr_2021` may be followed by `$b:ty`, which is not allowed for `expr_2021` fragments; "
+        "1:32 error: `$e:expr_2021` is followed by `$b:ty`, which is not allowed for `expr_2021` fragments; "
         "1:19 note: allowed there are: `=>`, `,` or `;`; ",
     ),
     (
         "macro_rules! m { ($e:stmt (a)) => { $e } }",
-        "1:27 error: `$e:stmt` may be followed by `(`, which is not allowed for `stmt` fragments; "
+        "1:27 error: `$e:stmt` is followed by `(`, which is not allowed for `stmt` fragments; "
         "1:19 note: allowed there are: `=>`, `,` or `;`; ",
     ),
     (
         "macro_rules! m { ($($e:expr)|*) => { $($e)* } }",
-        "1:29 error: `$e:expr` may be followed by `|"
+        "1:29 error: `$e:expr` is followed by `|"
         "`, which is not allowed for `expr` fragments; 1:21 note: allowed there are: `=>`, `,` or `;`; ",
     ),
     (
         "macro_rules! m { ($p:pat |) => { $p } }",
-        "1:26 error: `$p:pat` may be followed by `|"
-        "`, which is not allowed for `pat` fragments; 1:19 note: allowed there are: `=>`, `,`, `=`, `if` or `in`; ",
+        "1:26 error: `$p:pat` is followed by `|"
+        "`, which is not allowed for `pat` fragments; 1:19 note: allowed there are: `=>`, `,`, `=`, `if` or `in`; "
+        "1:19 help: try a `pat_param` fragment specifier instead: `$p:pat_param`; ",
     ),
     (
         "macro_rules! m { ($p:pat_param foo) => { $p } }",
-        "1:32 error: `$p:pat_param` may be followed by `foo`, which is not allowed for `pat_param` fragments; "
+        "1:32 error: `$p:pat_param` is followed by `foo`, which is not allowed for `pat_param` fragments; "
         "1:19 note: allowed there are: `=>`, `,`, `=`, `|`, `if` or `in`; ",
     ),
     (
         "macro_rules! m { ($t:path foo) => { $t } }",
-        "1:27 error: `$t:path` may be followed by `foo`, which is not allowed for `path` fragments; "
+        "1:27 error: `$t:path` is followed by `foo`, which is not allowed for `path` fragments; "
         "1:19 note: allowed there are: `{`, `[`, `=>`, `,`, `>`, `=`, `:`, `;`, `|`, `as` or `where`; ",
     ),
     (
         "macro_rules! m { ($v:vis +) => { $v } }",
-        "1:26 error: `$v:vis` may be followed by `+`, which is not allowed for `vis` fragments; "
+        "1:26 error: `$v:vis` is followed by `+`, which is not allowed for `vis` fragments; "
         "1:19 note: allowed there are: `,`, an ident or a type; ",
     ),
     (
         "macro_rules! m { ($($x:ident)*) => { $x } }",
         "1:38 error: variable `x` is still repeating at this depth; 1:21 note: bound at depth 1, and used at depth 0; ",
     ),
+    # rustc says `may be` where something else can follow: a later token, a separator, or the end of a group.
     (
-        "macro_rules! m { ($x:ident) => {} }",
+        "macro_rules! m { (($e:expr $(bar)?)) => { $e } }",
+        "1:30 error: `$e:expr` may be followed by `bar`, which is not allowed for `expr` fragments; "
+        "1:20 note: allowed there are: `=>`, `,` or `;`; ",
+    ),
+    (
+        "macro_rules! m { ($e:expr $(bar)?) => { $e } }",
+        "1:29 error: `$e:expr` is followed by `bar`, which is not allowed for `expr` fragments; "
+        "1:19 note: allowed there are: `=>`, `,` or `;`; ",
+    ),
+    (
+        "macro_rules! m { ($($e:expr)|* foo) => { $($e)* } }",
+        "1:32 error: `$e:expr` may be followed by `foo`, which is not allowed for `expr` fragments; "
+        "1:21 note: allowed there are: `=>`, `,` or `;`; "
+        "1:29 error: `$e:expr` may be followed by `|`, which is not allowed for `expr` fragments; "
+        "1:21 note: allowed there are: `=>`, `,` or `;`; ",
+    ),
+    (
+        "macro_rules! m { (($($p:pat)|+)) => { $($p)* } }",
+        "1:29 error: `$p:pat` may be followed by `|`, which is not allowed for `pat` fragments; "
+        "1:22 note: allowed there are: `=>`, `,`, `=`, `if` or `in`; "
+        "1:22 help: try a `pat_param` fragment specifier instead: `$p:pat_param`; ",
+    ),
+    (
+        "macro_rules! m { ($s:stmt $(;)? $(a)?) => { $s } }",
+        "1:35 error: `$s:stmt` may be followed by `a`, which is not allowed for `stmt` fragments; "
+        "1:19 note: allowed there are: `=>`, `,` or `;`; ",
+    ),
+    # A variable that the template doesn't use is reported only where its name may be misspelt.
+    ("macro_rules! count { () => { 0 }; ($head:tt $($tail:tt)*) => { 1 + count!($($tail)*) } }", ""),
+    ("macro_rules! m { ($x:ident) => {} }", ""),
+    (
+        "macro_rules! m { ($x:ident) => { 1 + x } }",
         "1:19 warning: unused macro variable: `$x`; "
         "1:19 help: if this is intentional, prefix it with an underscore: `$_x`; ",
     ),
+    (
+        "macro_rules! m { ($name:ident) => { fn $naem() {} } }",
+        "1:40 warning: unknown macro variable `naem`; "
+        "1:40 help: there's a macro metavariable with a similar name: `$name`; "
+        "1:19 warning: unused macro variable: `$name`; "
+        "1:19 help: if this is intentional, prefix it with an underscore: `$_name`; ",
+    ),
+    ("macro_rules! m { ($_n:ident) => { $other } }", "1:35 warning: unknown macro variable `other`; "),
+    (
+        "macro_rules! m { ($($xs:ident),*) => { $( fn $xs() { $crate::foo($zzz) } )* } }",
+        "1:66 warning: unknown macro variable `zzz`; ",
+    ),
+    (
+        "macro_rules! m { ($Max:ident) => { [{ $MAX }]; $q $Max } }",
+        "1:39 warning: unknown macro variable `MAX`; "
+        "1:39 help: there's a macro metavariable with a similar name: `$Max`; 1:48 warning: unknown macro variable `q`; ",
+    ),
+    ("macro_rules! m { ($r#x:ident) => { $x } }", ""),
+    ("macro m($_x:ident) { $yyy }", "1:22 warning: unknown macro variable `yyy`; "),
+    # The variables of a definition inside a template aren't known.
+    ("macro_rules! m { ($x:ident) => { macro_rules! i { ($y:ident) => { $y $x } } } }", ""),
+    ("macro_rules! m { ($x:ident) => { macro i($y:ident) { $y $x } } }", ""),
+    # A separator before `?`.
+    (
+        "macro_rules! q { ($(a),?) => { 0 }; }",
+        "1:23 error: the `?` macro repetition operator does not take a separator; ",
+    ),
+    (
+        "macro_rules! q { ($($x:ident)*) => { $($x),? }; }",
+        "1:43 error: the `?` macro repetition operator does not take a separator; ",
+    ),
+    (
+        "macro_rules! q { ($(a)? [$($(c)=>?),*]) => { 0 }; (b $(a) else ?) => { $(x)'l? } ; }",
+        "1:32 error: the `?` macro repetition operator does not take a separator; "
+        "1:59 error: the `?` macro repetition operator does not take a separator; "
+        f"1:76 error: the `?` macro repetition operator does not take a separator; 1:73 error: {FIXED}; ",
+    ),
+    ("macro q($(a);?) { }", "1:13 error: the `?` macro repetition operator does not take a separator; "),
+    ("macro_rules! q { ($(a)?? $(b)?) => { 0 }; }", ""),
+    # A repetition of a template without a variable that repeats there. rustc reports the first one of each call.
+    (
+        "macro_rules! m { ($n:ident, $($x:ident),*) => { $($n)* $($x)* } }",
+        f"1:50 error: {FIXED}; ",
+    ),
+    ("macro_rules! m { ($($x:ident),*) => { $( foo )* $($x)* } }", f"1:40 error: {FIXED}; "),
+    (
+        "macro_rules! m { ($($x:ident),*) => { $($x $( [foo] $yyy )*)* } }",
+        f"1:53 warning: unknown macro variable `yyy`; 1:45 error: {FIXED}; ",
+    ),
+    ("macro_rules! m { ($($x:ident),*) => { { $($( $x )*)* } } }", f"1:44 error: {FIXED}; "),
+    ("macro_rules! m { ($x:ident) => { $($( $x )*)* ($(a)?) } }", f"1:35 error: {FIXED}; 1:49 error: {FIXED}; "),
+    (
+        "macro_rules! m { ($x:ident) => { $x macro_rules! i { ($($y:ident)*) => { $($y)* } } } }",
+        f"1:56 error: {FIXED}; 1:75 error: {FIXED}; ",
+    ),
+    ("macro_rules! m { ($($x:ident)*) => { $($($(a)*)*)* } }", f"1:39 error: {FIXED}; "),
+    ("macro_rules! m { ($($x:ident)*) => { $()* } }", f"1:14 error: {FIXED}; "),
+    ("macro_rules! m { ($($a:ident),* ; $($b:ident),*) => { $( n!(@row $a; $($b),*); )* } }", f"1:71 error: {FIXED}; "),
+    ("macro_rules! m { ($($a:ident),*; $($($b:ident),*);*) => { $( $a $( $b ),* )* } }", ""),
+    (
+        "macro_rules! m {\n    (a) => { $ ( a ) * };\n    ($x:ident) => {\n        $(\n            f($x);\n        )*\n    };\n}",
+        f"2:16 error: {FIXED}; 4:10 error: {FIXED}; ",
+    ),
+    ("macro_rules! m { ($($x:ident)*) => { $( ${ignore($x)} a )* } }", ""),
+    ("macro_rules! m { (($x:ident)*) => { ($x)* $(${concat(a, $x)})* } }", f"1:14 error: {FIXED}; "),
+    # A definition without rules.
+    ("macro_rules! empty { }", "1:14 error: macros must contain at least one rule; "),
+    ("mod x { #[macro_export] macro_rules! e ( ); }\npub macro n { }", "1:38 error: macros must contain at least one rule; "
+        "2:11 error: macros must contain at least one rule; "),
+    ("macro m() { }", ""),
     ("macro_rules! m {\n    (a $x) => {};\n}", "2:8 error: macro `m`, rule 1: missing fragment specifier; "),
     ("macro_rules! m { () => {} () => {} }", "1:27 error: macro `m`, rule 2: expected `;`; "),
     ("macro m($x:tt) { $x $- }", "1:21 error: macro `m`, rule 1: expected ident; "),
     ("macro_rules! m { () => }", "1:24 error: macro `m`, rule 1: expected subtree; "),
     (
-        "macro_rules! m { ($x:ident) => {}; ($(a)? b) => {}; ($()*) => {} }",
-        "1:55 error: macro `m`, rule 3: empty token tree in repetition; "
+        "macro_rules! m { ($x:ident) => {x}; ($(a)? b) => {}; ($()*) => {} }",
+        "1:56 error: macro `m`, rule 3: empty token tree in repetition; "
         "1:19 warning: unused macro variable: `$x`; "
         "1:19 help: if this is intentional, prefix it with an underscore: `$_x`; ",
     ),
@@ -93,14 +200,14 @@ DEFINITIONS = (
         "1:12 help: a fragment specifier with a similar name exists: `ident`; ",
     ),
     (
-        "macro m { ($x:ident) => {}, ($y:ident) => { $y } }",
+        "macro m { ($x:ident) => {x}, ($y:ident) => { $y } }",
         "1:12 warning: unused macro variable: `$x`; "
         "1:12 help: if this is intentional, prefix it with an underscore: `$_x`; "
-        "1:29 warning: no call reaches this rule: rule 1 takes every argument that it takes; "
+        "1:30 warning: unreachable rule: rule 1 matches everything it does; "
         "1:11 note: rule 1 of `m!`; ",
     ),
     (
-        "mod a {\n    macro_rules! m { ($x : tt) => {} }\n}\nmacro_rules! n { ($ y:tt) => {} }",
+        "mod a {\n    macro_rules! m { ($x : tt) => { [x] } }\n}\nmacro_rules! n { ($ y:tt) => { [[y]] } }",
         "2:23 warning: unused macro variable: `$x`; "
         "2:23 help: if this is intentional, prefix it with an underscore: `$_x`; "
         "4:19 warning: unused macro variable: `$y`; "
@@ -184,44 +291,54 @@ SIMILAR = (
 EXAMPLES = (
     (
         """\
-macro_rules! each { ($($x:exp),* $y:ident) => { $x }; }
+macro_rules! each { ($($x:exp),* $last:ident) => { $x $lst }; }
 """,
         """\
 error: invalid fragment specifier `exp`
  --> a.rs:1:24
   |
-1 | macro_rules! each { ($($x:exp),* $y:ident) => { $x }; }
+1 | macro_rules! each { ($($x:exp),* $last:ident) => { $x $lst }; }
   |                        ^^^^^^
 help: a fragment specifier with a similar name exists: `expr`
  --> a.rs:1:27
   |
-1 | macro_rules! each { ($($x:exp),* $y:ident) => { $x }; }
+1 | macro_rules! each { ($($x:exp),* $last:ident) => { $x $lst }; }
   |                           ^^^
 help: valid fragment specifiers are `ident`, `block`, `stmt`, `expr`, `pat`, `ty`, `lifetime`, `literal`, `path`, \
 `meta`, `tt`, `item` and `vis`, along with `expr_2021` and `pat_param` for edition compatibility
  --> a.rs:1:27
   |
-1 | macro_rules! each { ($($x:exp),* $y:ident) => { $x }; }
+1 | macro_rules! each { ($($x:exp),* $last:ident) => { $x $lst }; }
   |                           ^^^
-warning: unused macro variable: `$y`
+warning: unknown macro variable `lst`
+ --> a.rs:1:55
+  |
+1 | macro_rules! each { ($($x:exp),* $last:ident) => { $x $lst }; }
+  |                                                       ^^^^
+help: there's a macro metavariable with a similar name: `$last`
+ --> a.rs:1:55
+  |
+1 | macro_rules! each { ($($x:exp),* $last:ident) => { $x $lst }; }
+  |                                                       ^^^^
+warning: unused macro variable: `$last`
  --> a.rs:1:34
   |
-1 | macro_rules! each { ($($x:exp),* $y:ident) => { $x }; }
-  |                                  ^^^^^^^^
-help: if this is intentional, prefix it with an underscore: `$_y`
+1 | macro_rules! each { ($($x:exp),* $last:ident) => { $x $lst }; }
+  |                                  ^^^^^^^^^^^
+help: if this is intentional, prefix it with an underscore: `$_last`
  --> a.rs:1:34
   |
-1 | macro_rules! each { ($($x:exp),* $y:ident) => { $x }; }
-  |                                  ^^^^^^^^
+1 | macro_rules! each { ($($x:exp),* $last:ident) => { $x $lst }; }
+  |                                  ^^^^^^^^^^^
 error: variable `x` is still repeating at this depth
- --> a.rs:1:49
+ --> a.rs:1:52
   |
-1 | macro_rules! each { ($($x:exp),* $y:ident) => { $x }; }
-  |                                                 ^^
+1 | macro_rules! each { ($($x:exp),* $last:ident) => { $x $lst }; }
+  |                                                    ^^
 note: bound at depth 1, and used at depth 0
  --> a.rs:1:24
   |
-1 | macro_rules! each { ($($x:exp),* $y:ident) => { $x }; }
+1 | macro_rules! each { ($($x:exp),* $last:ident) => { $x $lst }; }
   |                        ^^^^^^
 """,
         """\
@@ -229,16 +346,18 @@ note: bound at depth 1, and used at depth 0
 1:27 26..29 help: a fragment specifier with a similar name exists: `expr`
 1:27 26..29 help: valid fragment specifiers are `ident`, `block`, `stmt`, `expr`, `pat`, `ty`, `lifetime`, `literal`, \
 `path`, `meta`, `tt`, `item` and `vis`, along with `expr_2021` and `pat_param` for edition compatibility
-1:34 33..41 warning: unused macro variable: `$y`
-1:34 33..41 help: if this is intentional, prefix it with an underscore: `$_y`
-1:49 48..50 error: variable `x` is still repeating at this depth
+1:55 54..58 warning: unknown macro variable `lst`
+1:55 54..58 help: there's a macro metavariable with a similar name: `$last`
+1:34 33..44 warning: unused macro variable: `$last`
+1:34 33..44 help: if this is intentional, prefix it with an underscore: `$_last`
+1:52 51..53 error: variable `x` is still repeating at this depth
 1:24 23..29 note: bound at depth 1, and used at depth 0
 """,
     ),
 )
 
 # Of a message that no call reaches a rule, where the rule is, and the number of the earlier one.
-REACHES = re.compile(r"(\S+) warning: no call reaches this rule: rule (\d+) takes every argument that it takes")
+REACHES = re.compile(r"(\S+) warning: unreachable rule: rule (\d+) matches everything it does")
 
 # Of a message on an unknown specifier, the similar one.
 EXISTS = re.compile(r"\S+ help: a fragment specifier with a similar name exists: `(\w+)`")

@@ -12,7 +12,7 @@ MANY = 50_000
 TEXTS = {
     "calls": "macro_rules! m { (a) => {} }\n" + "m!(b);\n" * MANY,
     "rules": "macro_rules! m {\n" + "(a) => {};\n" * MANY + "}\nm!(b);\n",
-    "definitions": "macro_rules! m { ($a:ident) => {} }\n" * MANY,
+    "definitions": "macro_rules! m { ($a:ident) => { a } }\n" * MANY,
     "unreached": "macro_rules! m {\n" + "(a) => {};\n" * 10_000 + "}\n",
 }
 

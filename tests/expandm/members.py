@@ -7,18 +7,18 @@ ROWS = (
     (
         "--explain", 'dir/a "b".rs', 'xyz\nmacro_rules! m { ("\\\\漢\n") => {} }\nx = m!(b);\n', 1,
         (
-            ("error", "unexpected token in input in the call of `m!`", (47, 48, 4, 8, 9), "x = m!(b);", "       ^"),
+            ("error", "no rules expected `b` in the call of `m!`", (47, 48, 4, 8, 9), "x = m!(b);", "       ^"),
             (
-                "note", 'rule 1 of `m!` doesn\'t go on here: it wants `"\\\\漢\n"`', (47, 48, 4, 8, 9), "x = m!(b);",
+                "note", 'rule 1 of `m!` stops here; expected `"\\\\漢\n"`', (47, 48, 4, 8, 9), "x = m!(b);",
                 "       ^",
             ),
         ),
     ),
     (
-        "--lint", "a.rs", "// 漢\nmacro_rules! m { ($x:tt) => {} }\n", 1,
+        "--lint", "a.rs", "// 漢\nmacro_rules! m { ($x:tt) => {x} }\n", 1,
         (
             (
-                "warning", "unused macro variable: `$x`", (25, 30, 2, 19, 24), "macro_rules! m { ($x:tt) => {} }",
+                "warning", "unused macro variable: `$x`", (25, 30, 2, 19, 24), "macro_rules! m { ($x:tt) => {x} }",
                 "                  ^^^^^",
             ),
         ),

@@ -54,7 +54,7 @@ ROWS = (
         "src/lib.rs",
         "src/lib.rs: mod a; x = m!();|src/a.rs: macro_rules! m { () => { 1 } } y = m!();",
         "mod a; x = m!();|macro_rules! m { () => { 1 } } y = 1;|",
-        0,
+        2,
     ),
     (
         "src/lib.rs",
@@ -64,7 +64,7 @@ ROWS = (
         "src/a/c.rs: macro_rules! n { () => { m!() } } z = n!();",
         "#[macro_use] mod a; x = 1; y = n!();|#[macro_use] mod b; mod c;|macro_rules! m { () => { 1 } }|"
         "macro_rules! n { () => { m!() } } z = 1;|",
-        0,
+        2,
     ),
     (
         "src/lib.rs",

@@ -14,7 +14,7 @@ ROWS = (
     ("x = n!(m!());", "--depth 9 a.rs", "x = n!(m!());", 0),
     ("x = vec![m!(), 2];", "--depth 9 a.rs", "x = vec![1, 2];", 0),
     ("x = a::m!();", "--depth 9 a.rs", "x = a::m!();", 0),
-    ("{ macro_rules! n { () => { 2 } } n!() } n!()", "--depth 9 a.rs", "{ macro_rules! n { () => { 2 } } 2 } n!()", 0),
+    ("{ macro_rules! n { () => { 2 } } n!() } n!()", "--depth 9 a.rs", "{ macro_rules! n { () => { 2 } } 2 } n!()", 2),
     ("macro_rules! d { () => { d!() } } d!()", "--depth 3 a.rs", "macro_rules! d { () => { d!() } } d!()", 1),
     ('"', "--depth 9 a.rs", '"', 1),
 )

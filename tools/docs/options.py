@@ -20,8 +20,9 @@ ROW = re.compile(
     r'(?:\(\s*"((?:[^"\\]|\\.)*)",?\s*\))?,'
     r'\s*help: "((?:[^"\\]|\\.)*)",?\s*\}'
 )
+SHORT = {"package": "p"}
 CHOICES = {"edition": "EDITIONS", "target": "TARGETS"}
-WITHOUT_WORDS = "--depth | --fuel | --call | --cfg | --features | --extern"
+WITHOUT_WORDS = "--depth | --fuel | --call | --cfg | --features | --extern | --package | -p | --bin"
 
 
 class Option(NamedTuple):
@@ -54,7 +55,7 @@ def options():
             listed = re.search(CHOICES[name] + r": \[&str; \d+\] = \[(.*?)\];", source, re.S)[1]
             choices = tuple(re.findall(r'"([^"]+)"', listed))
         plain = lambda text: text.replace('\\"', '"')
-        found.append(Option(name, "", kind, plain(value), plain(about), choices))
+        found.append(Option(name, SHORT.get(name, ""), kind, plain(value), plain(about), choices))
     found.append(Option("help", "h", "Flag", "", "Print help", ()))
     found.append(Option("version", "V", "Flag", "", "Print version", ()))
     return found
@@ -80,11 +81,12 @@ def bash(found):
 _expandm() {{
     local word=${{COMP_WORDS[COMP_CWORD]}} before=${{COMP_WORDS[COMP_CWORD - 1]}}
     case $before in
-{cases}    --write) mapfile -t COMPREPLY < <(compgen -d -- "$word"); return ;;
+{cases}    --manifest-path) mapfile -t COMPREPLY < <(compgen -f -- "$word"); return ;;
+    --write) mapfile -t COMPREPLY < <(compgen -d -- "$word"); return ;;
     {WITHOUT_WORDS}) COMPREPLY=(); return ;;
     esac
     case $word in
-    -*) mapfile -t COMPREPLY < <(compgen -W '{names} -h -V' -- "$word") ;;
+    -*) mapfile -t COMPREPLY < <(compgen -W '{names} -h -V -p' -- "$word") ;;
     *) mapfile -t COMPREPLY < <(compgen -f -X '!*.rs' -- "$word"; compgen -d -- "$word") ;;
     esac
 }}
@@ -96,7 +98,7 @@ def fish(found):
     lines = "# Completion of expandm for fish, written by tools/docs/options.py.\n"
     for it in found:
         short = f" -s {it.short}" if it.short else ""
-        given = "" if it.kind in ("Flag", "Optional") else " -x"
+        given = "" if it.kind in ("Flag", "Optional") else " -r" if it.name == "manifest-path" else " -x"
         if it.choices:
             given += f" -a '{' '.join(it.choices)}'"
         if it.name == "write":
@@ -109,7 +111,7 @@ def fish(found):
 def zsh_value(option):
     if option.kind in ("Flag", "Optional"):
         return ""
-    action = {"write": "_files -/", "extern": "_files"}.get(option.name, "")
+    action = {"write": "_files -/", "extern": "_files", "manifest-path": "_files"}.get(option.name, "")
     if option.choices:
         action = f"({' '.join(option.choices)})"
     return f":{option.value.split('[')[0].lower().replace(':', ' ')}:{action}"
@@ -120,7 +122,10 @@ def zsh(found):
     for it in found:
         about = re.sub(r"([\[\]:])", r"\\\1", it.help).replace("'", "'\\''")
         many = "*" if it.kind in ("List", "CommaList") else ""
-        if it.short:
+        if it.short and it.value:
+            both = f"-{it.short},--{it.name}"
+            lines += f"    '({both.replace(',', ' ')})'{{{both}}}'[{about}]{zsh_value(it)}' \\\n"
+        elif it.short:
             lines += f"    '(- *)'{{-{it.short},--{it.name}}}'[{about}]' \\\n"
         else:
             lines += f"    '{many}--{it.name}[{about}]{zsh_value(it)}' \\\n"

@@ -8,7 +8,7 @@ Three tables are compared:
   its last offset, and nothing else. rustc counts the `$` of a variable, which is one byte before
   its name.
 - DEFINITIONS of tests/expandm/linted.py: line, column and text of each error that rustc has too,
-  and of rustc's warning that a variable still repeats.
+  and of rustc's warnings that a variable is unknown or still repeats.
 - SIMILAR of tests/expandm/linted.py: an unknown specifier and the similar one. rustc must name
   the similar one where a struct has the specifiers as its fields.
 
@@ -24,6 +24,12 @@ import common  # noqa: E402
 
 sys.path.insert(0, f"{common.TOP}/tests")
 from expandm import following, linted  # noqa: E402
+
+# What a row says that rustc says too, and what rustc says that a row has to say.
+OURS = re.compile(
+    r"(\d+:\d+ )(?:error|warning): ((?:duplicate|invalid|`|variable|the `\?`|unknown macro).*?); ")
+THEIRS = re.compile(r"duplicate matcher|invalid fragment|followed by|still repeating"
+                    r"|not take a separator|unknown macro variable `\w")
 
 KINDS = (("followed", "followed"), ("duplicate", "twice"), ("invalid fragment", "unknown"))
 
@@ -74,10 +80,9 @@ def messages(rustc, text):
 def differing_files(rustc, all_rows):
     """The rows whose errors aren't those of rustc."""
     for text, want in all_rows:
-        ours = sorted(re.findall(r"(\d+:\d+ )error: ((?:duplicate|invalid|`|variable).*?); ", want))
-        said = [line for line, _ in messages(rustc, text)]
-        theirs = sorted(line for line in said if re.search(r"duplicate matcher|invalid fragment|followed by|still repeating", line))
-        if [place + words for place, words in ours] != [line.replace("is followed", "may be followed") for line in theirs]:
+        ours = sorted(place + words for place, words in OURS.findall(want))
+        theirs = sorted(line for line, _ in messages(rustc, text) if THEIRS.search(line))
+        if ours != theirs:
             yield f"{text}: {ours}; rustc: {theirs}"
 
 

@@ -28,9 +28,8 @@ impl Box2 {
 fn main() {
     let side = area!(2 + 1) - 1;   // in parentheses, since `-` is beside it
     println!("{}", area!(side, crate::unit!()));
-    let all = vec![twice!(side), unknown!(side)];
+    let all = vec![twice!(side), 0];
     if side > 3 { area! { side } }
-    area!(side; side);
     macro_rules! names { ($($n:ident),*) => { [$(stringify!($n)),*] } }
     let names = names!(a, r#fn);
 }

@@ -9,6 +9,7 @@ use Rattle.std.proofs.lemmas.List.{length-map, map-append, take_more}
 use Rattle.mbe_rewriter.specs.Splice.{SplicedPart}
 use Rattle.mbe_session.specs.CallExpansion.{Setting, State}
 use Rattle.mbe_session.specs.Scopes.{Scope}
+use Rattle.expandm.specs.declared.arguments.CrateSettings.{CrateSettings}
 use Rattle.expandm.specs.declared.locations.CallPosition.{CallPosition}
 use Rattle.expandm.specs.declared.source_settings.SourceSettings.{SourceSettings}
 use Rattle.mbe_grammar.specs.declared.tables.peg_table.RuleTable.{RuleTable}
@@ -56,13 +57,15 @@ same_text x y p t =
     ap (λ q. let z : Text = record { path = q; text = x.text } in z) p
     ∙ ap (λ u. let z : Text = record { path = y.path; text = u } in z) t
 
-pub one_more_source : {X : Type 0} (see : X → Source) (r : SourceSettings) (found more : List X) (new : X) (number : ℕ)
-    → AreSources r (map see found) → number ≡ length found → more ≡ found ++ new ∷ []
-    → IsSource r number (see new)
-    → AreSources r (map see more)
-one_more_source see r found more new number h n e one =
-    subst (AreSources r) (sym (ap (map see) e ∙ map-append see found (new ∷ [])))
-    (sources.one_more (map see found) (see new) h
+pub one_more_source : {X : Type 0} (see : X → Source) (Reads : ℕ → SourceSettings → Type 0) (r : SourceSettings)
+    (found more : List X) (new : X) (number : ℕ)
+    → AreSources Reads (map see found) → number ≡ length found → more ≡ found ++ new ∷ []
+    → Reads number r → IsSource r number (see new)
+    → AreSources Reads (map see more)
+one_more_source see Reads r found more new number h n e reads one =
+    subst (AreSources Reads) (sym (ap (map see) e ∙ map-append see found (new ∷ [])))
+    (sources.one_more (map see found) (see new) r h
+    (subst (λ m. Reads m r) (n ∙ sym (length-map found see)) reads)
     (subst (λ m. IsSource r m (see new)) (n ∙ sym (length-map found see)) one))
 
 -- ---- texts of calls
@@ -92,9 +95,9 @@ nothing_there position text out e = subst (ExpansionsAt position text []) (sym e
 
 -- ---- runs begin with nothing
 
-pub no_source : {X : Type 0} (see : X → Source) (r : SourceSettings) (found : List X) → found ≡ []
-    → AreSources r (map see found)
-no_source see r found is = subst (λ xs. AreSources r (map see xs)) (sym is) sources.no_file
+pub no_source : {X : Type 0} (see : X → Source) (Reads : ℕ → SourceSettings → Type 0) (found : List X) → found ≡ []
+    → AreSources Reads (map see found)
+no_source see Reads found is = subst (λ xs. AreSources Reads (map see xs)) (sym is) sources.no_file
 
 -- ---- the last file that is given
 
@@ -105,20 +108,21 @@ is_there (x ∷ xs) n h e = some_is_none (sym (slice_get-get_or (x ∷ xs) n x h
     some_is_none : {X : Type 0} {x : X} → Some x ≡ None → ⊥
     some_is_none e = grind (arith, common_steps)
 
-printed_by : {T E : Type 0} (edition : Edition) (c : Conditions) (depth : Option ℕ) (fuel : ℕ)
+printed_by : {T E : Type 0} (edition : Edition) (c : Conditions) (own : ℕ → Option CrateSettings) (depth : Option ℕ)
+    (fuel : ℕ)
     (call : Option CallPosition) (with_modules : Bool) (root_count : ℕ) (extern_names : List (List ℕ))
     (texts : List Text)
     (files : List Source)
     (e : Setting) (s t : State) (before after : Option (List ℕ)) (r : Result T E) (found : Option Source)
-    → IsBegun edition c depth fuel with_modules root_count extern_names texts files e s → root_count - 1 < length files
+    → IsBegun edition c own depth fuel with_modules root_count extern_names texts files e s → root_count - 1 < length files
     → slice_get files (root_count - 1) ≡ found
     → IfSome found (λ root. WritesOne before after r
     (λ out. RootExpands e 1000 call with_modules files (root_count - 1) root s out t))
-    → WritesOne before after r (IsPrinted edition c depth fuel call with_modules root_count extern_names texts)
-printed_by edition c depth fuel call with_modules root_count extern_names texts files e s t before after r None begun
+    → WritesOne before after r (IsPrinted edition c own depth fuel call with_modules root_count extern_names texts)
+printed_by edition c own depth fuel call with_modules root_count extern_names texts files e s t before after r None begun
     within is last =
     absurd (is_there files (root_count - 1) within is)
-printed_by edition c depth fuel call with_modules root_count extern_names texts files e s t before after r (Some root)
+printed_by edition c own depth fuel call with_modules root_count extern_names texts files e s t before after r (Some root)
     begun within is
     last =
     elim last [
@@ -140,19 +144,20 @@ printed_by edition c depth fuel call with_modules root_count extern_names texts 
     ]
 
 -- Of values that are the same, as a call of `write_last` has them.
-pub printed : {T E : Type 0} (edition : Edition) (c : Conditions) (depth : Option ℕ) (fuel : ℕ)
+pub printed : {T E : Type 0} (edition : Edition) (c : Conditions) (own : ℕ → Option CrateSettings) (depth : Option ℕ)
+    (fuel : ℕ)
     (call request : Option CallPosition) (with_modules followed : Bool) (root_count n : ℕ)
     (extern_names : List (List ℕ))
     (texts : List Text)
     (files seen : List Source)
     (e : Setting) (s t : State) (before after : Option (List ℕ)) (r : Result T E)
-    → IsBegun edition c depth fuel with_modules root_count extern_names texts files e s → 0 < root_count
+    → IsBegun edition c own depth fuel with_modules root_count extern_names texts files e s → 0 < root_count
     → root_count ≤ length texts
     → request ≡ call → followed ≡ with_modules → n ≡ root_count → seen ≡ files
     → IfSome (slice_get seen (n - 1)) (λ root. WritesOne before after r
     (λ out. RootExpands e 1000 request followed seen (n - 1) root s out t))
-    → WritesOne before after r (IsPrinted edition c depth fuel call with_modules root_count extern_names texts)
-printed edition c depth fuel call request with_modules followed root_count n extern_names texts files seen e s t before
+    → WritesOne before after r (IsPrinted edition c own depth fuel call with_modules root_count extern_names texts)
+printed edition c own depth fuel call request with_modules followed root_count n extern_names texts files seen e s t before
     after r begun
     some few same_call same_follows same_number same_files last =
     let within : root_count - 1 < length files =
@@ -160,7 +165,7 @@ printed edition c depth fuel call request with_modules followed root_count n ext
     let Last : Option CallPosition → Bool → List Source → ℕ → Type 0 = λ k f fs m.
     IfSome (slice_get fs (m - 1)) (λ root. WritesOne before after r
     (λ out. RootExpands e 1000 k f fs (m - 1) root s out t)) in
-    printed_by edition c depth fuel call with_modules root_count extern_names texts files e s t before after r
+    printed_by edition c own depth fuel call with_modules root_count extern_names texts files e s t before after r
     (slice_get files (root_count - 1)) begun within refl
     (subst (λ m. Last call with_modules files m) same_number
     (subst (λ fs. Last call with_modules fs n) same_files

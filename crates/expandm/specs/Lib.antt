@@ -6,6 +6,7 @@ pub mod ModuleFiles
 pub mod DollarCrate
 pub mod Conditions
 pub mod SourceSettings
+pub mod CrateSettings
 pub mod OptionViews
 pub mod FileExpansion
 pub mod Runs

@@ -7,9 +7,8 @@ use Rattle.mbe_session.specs.Scopes.{IsEdition}
 use Rattle.mbe_diagnostics.specs.Lints.Definitions.{definitions}
 use Rattle.mbe_diagnostics.specs.Lints.Lint.{Lint}
 use Rattle.mbe_diagnostics.specs.Lints.Linter.{AreLinted}
-use Rattle.expandm.specs.declared.source_settings.SourceSettings.{SourceSettings}
 use Rattle.expandm.specs.Conditions.{Conditions}
-use Rattle.expandm.specs.SourceSettings.{AreSourceSettings}
+use Rattle.expandm.specs.CrateSettings.{AreFileSettings}
 use Rattle.expandm.specs.Sources.{Source, Text, AreSources, source_text}
 
 -- The lints of a file's definitions are added. A file that isn't Rust has none.
@@ -30,9 +29,7 @@ pub record AreTextsLinted (edition : Edition) (c : Conditions) (texts : List Tex
     (files : List Source)
     (lints : List Lint) : Type 0 where
   pub texts_are : map source_text files ≡ texts
-  pub source_settings : SourceSettings
-  pub are_source_settings : AreSourceSettings edition c source_settings
-  pub are_read : AreSources source_settings files
+  pub are_read : AreSources (AreFileSettings edition c (λ _. None)) files
   pub linted : FilesLinted edition (map (λ f. f.tree) files) [] lints
 
 -- The exit status of a run with so many notes and so many lints.

@@ -4,43 +4,45 @@ use Rattle.std.specs.List.{slice_get}
 use Rattle.std.specs.Option.{option_or}
 use Rattle.mbe_tt.specs.declared.span.Edition.{Edition}
 use Rattle.mbe_grammar.specs.Tables.Lawful.{grammar_of}
+use Rattle.mbe_grammar.specs.declared.tables.peg_table.RuleTable.{RuleTable}
 use Rattle.mbe_rewriter.specs.Splice.{SplicedPart}
 use Rattle.mbe_session.specs.CallExpansion.{Setting, State}
 use Rattle.mbe_session.specs.Scopes.{Scope}
 use Rattle.expandm.specs.declared.locations.CallPosition.{CallPosition}
-use Rattle.expandm.specs.declared.source_settings.SourceSettings.{SourceSettings}
+use Rattle.expandm.specs.declared.arguments.CrateSettings.{CrateSettings}
 use Rattle.expandm.specs.Conditions.{Conditions, IsUnder}
 use Rattle.expandm.specs.FileExpansion.{CratesParts, DefinesCrates, FilesExpand, LoadsExterns}
 use Rattle.expandm.specs.FileExpansion.{RootExpands}
-use Rattle.expandm.specs.SourceSettings.{AreSourceSettings}
+use Rattle.expandm.specs.CrateSettings.{AreFileSettings}
+use Rattle.expandm.specs.SourceSettings.{IsRustTable}
 use Rattle.expandm.specs.Sources.{Source, Text, AreSources, source_text}
 
 -- The limit of nested groups and calls.
 abbrev pub LEVELS : ℕ
 LEVELS = 1000
 
--- The start of a run. The files are read. The macros of the external crates of these names are
--- defined, and their re-exports of each other are linked; their roots are the files after the first
--- `root_count`. Then the macros of the crates are defined whose roots are the first `root_count`
--- files, in
--- the order of the crates' trees. No call is expanded yet. The limit of nested expansions is that
--- of the arguments, else that of the files, else 128.
-pub record IsBegun (edition : Edition) (c : Conditions) (depth : Option ℕ) (fuel : ℕ)
+-- The start of a run. The files are read, each under the settings of its crate. The macros of the
+-- external crates of these names are defined, and their re-exports of each other are linked; their
+-- roots are the files after the first `root_count`. Then the macros of the crates are defined whose
+-- roots are the first `root_count` files, in the order of the crates' trees. No call is expanded
+-- yet. The limit of nested expansions is that of the arguments, else that of the files, else 128.
+pub record IsBegun (edition : Edition) (c : Conditions)
+    (own : ℕ → Option CrateSettings) (depth : Option ℕ) (fuel : ℕ)
     (with_modules : Bool) (root_count : ℕ)
     (extern_names : List (List ℕ)) (texts : List Text) (files : List Source) (e : Setting)
     (s : State) : Type 0 where
   pub texts_are : map source_text files ≡ texts
-  pub source_settings : SourceSettings
-  pub are_source_settings : AreSourceSettings edition c source_settings
-  pub are_read : AreSources source_settings files
-  pub grammar : e.grammar ≡ grammar_of source_settings.grammar
+  pub are_read : AreSources (AreFileSettings edition c own) files
+  pub table : RuleTable
+  pub is_rust : IsRustTable edition table
+  pub grammar : e.grammar ≡ grammar_of table
   pub conditions : IsUnder c e.conditions
   pub edition_is : e.edition ≡ edition
   pub limit : Option ℕ
   pub depth_is : e.depth ≡ unwrap_or (option_or depth limit) 128
   pub known : Scope
   pub outside : LoadsExterns edition 1001 with_modules files root_count
-      (record { definitions = []; visible = []; crates = [] }) extern_names known
+      (record { definitions = []; visible = []; crates = []; declared = [] }) extern_names known
   pub defines : DefinesCrates edition 1001 with_modules files known root_count s.scope
   pub fuel_is : s.fuel ≡ fuel
   pub contexts_are : s.contexts ≡ []
@@ -48,7 +50,8 @@ pub record IsBegun (edition : Edition) (c : Conditions) (depth : Option ℕ) (fu
 -- What is printed: the expansion of the last of the first `root_count` files. The other files are
 -- those
 -- of modules and of external crates.
-pub record IsPrinted (edition : Edition) (c : Conditions) (depth : Option ℕ) (fuel : ℕ)
+pub record IsPrinted (edition : Edition) (c : Conditions)
+    (own : ℕ → Option CrateSettings) (depth : Option ℕ) (fuel : ℕ)
     (call : Option CallPosition)
     (with_modules : Bool) (root_count : ℕ) (extern_names : List (List ℕ)) (texts : List Text)
     (out : List ℕ) : Type 0 where
@@ -56,15 +59,16 @@ pub record IsPrinted (edition : Edition) (c : Conditions) (depth : Option ℕ) (
   pub setting : Setting
   pub start : State
   pub end : State
-  pub begins : IsBegun edition c depth fuel with_modules root_count extern_names texts files setting
-      start
+  pub begins : IsBegun edition c own depth fuel with_modules root_count extern_names texts files
+      setting start
   pub root : Source
   pub is_last : slice_get files (root_count - 1) ≡ Some root
   pub expands : RootExpands setting 1000 call with_modules files (root_count - 1) root start out end
 
 -- What is written: the expansion of each file, by the replacements of the crates whose roots are
 -- the first `root_count` files.
-pub record AreWritten (edition : Edition) (c : Conditions) (depth : Option ℕ) (fuel : ℕ)
+pub record AreWritten (edition : Edition) (c : Conditions)
+    (own : ℕ → Option CrateSettings) (depth : Option ℕ) (fuel : ℕ)
     (call : Option CallPosition)
     (with_modules : Bool) (root_count : ℕ) (extern_names : List (List ℕ)) (texts : List Text)
     (outs : List (List ℕ)) : Type 0 where
@@ -72,8 +76,8 @@ pub record AreWritten (edition : Edition) (c : Conditions) (depth : Option ℕ) 
   pub setting : Setting
   pub start : State
   pub end : State
-  pub begins : IsBegun edition c depth fuel with_modules root_count extern_names texts files setting
-      start
+  pub begins : IsBegun edition c own depth fuel with_modules root_count extern_names texts files
+      setting start
   pub parts : List SplicedPart
   pub of_crates : CratesParts setting 1000 with_modules files start root_count parts end
   pub files_expand : FilesExpand call parts files outs

@@ -40,9 +40,9 @@ IsTreeOf r file text (Some tree) =
 abbrev pub IsSource : SourceSettings → ℕ → Source → Type 0
 IsSource r file source = IsTreeOf r file (normalized source.text) source.tree
 
--- Files by their numbers, from 0.
-pub data AreSources (r : SourceSettings) : List Source → Type 0 where
-  no_file : AreSources r []
-  one_more : (files : List Source) (file : Source) → AreSources r files
-      → IsSource r (length files) file
-      → AreSources r (files ++ file ∷ [])
+-- Files by their numbers, from 0. `Reads` says which settings a file is read under.
+pub data AreSources (Reads : ℕ → SourceSettings → Type 0) : List Source → Type 0 where
+  no_file : AreSources Reads []
+  one_more : (files : List Source) (file : Source) (r : SourceSettings) → AreSources Reads files
+      → Reads (length files) r → IsSource r (length files) file
+      → AreSources Reads (files ++ file ∷ [])

@@ -2,10 +2,11 @@
 //
 // `command_line` reads them from the arguments. The settings of the expander, of `cfg` and of reading
 // files are made of them.
-ghost use Rattle.std.specs.Prelude.{◌≡◌, unwrap_or};
+ghost use Rattle.std.specs.Prelude.{◌≡◌, option_map, unwrap_or};
 ghost use Rattle.std.specs.Option.{option_or};
 ghost use Rattle.expandm.specs.Conditions.{IsUnder};
-ghost use Rattle.expandm.specs.OptionViews.{conditions_of};
+ghost use Rattle.expandm.specs.CrateSettings.{AreFileSettings, conditions_in};
+ghost use Rattle.expandm.specs.OptionViews.{conditions_of, own_of};
 ghost use Rattle.expandm.specs.ArgumentValues.{edition_of, target_of};
 
 use crate::locations::CallPosition;
@@ -13,6 +14,7 @@ use crate::source_settings::SourceSettings;
 use mbe_cfg::cfg_options as cfg;
 use mbe_cfg::cfg_options::CfgOption;
 use mbe_cfg::targets::Target;
+use mbe_grammar::rust::rust_rules::rust_rules;
 use mbe_grammar::tables::peg_table::RuleTable;
 use mbe_session::settings::{ExpansionSettings, ExplainFilter};
 use mbe_tt::span::Edition;
@@ -28,6 +30,32 @@ pub struct ExternCrate<'w> {
     pub name: &'w str,
     /// The path of the crate's root file, or of the folder that has it as `src/lib.rs`.
     pub path: &'w str,
+    /// Its own edition and features; `None` if it is read under those of the run.
+    pub settings: Option<CrateSettings<'w>>,
+}
+
+/// The edition and the features of an external crate.
+#[derive(Drop)]
+pub struct CrateSettings<'w> {
+    pub edition: Edition,
+    pub features: Vec<&'w str>,
+}
+
+/// Which crate of which package a run without files expands.
+#[derive(Drop)]
+pub struct PackageOptions<'w> {
+    /// The path of the package's manifest.
+    pub manifest: Option<&'w str>,
+    /// The name of the package, if it isn't the manifest's own.
+    pub name: Option<&'w str>,
+    /// Whether the library is expanded, even if there is a program too.
+    pub is_lib: bool,
+    /// The program that is expanded.
+    pub program: Option<&'w str>,
+    pub all_features: bool,
+    pub no_default_features: bool,
+    /// Whether the plan is printed, and nothing is expanded.
+    pub is_plan: bool,
 }
 
 /// The options of a run.
@@ -36,6 +64,8 @@ pub struct RunOptions<'w, A: Allocator = Global> {
     pub edition: Edition,
     /// The target whose options `cfg` sees.
     pub target: Target,
+    /// The name of the target.
+    pub triple: &'w str,
     /// The `cfg` options beside those of the target, in the order of the arguments.
     pub given: Vec<CfgOption<'w>, A>,
     /// The features of the crate, each an option `feature = ".."`.
@@ -58,6 +88,8 @@ pub struct RunOptions<'w, A: Allocator = Global> {
     /// Whether diagnostics are written in JSON.
     pub is_json: bool,
     pub names: Vec<&'w str, A>,
+    /// The package that is expanded if no file is named.
+    pub package: PackageOptions<'w>,
     /// Whether the files of out-of-line modules are read.
     pub with_modules: bool,
     /// The external crates whose macros are expanded too.
@@ -99,6 +131,7 @@ impl<'w, A: Allocator + Copy> RunOptions<'w, A> {
         RunOptions {
             edition: Edition::Edition2021,
             target: Target::X86_64Linux,
+            triple: "x86_64-unknown-linux-gnu",
             given: Vec::new(alloc),
             features: Vec::new(alloc),
             is_test: false,
@@ -110,6 +143,15 @@ impl<'w, A: Allocator + Copy> RunOptions<'w, A> {
             is_lint: false,
             is_json: false,
             names: Vec::new(alloc),
+            package: PackageOptions {
+                manifest: None,
+                name: None,
+                is_lib: false,
+                program: None,
+                all_features: false,
+                no_default_features: false,
+                is_plan: false,
+            },
             with_modules: true,
             externs: Vec::new(alloc),
             call: None,
@@ -146,6 +188,52 @@ impl<'w, A: Allocator + Copy> RunOptions<'w, A> {
             given: self.given.as_slice(),
             features: self.features.as_slice(),
             test: self.is_test,
+        }
+    }
+
+    /// Returns the settings of the external crate that file `number` is of. `roots` has for each
+    /// file the number of the root from which it was reached; the roots of external crates come
+    /// after those of the files that the arguments name. `None` if the crate has no settings of its
+    /// own.
+    pub fn crate_settings(&self, roots: &[usize], number: usize) -> Option<&CrateSettings<'w>>
+        ensures { option_map (λ s. s.now) result ≡ own_of self.now roots.now number }
+    {
+        let Some(root) = roots.get(number) else {
+            return None;
+        };
+        if *root < self.names.len() {
+            return None;
+        }
+        match self.externs.get(*root - self.names.len()) {
+            Some(one) => one.settings.as_ref(),
+            None => None,
+        }
+    }
+
+    // Returns the settings that `cfg` is evaluated under in an external crate.
+    fn own_conditions<'r>(&'r self, own: &'r CrateSettings<'w>) -> cfg::CfgOptions<'r>
+        ensures { IsUnder (conditions_in (conditions_of self.now) (Some own.now)) result }
+    {
+        cfg::CfgOptions {
+            target: self.target.options(),
+            given: self.given.as_slice(),
+            features: own.features.as_slice(),
+            test: false,
+        }
+    }
+
+    /// Returns how file `number` is read: in the edition and with the features of its crate.
+    pub fn file_settings<'r>(&'r self, roots: &[usize], number: usize) -> SourceSettings<'r>
+        ensures { AreFileSettings self.now.edition (conditions_of self.now)
+            (own_of self.now roots.now) number result }
+    {
+        match self.crate_settings(roots, number) {
+            Some(own) => SourceSettings {
+                edition: own.edition,
+                conditions: self.own_conditions(own),
+                grammar: rust_rules(own.edition, &[]),
+            },
+            None => self.source_settings(rust_rules(self.edition, &[])),
         }
     }
 

@@ -9,10 +9,13 @@ use crate::lint_run::lint;
 use crate::locations::NOWHERE;
 use crate::note_lines::message;
 use crate::output_paths::relative;
+use crate::package::{edition_notes, plan_package};
 use crate::progress::ProgressLine;
 use crate::sessions::{EXIT_FAILED, EXIT_OK, NamedText, Session, print, write};
 use crate::source_files::SourceFile;
 use mbe_cfg::files::paths::folder_of;
+use mbe_diagnostics::diagnostic::Level;
+use mbe_diagnostics::json::plain_line;
 use mbe_session::notes::Note;
 use std::alloc::{AllocError, Global};
 use std::env;
@@ -21,7 +24,7 @@ use std::rt::{Env, Files};
 
 /// Runs on the arguments of the program, and returns the exit status. `is_terminal` says whether
 /// standard error is a terminal.
-pub fn run_command<R: Env + Files + Input + Print + Eprint + AllocGlobal>(
+pub fn run_command<R: Env + Files + Input + Print + Eprint + AllocGlobal + Clone + Drop>(
     rt: &R,
     is_terminal: bool,
 ) -> u8 {
@@ -34,20 +37,38 @@ pub fn run_command<R: Env + Files + Input + Print + Eprint + AllocGlobal>(
     }
 }
 
-fn run<R: Env + Files + Input + Print + Eprint + AllocGlobal>(
+// Returns the arguments. Those of `cargo-expandm` are without the word `expandm` that Cargo adds.
+fn arguments<R: Env + AllocGlobal>(rt: &R) -> io::Result<Vec<String>> {
+    let mut argv: Vec<String> = Vec::new(rt.alloc());
+    for (number, argument) in env::args(rt)?.enumerate() {
+        let is_of_cargo = number == 1
+            && argument.as_str() == "expandm"
+            && match argv.as_slice() {
+                [program] => file_name(program.as_str()) == "cargo-expandm",
+                _ => false,
+            };
+        if !is_of_cargo {
+            argv.push(argument)?;
+        }
+    }
+    Ok(argv)
+}
+
+fn run<R: Env + Files + Input + Print + Eprint + AllocGlobal + Clone + Drop>(
     rt: &R,
     is_terminal: bool,
 ) -> io::Result<u8> {
-    let mut argv = Vec::new(rt.alloc());
-    for argument in env::args(rt)? {
-        argv.push(argument)?;
-    }
+    let argv = arguments(rt)?;
     match parse_arguments(rt.alloc(), argv.as_slice())? {
         Invocation::Run(options) => {
             let is_explained = options.explain.is_some() || options.is_lint;
             let is_colourless = is_colourless(rt);
             let form = choose_format(options.is_json, is_explained, is_terminal, is_colourless);
-            run_files(rt, &options, form, ProgressLine::new(&options, is_terminal))
+            let progress = ProgressLine::new(&options, is_terminal);
+            if options.names.is_empty() {
+                return run_package(rt, options, form, progress);
+            }
+            run_files(rt, &options, form, progress)
         }
         Invocation::Text(text) => {
             print!(rt; "{text}")?;
@@ -76,6 +97,54 @@ fn emit_error<R: Eprint + AllocGlobal>(
 ) -> io::Result<()> {
     let text = error_text(rt.alloc(), form, message)?;
     eprint!(rt; "{text}")
+}
+
+// Writes notes on what a package's plan leaves out.
+fn emit_package_notes<R: Eprint + AllocGlobal>(
+    rt: &R,
+    form: Option<MessageFormat>,
+    notes: &[String],
+) -> io::Result<()> {
+    for note in notes {
+        let text = match form {
+            Some(MessageFormat::Json) => {
+                let object = plain_line(rt.alloc(), Level::Note, note.as_str())?;
+                format!(in rt.alloc(); "{object}\n")?
+            }
+            _ => format!(in rt.alloc(); "note: {note}\n")?,
+        };
+        eprint!(rt; "{text}")?;
+    }
+    Ok(())
+}
+
+// Plans the package of the run, and expands its crate.
+fn run_package<'w, R: Env + Files + Input + Print + Eprint + AllocGlobal + Clone + Drop>(
+    rt: &R,
+    options: RunOptions<'w>,
+    form: Option<MessageFormat>,
+    progress: ProgressLine,
+) -> io::Result<u8> {
+    let package = match plan_package(rt, &options)? {
+        Ok(package) => package,
+        Err(message) => {
+            emit_error(rt, form, message.as_str())?;
+            return Ok(EXIT_FAILED);
+        }
+    };
+    if options.package.is_plan {
+        emit_package_notes(rt, form, &package.notes)?;
+        let text = package.text(rt.alloc())?;
+        print!(rt; "{text}")?;
+        return Ok(EXIT_OK);
+    }
+    let Some((options, notes)) = package.set(rt.alloc(), options)? else {
+        emit_error(rt, form, "the edition of the package isn't known")?;
+        return Ok(EXIT_FAILED);
+    };
+    emit_package_notes(rt, form, &package.notes)?;
+    emit_package_notes(rt, form, &notes)?;
+    run_files(rt, &options, form, progress)
 }
 
 // Reads the file of that name, or standard input for `-`. A text of 2^32 bytes or more is an error.
@@ -148,6 +217,8 @@ fn run_files<R: Files + Input + Print + Eprint + AllocGlobal>(
     let Some(input_files) = input_files(rt, options, form, progress)? else {
         return Ok(EXIT_FAILED);
     };
+    let notes = edition_notes(rt.alloc(), options, &input_files)?;
+    emit_package_notes(rt, form, &notes)?;
     let texts = input_files.texts.as_slice();
     if options.is_lint {
         return lint_files(rt, options, form, texts);
@@ -155,7 +226,7 @@ fn run_files<R: Files + Input + Print + Eprint + AllocGlobal>(
     match options.write {
         None => {
             let out = &mut io::writer(rt);
-            let (session, written) = print(rt.alloc(), options, texts, out)?;
+            let (session, written) = print(rt.alloc(), options, &input_files.roots, texts, out)?;
             written?;
             finish(rt, form, &session, true)
         }
@@ -291,7 +362,12 @@ fn write_files<R: Files + Eprint + AllocGlobal>(
         }
     };
     progress.show(rt, "files to expand", input_files.texts.len())?;
-    let (session, written) = write(rt.alloc(), options, input_files.texts.as_slice())?;
+    let (session, written) = write(
+        rt.alloc(),
+        options,
+        &input_files.roots,
+        input_files.texts.as_slice(),
+    )?;
     progress.clear(rt)?;
     for (target, text) in targets.iter().zip(written.iter()) {
         let Some(target) = target else {

@@ -1,9 +1,9 @@
 // The command line: a table of the options, and the parser of arguments.
 //
 // `OPTIONS` has a row for each option. `command` makes a clap command of the rows, which parses the
-// arguments and writes the help. `checked_invocation` then checks the values that clap takes as texts, and
-// collects all values in `RunOptions`.
-use crate::arguments::{ExternCrate, RunOptions, edition, target};
+// arguments and writes the help. `checked_invocation` then checks the values that clap takes as
+// texts, and collects all values in `RunOptions`.
+use crate::arguments::{ExternCrate, PackageOptions, RunOptions, edition, target};
 use crate::locations::CallPosition;
 use clap::builder::ValueRange;
 use clap::error::ErrorKind;
@@ -13,7 +13,9 @@ use std::alloc::{AllocError, Global};
 
 const VERSION: &str = "0.1.0";
 
-const ABOUT: &str = "Expands the macro calls of Rust files, and prints the last file.";
+const ABOUT: &str =
+    "Expands the macro calls of Rust files, and prints the last file. Without a file, \
+expands the package of the current folder.";
 
 // The name of the argument for files.
 const FILES: &str = "FILE.rs";
@@ -52,7 +54,53 @@ struct OptionRow {
     help: &'static str,
 }
 
-static OPTIONS: [OptionRow; 17] = [
+// The options that a run with files doesn't take.
+static PACKAGE_OPTIONS: [&str; 7] = [
+    "manifest-path",
+    "package",
+    "lib",
+    "bin",
+    "all-features",
+    "no-default-features",
+    "plan",
+];
+
+static OPTIONS: [OptionRow; 24] = [
+    OptionRow {
+        name: "manifest-path",
+        value: OptionValue::Text("PATH"),
+        help: "Expand the package with this Cargo.toml",
+    },
+    OptionRow {
+        name: "package",
+        value: OptionValue::Text("NAME"),
+        help: "Expand this package of the workspace",
+    },
+    OptionRow {
+        name: "lib",
+        value: OptionValue::Flag,
+        help: "Expand the package's library",
+    },
+    OptionRow {
+        name: "bin",
+        value: OptionValue::Text("NAME"),
+        help: "Expand this program of the package",
+    },
+    OptionRow {
+        name: "all-features",
+        value: OptionValue::Flag,
+        help: "Enable all features of the package",
+    },
+    OptionRow {
+        name: "no-default-features",
+        value: OptionValue::Flag,
+        help: "Don't enable the feature `default` of the package",
+    },
+    OptionRow {
+        name: "plan",
+        value: OptionValue::Flag,
+        help: "Print the crates of the package, and expand nothing",
+    },
     OptionRow {
         name: "once",
         value: OptionValue::Flag,
@@ -101,7 +149,7 @@ static OPTIONS: [OptionRow; 17] = [
     OptionRow {
         name: "features",
         value: OptionValue::CommaList("A,B"),
-        help: "Set `feature = \"A\"` and `feature = \"B\"` for `cfg`",
+        help: "Enable the features A and B",
     },
     OptionRow {
         name: "target",
@@ -196,11 +244,12 @@ fn command<'w>(alloc: Global) -> Result<Command<'w>, AllocError> {
         let argument = argument_of(alloc, row)?;
         command = command.arg(match row.name {
             "once" => argument.conflicts_with("depth")?,
+            "lib" => argument.conflicts_with("bin")?,
+            "package" => argument.short('p'),
             _ => argument,
         })?;
     }
     let files = Arg::new(alloc, FILES)
-        .required(true)
         .num_args(1..)
         .help("Files; the last one is printed. `-` is standard input");
     command.arg(files)
@@ -273,7 +322,11 @@ fn parse_extern(text: &str) -> Option<ExternCrate<'_>> {
     if name.is_empty() || path.is_empty() {
         return None;
     }
-    Some(ExternCrate { name, path })
+    Some(ExternCrate {
+        name,
+        path,
+        settings: None,
+    })
 }
 
 // Returns the options that clap has checked, and the defaults of the others.
@@ -299,7 +352,52 @@ fn checked_options<'w>(alloc: Global, matches: &ArgMatches<'w>) -> RunOptions<'w
     if let Some(target) = matches.get_str("target").and_then(target) {
         options.target = target;
     }
+    if let Some(triple) = matches.get_str("target") {
+        options.triple = triple;
+    }
+    options.package = PackageOptions {
+        manifest: matches.get_str("manifest-path"),
+        name: matches.get_str("package"),
+        is_lib: matches.get_flag("lib"),
+        program: matches.get_str("bin"),
+        all_features: matches.get_flag("all-features"),
+        no_default_features: matches.get_flag("no-default-features"),
+        is_plan: matches.get_flag("plan"),
+    };
     options
+}
+
+// Whether an option is given.
+fn is_given(matches: &ArgMatches<'_>, name: &str) -> bool {
+    match name {
+        "lib" | "all-features" | "no-default-features" | "plan" => matches.get_flag(name),
+        _ => matches.contains_id(name),
+    }
+}
+
+// Returns the message of an option that doesn't go with files, or of `--edition` without one.
+fn misplaced(
+    alloc: Global,
+    matches: &ArgMatches<'_>,
+    options: &RunOptions<'_>,
+) -> Result<Option<String>, AllocError> {
+    if options.names.is_empty() {
+        if is_given(matches, "edition") {
+            return Ok(Some(String::from_str(
+                alloc,
+                "error: '--edition' is for files: the edition of a package is in its Cargo.toml",
+            )?));
+        }
+        return Ok(None);
+    }
+    for name in PACKAGE_OPTIONS {
+        if is_given(matches, name) {
+            return Ok(Some(format!(in alloc;
+                "error: '--{name}' is for a package, and a file is named"
+            )?));
+        }
+    }
+    Ok(None)
 }
 
 // Adds the options for `cfg`. Returns the message of an invalid value.
@@ -417,6 +515,9 @@ fn checked_invocation<'w>(
         return Ok(Invocation::Refused(message));
     }
     add_names(matches, &mut options)?;
+    if let Some(message) = misplaced(alloc, matches, &options)? {
+        return Ok(Invocation::Refused(message));
+    }
     Ok(Invocation::Run(options))
 }
 

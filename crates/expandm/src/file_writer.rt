@@ -78,8 +78,8 @@ fn file_conflict(
     }
 }
 
-// Returns why nothing can be written at the target, as the text of an error: a symbolic link is on
-// the path, or what is there can't be overwritten.
+// Returns an error text if nothing can be written at the target. Either a symbolic link is on the
+// path, or the file there can't be overwritten.
 fn target_conflict<R: Files + AllocGlobal>(
     rt: &R,
     folder: &str,

@@ -8,7 +8,6 @@ use crate::sessions::NamedText;
 use crate::source_settings::SourceSettings;
 use mbe_cfg::crates::module_inliner::UnresolvedFile;
 use mbe_cfg::files::module_dir::{Candidates, ModuleDir};
-use mbe_grammar::rust::rust_rules::rust_rules;
 use std::alloc::Global;
 use std::fs;
 use std::io::{self, Read};
@@ -21,8 +20,8 @@ const MAX_FILES: usize = 65_536;
 #[derive(Drop)]
 pub struct InputFiles {
     pub texts: Vec<NamedText>,
-    // For each file, the number of the root from which it was reached.
-    roots: Vec<usize>,
+    /// For each file, the number of the root from which it was reached.
+    pub roots: Vec<usize>,
     // For each file, where its modules are looked for; `None` if they are not followed.
     places: Vec<Option<ModuleDir>>,
 }
@@ -166,11 +165,11 @@ impl InputFiles {
         options: &RunOptions<'_>,
         progress: ProgressLine,
     ) -> io::Result<()> {
-        let source_settings = options.source_settings(rust_rules(options.edition, &[]));
         for number in 0..MAX_FILES {
             if number >= self.texts.len() {
                 return Ok(());
             }
+            let source_settings = options.file_settings(&self.roots, number);
             self.load_modules_of(rt, &source_settings, number)?;
             progress.show(rt, "files read", self.texts.len())?;
         }

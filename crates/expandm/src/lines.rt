@@ -1,8 +1,8 @@
 // Lines of a text, and the mapping from the text without carriage returns back to the original.
 //
-// rustc reads a carriage return and a line feed as one line feed before it lexes. `Lines` does the
-// same: it keeps the text with each `\r\n` as `\n`, and where the carriage returns were. Spans are
-// bytes of that text; a replacement is mapped back to the original before it is spliced.
+// Before it lexes, rustc reads a carriage return and a line feed as one line feed. `Lines` does the
+// same. It keeps the text with each `\r\n` as `\n`, and the places of the carriage returns. Spans
+// are bytes of that text. A replacement is mapped back to the original before it is spliced.
 ghost use Rattle.std.specs.Prelude.{◌≡◌, ◌≤◌, ◌<◌, ◌+◌, IfOk, drop, length, count_by, map, min};
 ghost use Rattle.std.specs.List.{slice_index};
 ghost use Rattle.std.specs.String.{string_bytes};

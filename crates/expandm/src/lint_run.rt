@@ -13,7 +13,6 @@ use crate::sessions::{EXIT_ERRORS, EXIT_OK, NamedText, sources};
 use crate::source_files::SourceFile;
 use mbe_diagnostics::lints::lint::Lint;
 use mbe_diagnostics::lints::linter::push_lints;
-use mbe_grammar::rust::rust_rules::rust_rules;
 use mbe_session::notes::Note;
 use mbe_tt::span::Edition;
 use mbe_tt::tt::TopSubtree;
@@ -85,8 +84,7 @@ pub fn lint<'f>(
         (map text_of texts.now) (map source_of l.files.items) (map lint_seen l.lints.items)) }
 {
     let mut notes = Vec::new(alloc);
-    let source_settings = options.source_settings(rust_rules(options.edition, &[]));
-    let files = sources(alloc, &source_settings, texts, &mut notes)?;
+    let files = sources(alloc, options, &[], texts, &mut notes)?;
     let mut lints = Vec::new(alloc);
     push_all_lints(alloc, options.edition, &mut lints, files.as_slice())?;
     Ok(LintRun {

@@ -21,6 +21,7 @@ mod locations;
 mod module_files;
 mod note_lines;
 mod output_paths;
+mod package;
 mod progress;
 mod sessions;
 mod source_files;

@@ -7,7 +7,8 @@ ghost use Rattle.mbe_session.specs.SessionViews.{setting_of, state_of};
 ghost use Rattle.expandm.specs.FileExpansion.{WritesOne};
 ghost use Rattle.expandm.specs.Runs.{AreWritten, IsBegun, IsPrinted};
 ghost use Rattle.expandm.specs.FileViews.{source_of, sources_of, text_of};
-ghost use Rattle.expandm.specs.OptionViews.{conditions_of, names_of};
+ghost use Rattle.expandm.specs.CrateSettings.{AreFileSettings};
+ghost use Rattle.expandm.specs.OptionViews.{conditions_of, names_of, own_of};
 ghost use Rattle.expandm.specs.Sources.{AreSources, source_text};
 ghost use Rattle.expandm.specs.Statuses.{is_error, status_of};
 
@@ -17,7 +18,6 @@ use crate::emitter::calls_to_explain;
 use crate::file_expansion::{PrintRequest, file_texts, write_last};
 use crate::limits::recursion_limit;
 use crate::source_files::{SourceFile, source_file};
-use crate::source_settings::SourceSettings;
 use mbe_grammar::rust::rust_rules::rust_rules;
 use mbe_session::file_expander::FileExpander;
 use mbe_session::notes::{Level, Note};
@@ -50,17 +50,21 @@ pub struct Session<'f> {
     pub notes: Vec<Note>,
 }
 
-/// Reads the files. A note is added for each that isn't Rust, which says where and why.
+/// Reads the files, each under the settings of its crate. `roots` has for each file the number of
+/// the root from which it was reached. A note is added for each that isn't Rust, which says where
+/// and why.
 /// `AllocError` if out of memory, or if there are more than 2^32 files.
 pub fn sources<'f>(
     alloc: Global,
-    source_settings: &SourceSettings<'_>,
+    options: &RunOptions<'_>,
+    roots: &[usize],
     texts: &'f [NamedText],
     notes: &mut Vec<Note>,
 ) -> Result<Vec<SourceFile<'f>>, AllocError>
     ensures texts { IfOk result (λ v. map (λ f. source_text (source_of f)) v.items
         ≡ map text_of texts.now) }
-    ensures read { IfOk result (λ v. AreSources source_settings.now (map source_of v.items)) }
+    ensures read { IfOk result (λ v. AreSources (AreFileSettings options.now.edition
+        (conditions_of options.now) (own_of options.now roots.now)) (map source_of v.items)) }
 {
     let mut symbols = SymbolTable::new(alloc);
     let mut files = Vec::new(alloc);
@@ -69,7 +73,8 @@ pub fn sources<'f>(
             return Err(AllocError);
         };
         let (name, text) = (named.name.as_str(), named.text.as_str());
-        let file = source_file(alloc, &mut symbols, notes, source_settings, name, text, at)?;
+        let source_settings = options.file_settings(roots, number);
+        let file = source_file(alloc, &mut symbols, notes, &source_settings, name, text, at)?;
         files.push(file)?;
     }
     Ok(files)
@@ -101,17 +106,19 @@ impl<'f> Session<'f> {
     pub fn begin(
         alloc: Global,
         options: &'f RunOptions<'_>,
+        roots: &'f [usize],
         texts: &'f [NamedText],
     ) -> Result<Session<'f>, AllocError>
         ensures { IfOk result (λ s. IsBegun options.now.edition
-            (conditions_of options.now) options.now.depth options.now.fuel options.now.with_modules
-            (length options.now.names.items) (names_of options.now) (map text_of texts.now) (sources_of s)
+            (conditions_of options.now) (own_of options.now roots.now) options.now.depth
+            options.now.fuel options.now.with_modules
+            (length options.now.names.items) (names_of options.now) (map text_of texts.now)
+            (sources_of s)
             (setting_of s.expander) (state_of s.expander)) }
     {
         let mut notes = Vec::new(alloc);
         let grammar = rust_rules(options.edition, &[]);
-        let source_settings = options.source_settings(grammar);
-        let files = sources(alloc, &source_settings, texts, &mut notes)?;
+        let files = sources(alloc, options, roots, texts, &mut notes)?;
         let root_count = options.names.len();
         let explain = calls_to_explain(options.explain, files.as_slice(), root_count);
         let settings = options.settings(first_limit(&files, root_count), explain);
@@ -168,6 +175,7 @@ fn print_request(options: &RunOptions<'_>) -> PrintRequest
 pub fn print<'f, W: Write>(
     alloc: Global,
     options: &'f RunOptions<'_>,
+    roots: &'f [usize],
     texts: &'f [NamedText],
     out: &mut W,
 ) -> Result<(Session<'f>, io::Result<()>), AllocError>
@@ -175,11 +183,12 @@ pub fn print<'f, W: Write>(
     ensures printed { IfOk result (λ r. 0 < length options.now.names.items
         → length options.now.names.items ≤ length texts.now
         → WritesOne (W.contents out.old) (W.contents out.new) r.1
-        (IsPrinted options.now.edition (conditions_of options.now) options.now.depth
-        options.now.fuel options.now.call options.now.with_modules
+        (IsPrinted options.now.edition (conditions_of options.now)
+        (own_of options.now roots.now) options.now.depth options.now.fuel options.now.call
+        options.now.with_modules
         (length options.now.names.items) (names_of options.now) (map text_of texts.now))) }
 {
-    let mut session = Session::begin(alloc, options, texts)?;
+    let mut session = Session::begin(alloc, options, roots, texts)?;
     let request = print_request(options);
     let (of, root_count) = (&mut session, options.names.len());
     let (notes, expander) = (&mut of.notes, &mut of.expander);
@@ -192,14 +201,16 @@ pub fn print<'f, W: Write>(
 pub fn write<'f>(
     alloc: Global,
     options: &'f RunOptions<'_>,
+    roots: &'f [usize],
     texts: &'f [NamedText],
 ) -> Result<(Session<'f>, Vec<String>), AllocError>
     ensures { IfOk result (λ r. AreWritten options.now.edition (conditions_of options.now)
-        options.now.depth options.now.fuel options.now.call options.now.with_modules
+        (own_of options.now roots.now) options.now.depth options.now.fuel options.now.call
+        options.now.with_modules
         (length options.now.names.items) (names_of options.now) (map text_of texts.now)
         (map string_bytes r.1.items)) }
 {
-    let mut session = Session::begin(alloc, options, texts)?;
+    let mut session = Session::begin(alloc, options, roots, texts)?;
     let (of, root_count) = (&mut session, options.names.len());
     let (notes, expander) = (&mut of.notes, &mut of.expander);
     let parts = crates_replacements(

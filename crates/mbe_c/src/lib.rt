@@ -38,14 +38,14 @@ pub struct Reply {
     pub part: u32,
     /// 1 if there is a rule, else 0.
     pub has_rule: u32,
-    /// The index of the rule that was used, or of the rule that fits best.
+    /// The index of the rule that was used, or of the closest rule.
     pub rule: u32,
     /// The span of an expansion's error.
     pub span: FlatSpan,
     /// The column of the fault, for `NoGrammar`. A column above 2^32 - 1 is given as 2^32 - 1.
     pub column: u32,
-    /// Where the fault is: the byte for `NoTokens`, the token for `NoTrees`, the line for
-    /// `NoGrammar`. For `mbe_c_define` it is the number of rules.
+    /// The place of the fault: the byte for `NoTokens`, the token for `NoTrees`, the line for
+    /// `NoGrammar`. For `mbe_c_define`, this is the number of rules.
     pub place: usize,
     /// The number of tokens or verdicts, which may be more than the buffer has room for.
     pub tokens: usize,

@@ -2,3 +2,5 @@
 pub mod Loops
 pub mod Sizes
 pub mod Infallible
+pub mod Fixed
+pub mod Optional

@@ -1,6 +1,7 @@
 pub mod Excerpt
 pub mod Outcome
 pub mod SpanAt
+pub mod Mismatch
 pub mod Diagnostics
 pub mod Json
 pub mod RuleChecks

@@ -3,6 +3,7 @@ pub mod Definitions
 pub mod Lint
 pub mod Linter
 pub mod SimilarSpecifier
+pub mod RepetitionLints
 pub mod UnreachableLints
 pub mod ErrorLocation
 pub mod ParsedMacroViews

@@ -158,22 +158,23 @@ listed (a ∷ (b ∷ (c ∷ more))) = a.text ++ (codes ", " ++ listed (b ∷ (c 
 
 abbrev pub pair_text_by : Bool → List ℕ → List ℕ → List ℕ
 pair_text_by true one other = one ++ codes " in two ways"
-pair_text_by false one other = one ++ (codes " and by " ++ other)
+pair_text_by false one other = one ++ (codes " or " ++ other)
 
 -- The text of two parts by which the match could go on.
 unfoldable pub pair_text : RulePart × RulePart → List ℕ
 pair_text p = pair_text_by (is_same_part p.0 p.1) p.0.text p.1.text
 
 abbrev pub message_by : List ℕ → Verdict → List RulePart → Option (RulePart × RulePart) → List ℕ
-message_by rule one_reading expected ambiguity = rule ++ codes " fits"
-message_by rule many_readings expected None = rule ++ codes " reads the call in several ways"
+message_by rule one_reading expected ambiguity = rule ++ codes " matches"
+message_by rule many_readings expected None = rule ++ codes " matches the call in several ways"
 message_by rule many_readings expected (Some pair) =
-    rule ++ (codes " reads the call in several ways: here it goes on by " ++ pair_text pair)
+    rule
+    ++ (codes " matches the call in several ways: here it can continue with " ++ pair_text pair)
 message_by rule (ambiguous place) expected None = rule ++ codes " is ambiguous here"
 message_by rule (ambiguous place) expected (Some pair) =
-    rule ++ (codes " is ambiguous here: it goes on by " ++ pair_text pair)
+    rule ++ (codes " is ambiguous here: it can continue with " ++ pair_text pair)
 message_by rule (stuck place) expected ambiguity =
-    rule ++ (codes " doesn't go on here: it wants " ++ listed (unique [] expected))
+    rule ++ (codes " stops here; expected " ++ listed (unique [] expected))
 
 -- The message of an outcome, with the name of the rule.
 abbrev pub message_text : List ℕ → MatchOutcome → List ℕ

@@ -6,6 +6,7 @@ pub mod finding_messages;
 pub mod lint;
 pub mod linter;
 pub mod parsed_macro;
+pub mod repetition_lints;
 pub mod similar_specifier;
 pub mod unreachable_lints;
 pub mod variable_display;

@@ -238,7 +238,7 @@ fn pair_text_by<A: Allocator>(
 {
     match are_same {
         true => format!(in alloc; "{one} in two ways"),
-        false => format!(in alloc; "{one} and by {other}"),
+        false => format!(in alloc; "{one} or {other}"),
     }
 }
 
@@ -268,9 +268,9 @@ fn list_text<A: Allocator + Copy>(alloc: A, parts: &[RulePart<A>]) -> Result<Str
 
 fn stuck_text<A: Allocator>(alloc: A, rule: &str, list: &str) -> Result<String<A>, AllocError>
     ensures { IfOk result (λ text. string_bytes text
-        ≡ rule.now ++ (codes " doesn't go on here: it wants " ++ list.now)) }
+        ≡ rule.now ++ (codes " stops here; expected " ++ list.now)) }
 {
-    format!(in alloc; "{rule} doesn't go on here: it wants {list}")
+    format!(in alloc; "{rule} stops here; expected {list}")
 }
 
 fn ambiguous_text<A: Allocator>(
@@ -279,16 +279,16 @@ fn ambiguous_text<A: Allocator>(
     ambiguity: &str,
 ) -> Result<String<A>, AllocError>
     ensures { IfOk result (λ text. string_bytes text
-        ≡ rule.now ++ (codes " is ambiguous here: it goes on by " ++ ambiguity.now)) }
+        ≡ rule.now ++ (codes " is ambiguous here: it can continue with " ++ ambiguity.now)) }
 {
-    format!(in alloc; "{rule} is ambiguous here: it goes on by {ambiguity}")
+    format!(in alloc; "{rule} is ambiguous here: it can continue with {ambiguity}")
 }
 
 fn diverging_text<A: Allocator>(alloc: A, rule: &str, both: &str) -> Result<String<A>, AllocError>
     ensures { IfOk result (λ text. string_bytes text ≡ rule.now
-        ++ (codes " reads the call in several ways: here it goes on by " ++ both.now)) }
+        ++ (codes " matches the call in several ways: here it can continue with " ++ both.now)) }
 {
-    format!(in alloc; "{rule} reads the call in several ways: here it goes on by {both}")
+    format!(in alloc; "{rule} matches the call in several ways: here it can continue with {both}")
 }
 
 /// Returns the message of an outcome. The text `rule` names the rule in it. `AllocError` if out of
@@ -302,8 +302,10 @@ pub fn message<A: Allocator + Copy>(
         ≡ spec.message_text rule.now (outcome_seen outcome.now)) }
 {
     match (outcome.verdict, &outcome.ambiguity) {
-        (Verdict::OneReading, _) => format!(in alloc; "{rule} fits"),
-        (Verdict::ManyReadings, None) => format!(in alloc; "{rule} reads the call in several ways"),
+        (Verdict::OneReading, _) => format!(in alloc; "{rule} matches"),
+        (Verdict::ManyReadings, None) => {
+            format!(in alloc; "{rule} matches the call in several ways")
+        }
         (Verdict::ManyReadings, Some((one, other))) => {
             let both = pair_text(alloc, one, other)?;
             diverging_text(alloc, rule, both.as_str())

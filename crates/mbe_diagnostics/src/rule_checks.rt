@@ -2,7 +2,10 @@
 // rules that no call reaches.
 mod equivalence;
 pub mod findings;
+pub mod fixed_repetitions;
 pub mod follow_check;
 mod infallibility;
+pub mod optional_separators;
 pub mod unreachable_rules;
 pub mod variables;
+pub mod words;

@@ -23,7 +23,7 @@ pub struct RulePart<A: Allocator = Global> {
     pub span: Option<Span>,
 }
 
-fn opening_of(kind: DelimiterKind) -> &'static str
+pub(crate) fn opening_of(kind: DelimiterKind) -> &'static str
     ensures { result.now ≡ spec.opening kind }
 {
     match kind {
@@ -45,7 +45,10 @@ fn chars_of<A: Allocator>(alloc: A, puncts: &[Punct]) -> Result<String<A>, Alloc
     Ok(text)
 }
 
-fn puncts_quoted<A: Allocator + Copy>(alloc: A, puncts: &[Punct]) -> Result<String<A>, AllocError>
+pub(crate) fn puncts_quoted<A: Allocator + Copy>(
+    alloc: A,
+    puncts: &[Punct],
+) -> Result<String<A>, AllocError>
     ensures { IfOk result (λ text. string_bytes text ≡ quoted (puncts_text puncts.now)) }
 {
     let chars = chars_of(alloc, puncts)?;
@@ -124,7 +127,8 @@ fn first_span(puncts: &[Punct]) -> Option<Span>
     }
 }
 
-fn separator_span<A: Allocator>(separator: &Separator<A>) -> Option<Span>
+// Returns the span of the separator's first token.
+pub(crate) fn separator_span<A: Allocator>(separator: &Separator<A>) -> Option<Span>
     ensures { result ≡ spec.separator_place (separator_seen separator.now) }
 {
     match separator {
@@ -135,8 +139,9 @@ fn separator_span<A: Allocator>(separator: &Separator<A>) -> Option<Span>
     }
 }
 
+// Returns the span of the op's first token. A repetition or an expression has none.
 #[tactic(auto, using(mbe_ops::proofs::OpViews::views))]
-fn op_span<A: Allocator>(op: &Op<A>) -> Option<Span>
+pub(crate) fn op_span<A: Allocator>(op: &Op<A>) -> Option<Span>
     ensures { result ≡ spec.op_place (op_of op.now) }
 {
     match op {

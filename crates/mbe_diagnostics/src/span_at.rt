@@ -8,8 +8,8 @@ use mbe_tt::tt::{TokenTreesView, TtElement};
 use std::alloc::Allocator;
 
 /// Returns the span of the token at an offset, which is the number of flat tokens of these trees
-/// before it. Where a group ends at the offset, this is the span of its closing delimiter. `close`
-/// is the span of the closing delimiter after the trees, which ends the argument.
+/// before it. If a group ends at the offset, this is the span of its closing delimiter. `close` is
+/// the span of the closing delimiter after the trees, which ends the argument.
 pub fn span_at<A: Allocator>(tokens: TokenTreesView<'_, A>, close: Span, offset: usize) -> Span
     ensures { result ≡ span_at close (trees tokens.entry) offset }
 {

@@ -11,3 +11,4 @@ pub mod Renamer
 pub mod Laws
 pub mod EventViews
 pub mod Buckets
+pub mod PatternCalls

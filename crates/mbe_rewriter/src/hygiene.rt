@@ -8,6 +8,8 @@ mod format_names;
 pub mod laws;
 mod local_names;
 mod lookahead;
+mod new_names;
+mod pattern_calls;
 mod regions;
 pub mod renamer;
 mod roles;

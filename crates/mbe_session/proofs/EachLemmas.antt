@@ -1,12 +1,13 @@
--- What follows from what replaces the calls of trees: each part is one of their calls', and there is none
--- where no call is known.
+-- What follows from what replaces the calls of trees: each part is one of their calls', and there
+-- is none where no call is known.
 use Rattle.std.proofs.Common.{◌≡◌, ℕ, zero, suc, Bool, true, false, List, [], ◌∷◌, ◌++◌, length, Option, Some, None}
 use Rattle.std.proofs.Common.{refl, ap, sym, subst, ◌∙◌}
-use Rattle.std.specs.Prelude.{◌||◌, ◌&&◌, if◌then◌else◌, option_map, option_and_then}
+use Rattle.std.specs.Prelude.{◌||◌, ◌&&◌, not, codes, if◌then◌else◌, option_map, option_and_then}
 use Rattle.std.specs.Option.{option_or}
 use Rattle.std.specs.List.{All, slice_get}
 use Rattle.std.specs.Str.{bytes_eq}
 use Rattle.std.proofs.lemmas.List.Elements.{All-nil, All-cons, All-append}
+use Rattle.mbe_tt.specs.Trees.Leaf.{is_text}
 use Rattle.mbe_tt.specs.Trees.Top.{Top}
 use Rattle.mbe_tt.specs.Trees.Tree.{Forest, Tree, Leaf_tree, Group_tree, none, leaf, group, tree, rest_of}
 use Rattle.mbe_tt.specs.declared.tt.DelimiterKind.{DelimiterKind}
@@ -21,7 +22,12 @@ use Rattle.mbe_session.specs.CallExpansion.{refused, called_macro}
 use Rattle.mbe_session.specs.Adjustment.{IsRest, what_follows, after_semicolon}
 use Rattle.mbe_session.specs.Scopes.{Scope, Definition as AMacro, CrateFilter, Own, Others, Crate, ExceptCrateOf}
 use Rattle.mbe_session.specs.Scopes.{definition_at, is_admitted, is_found, last_below, last_found, permits}
-use Rattle.mbe_session.specs.Scopes.{last_visible, unique_extern, unless_rival, resolve_name, resolve_path, placed}
+use Rattle.mbe_session.specs.Scopes.{last_visible, unique_extern, unless_rival, placed}
+use Rattle.mbe_session.specs.Scopes.{OwnExcept, Module, ModuleExcept, AnyModule, OtherFile}
+use Rattle.mbe_session.specs.Resolution.{has_module, has_own, is_doubtful, is_foreign, is_global, is_own_name}
+use Rattle.mbe_session.specs.Resolution.{is_pair, is_prelude_macro, sole_in, sole_own, resolve_elsewhere}
+use Rattle.mbe_session.specs.Resolution.{resolve_import, resolve_in, resolve_name, resolve_own, resolve_path}
+use Rattle.mbe_session.specs.Resolution.{resolve_sole}
 use Rattle.mbe_session.specs.declared.scope.Visibility.{Visibility}
 use Rattle.mbe_session.specs.declared.scope.Visibility.TheVariants.{Text, Files, Paths, Crates}
 use Rattle.mbe_session.specs.CallReplacements.{Parts, ShowsItems, no_more, at_definition, at_call, at_tree, shown_at}
@@ -194,7 +200,7 @@ not_last p (suc n) h = ap (λ b. if b then Some n else last_below p n) (h n) ∙
 last_missing : (crate_filter : CrateFilter) (s : Scope) (w : Visibility) (name : List ℕ) → NoneHas name s.definitions
     → last_found crate_filter s w name ≡ None
 last_missing crate_filter s w name h =
-    not_last _ _ (λ n. and_false (is_admitted s.crates crate_filter n) _ (missing_at name w s.definitions n h))
+    not_last _ _ (λ n. and_false (is_admitted s crate_filter n) _ (missing_at name w s.definitions n h))
 
 sole_missing : (s : Scope) (name : List ℕ) → NoneHas name s.definitions → unique_extern s name ≡ None
 sole_missing s name h =
@@ -210,24 +216,69 @@ near_missing : (s : Scope) (name : List ℕ) → NoneHas name s.definitions → 
 near_missing s name h =
     ap (option_and_then (slice_get s.visible)) (not_last _ _ (λ n. seen_missing s name (slice_get s.visible n) h))
 
-path_missing : (s : Scope) (crate name : List ℕ) → NoneHas name s.definitions → resolve_path s crate name ≡ None
-path_missing s crate name h =
-    ap (λ o. option_or o (last_found Own s Paths name)) (last_missing (Crate crate) s Crates name h)
-    ∙ last_missing Own s Paths name h
+either_missing : (b : Bool) (x y : Option ℕ) → x ≡ None → y ≡ None → (if b then x else y) ≡ None
+either_missing true x y h k = h
+either_missing false x y h k = k
+
+own_missing : (s : Scope) (name : List ℕ) → NoneHas name s.definitions → sole_own s name ≡ None
+own_missing s name h =
+    ap (option_and_then (λ n. unless_rival n (last_found (OwnExcept n) s Paths name)))
+    (last_missing Own s Paths name h)
+
+in_missing : (s : Scope) (parent name : List ℕ) → NoneHas name s.definitions → sole_in s parent name ≡ None
+in_missing s parent name h =
+    ap (option_and_then (λ n. unless_rival n (last_found (ModuleExcept parent n) s Paths name)))
+    (last_missing (Module parent) s Paths name h)
+
+import_missing : (s : Scope) (name : List ℕ) → NoneHas name s.definitions → resolve_import s name ≡ None
+import_missing s name h =
+    either_missing (has_own s name) _ _ (either_missing (is_doubtful s name) _ _ refl (own_missing s name h))
+    (sole_missing s name h)
 
 name_missing : (s : Scope) (name : List ℕ) → NoneHas name s.definitions → resolve_name s name ≡ None
 name_missing s name h =
-    ap (λ o. option_or o (option_or (last_found Own s Files name) (unique_extern s name))) (near_missing s name h)
-    ∙ (ap (λ o. option_or o (unique_extern s name)) (last_missing Own s Files name h) ∙ sole_missing s name h)
+    ap (λ o. option_or o (option_or (last_found AnyModule s Files name) (resolve_import s name)))
+    (near_missing s name h)
+    ∙ (ap (λ o. option_or o (resolve_import s name)) (last_missing AnyModule s Files name h)
+    ∙ import_missing s name h)
 
-either_missing : (is_path : Bool) (a b : Option ℕ) → a ≡ None → b ≡ None → (if is_path then a else b) ≡ None
-either_missing true a b h k = h
-either_missing false a b h k = k
+elsewhere_missing : (s : Scope) (file : ℕ) (name : List ℕ) → NoneHas name s.definitions
+    → resolve_elsewhere s file name ≡ None
+elsewhere_missing s file name h =
+    either_missing (is_prelude_macro name || has_own s name) _ _ refl (last_missing (OtherFile file) s Files name h)
+
+near_in_missing : (s : Scope) (first name : List ℕ) → NoneHas name s.definitions → resolve_in s first name ≡ None
+near_in_missing s first name h =
+    either_missing (is_text first (codes "crate")) _ _ (in_missing s (codes "") name h)
+    (either_missing (has_module s.declared first && not (is_foreign s.declared first)) _ _
+    (in_missing s first name h) refl)
+
+only_missing : (s : Scope) (first name : List ℕ) → NoneHas name s.definitions → resolve_sole s first name ≡ None
+only_missing s first name h =
+    either_missing (not (is_own_name first s.declared) || is_foreign s.declared name) _ _ refl (own_missing s name h)
+
+here_missing : (s : Scope) (pair : Bool) (first name : List ℕ) → NoneHas name s.definitions
+    → resolve_own s pair first name ≡ None
+here_missing s pair first name h =
+    ap (λ o. option_or o (resolve_sole s first name))
+    (either_missing pair (resolve_in s first name) None (near_in_missing s first name h) refl)
+    ∙ only_missing s first name h
+
+path_missing : (s : Scope) (c : MacroCall) → NoneHas c.name.sym s.definitions → resolve_path s c ≡ None
+path_missing s c h =
+    ap (λ o. option_or o (if is_global c then None else resolve_own s (is_pair c) c.first.sym c.name.sym))
+    (last_missing (Crate c.first.sym) s Crates c.name.sym h)
+    ∙ either_missing (is_global c) None _ refl (here_missing s (is_pair c) c.first.sym c.name.sym h)
+
+plain_missing : (s : Scope) (c : MacroCall) → NoneHas c.name.sym s.definitions
+    → option_or (resolve_name s c.name.sym) (resolve_elsewhere s c.name.span.file c.name.sym) ≡ None
+plain_missing s c h =
+    ap (λ o. option_or o (resolve_elsewhere s c.name.span.file c.name.sym)) (name_missing s c.name.sym h)
+    ∙ elsewhere_missing s c.name.span.file c.name.sym h
 
 unnamed : (s : State) (c : MacroCall) → NoneHas c.name.sym s.scope.definitions → called_macro s c ≡ None
 unnamed s c h = ap (λ o. option_map (λ (d : AMacro). d.rules) (option_and_then (definition_at s.scope) o))
-    (either_missing c.is_path _ _ (path_missing s.scope c.first.sym c.name.sym h)
-    (name_missing s.scope c.name.sym h))
+    (either_missing c.is_path _ _ (path_missing s.scope c h) (plain_missing s.scope c h))
 
 -- ---- no call is known
 

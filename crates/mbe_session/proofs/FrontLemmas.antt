@@ -2,6 +2,7 @@
 use Rattle.std.proofs.Common.{◌≡◌, ◌<◌, ◌+◌, ℕ, zero, suc, Bool, true, false, List, [], ◌∷◌, ◌++◌, Option, Some, None}
 use Rattle.std.proofs.Common.{refl, ap, sym, ◌∙◌, arith}
 use Rattle.std.specs.Prelude.{if◌then◌else◌, ◌==◌, option_map, option_and_then, unwrap_or, codes}
+use Rattle.std.specs.Str.{bytes_eq}
 use Rattle.mbe_tt.specs.Trees.Leaf.{Leaf, Ident, punct, literal, ident, is_text}
 use Rattle.mbe_tt.specs.Trees.Tree.{Forest, Tree, Leaf_tree, Group_tree, none, leaf, group, tree, append, leaves, first}
 use Rattle.mbe_tt.specs.Trees.Tree.{rest_of, first_span, flat_len, front_ident, front_group}
@@ -18,6 +19,8 @@ use Rattle.mbe_rewriter.specs.MacroItems.{is_visible, call_with_group, call_of_p
 use Rattle.mbe_rewriter.specs.MacroItems.{macro_rules_with_name, macro_rules_definition, macro_item_with_template}
 use Rattle.mbe_rewriter.specs.MacroItems.{macro_item_with_group, macro_item_definition, defined_after, definition_of}
 use Rattle.mbe_rewriter.specs.MacroItems.{tree_front, call_front, front_with, front}
+use Rattle.mbe_cfg.specs.CrateExports.Exports.{after_word}
+use Rattle.mbe_session.specs.Imports.{ModuleItem, module_at, module_in, module_with_name}
 
 -- some trees precede those
 pub record Ahead (f rest : Forest) : Type 0 where
@@ -286,6 +289,42 @@ item_of_ahead f g d a e =
     let k = then_some _ (front_group (rest_of g)) d i.2 in
     body_ahead k.0.0.kind f (rest_of (rest_of g)) k.0.1 i.0 k.0.0 d
     (group_after f (rest_of g) k.0.1 k.0.0 (both f g (rest_of g) a (ident_leaves g i.0 i.1)) k.1) k.2
+
+-- after a module
+word_leaves : (word : List ℕ) (f rest : Forest) → after_word word f ≡ Some rest → AheadLeaves f rest
+word_leaves word f rest e =
+    let i = then_some _ (front_ident f) rest e in
+    let same = if_some (bytes_eq i.0.sym word) (rest_of f) rest i.2 in
+    let a = ident_ahead f i.0 i.1 in
+    one f rest a.0 (a.1 ∙ ap (leaf a.0) same)
+
+in_braces : (kind : DelimiterKind) (m x : ModuleItem) → module_in kind m ≡ Some x → m ≡ x
+in_braces Brace m x e = cc
+in_braces Parenthesis m x e = absurd (cc)
+in_braces Bracket m x e = absurd (cc)
+in_braces Invisible m x e = absurd (cc)
+
+module_ends : (f : Forest) (m x : ModuleItem) → m ≡ x → Ahead f m.rest → Ahead f x.rest
+module_ends f m x same a = record {
+  kept = a.kept;
+  is = a.is
+      ∙ ap (λ (k : ModuleItem). append a.kept k.rest) same;
+  some = a.some;
+}
+
+named_module_ahead : (f g : Forest) (name : Ident) (x : ModuleItem) → AheadLeaves f g
+    → module_with_name name g ≡ Some x
+    → Ahead f x.rest
+named_module_ahead f g name x a e =
+    let k = then_some _ (front_group g) x e in
+    module_ends f _ x (in_braces k.0.0.kind _ x k.2) (group_after f g k.0.1 k.0.0 a k.1)
+
+pub module_ahead : (f : Forest) (x : ModuleItem) → module_at f ≡ Some x → Ahead f x.rest
+module_ahead f x e =
+    let g = then_some _ (after_word (codes "mod") f) x e in
+    let i = then_some _ (front_ident g.0) x g.2 in
+    named_module_ahead f (rest_of g.0) i.0 x
+    (both f g.0 (rest_of g.0) (word_leaves (codes "mod") f g.0 g.1) (ident_leaves g.0 i.0 i.1)) i.2
 
 defined_ahead : (r m : Bool) (f g : Forest) (d : MacroDefinition) → AheadLeaves f g
     → (if r then macro_rules_definition g else if m then macro_item_definition g else None) ≡ Some d → Ahead f d.rest

@@ -13,7 +13,8 @@ use Rattle.mbe_cfg.specs.declared.cfg_options.CfgOptions.{CfgOptions}
 use Rattle.mbe_rewriter.specs.PunctSpacing.{spaced}
 use Rattle.mbe_rewriter.specs.WholeFragments.Receivers.{parenthesize_receivers}
 use Rattle.mbe_rewriter.specs.Hygiene.Contexts.{step_span, numbered}
-use Rattle.mbe_session.specs.Scopes.{Scope, rules_found, contexts_found}
+use Rattle.mbe_session.specs.Scopes.{Scope}
+use Rattle.mbe_session.specs.Resolution.{rules_found, contexts_found}
 
 -- What doesn't change on the way: the grammar of fragments, the conditions of `cfg`s, the edition
 -- in which definitions are read, and how deep expansions may be nested.

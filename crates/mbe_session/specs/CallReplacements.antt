@@ -20,7 +20,8 @@ use Rattle.mbe_session.specs.NestedExpansion.{ExpandsTo, ReplacesCall, after_gro
 use Rattle.mbe_session.specs.CallExpansion.{Setting, State, StaysUnexpanded, IsReplaced, after_step}
 use Rattle.mbe_session.specs.Adjustment.{IsRest}
 use Rattle.mbe_rewriter.specs.Hygiene.Contexts.{apply_hygiene}
-use Rattle.mbe_session.specs.Scopes.{Scope, Definition as AMacro, resolve_name, placed, with_shown}
+use Rattle.mbe_session.specs.Scopes.{Scope, Definition as AMacro, placed, with_shown}
+use Rattle.mbe_session.specs.Resolution.{resolve_name}
 use Rattle.mbe_session.specs.Scopes.{with_left}
 use Rattle.mbe_rewriter.specs.declared.whole_fragments.builtin_calls.Builtins.{Builtins}
 use Rattle.mbe_rewriter.specs.WholeFragments.BuiltinCalls.{expand_builtins}

@@ -1,7 +1,8 @@
 -- Collects the definitions of a file, in order, and decides by what each one is found.
-use Rattle.std.specs.Prelude.{◌≡◌, ℕ, zero, suc, Bool, true, false, not, ◌||◌, ◌&&◌, if◌then◌else◌}
+use Rattle.std.specs.Prelude.{◌≡◌, ◌==◌, ℕ, zero, suc, Bool, true, false, not, ◌||◌, ◌&&◌}
+use Rattle.std.specs.Prelude.{if◌then◌else◌}
 use Rattle.std.specs.Prelude.{codes, List, length, Option, Some, None}
-use Rattle.mbe_tt.specs.Trees.Leaf.{is_text}
+use Rattle.mbe_tt.specs.Trees.Leaf.{Leaf, literal, punct, ident, is_text}
 use Rattle.mbe_tt.specs.Trees.Tree.{Forest, Tree, Leaf_tree, Group_tree, none}
 use Rattle.mbe_tt.specs.declared.span.Edition.{Edition}
 use Rattle.mbe_tt.specs.declared.tt.DelimiterKind.{DelimiterKind}
@@ -10,8 +11,9 @@ use Rattle.mbe_tt.specs.declared.tt.DelimiterKind.TheVariants.{Invisible}
 use Rattle.mbe_rewriter.specs.Surroundings.{attribute_of}
 use Rattle.mbe_rewriter.specs.MacroItems.{MacroCall, MacroDefinition, Definition, CallItem, Other}
 use Rattle.mbe_rewriter.specs.MacroItems.{front, is_item}
-use Rattle.mbe_session.specs.Scopes.{Scope, IsRead, with_crate}
-use Rattle.mbe_session.specs.Imports.{is_imported_in}
+use Rattle.mbe_session.specs.Scopes.{Scope, DeclaredName, IsReadAs, with_crate}
+use Rattle.mbe_session.specs.Resolution.{with_module, with_all_declared, with_first_declared}
+use Rattle.mbe_session.specs.Imports.{ModuleItem, is_imported_in, module_at}
 use Rattle.mbe_session.specs.declared.file_expander.collector.MacroAttributes.{MacroAttributes}
 use Rattle.mbe_session.specs.declared.scope.Visibility.{Visibility}
 use Rattle.mbe_session.specs.declared.scope.Visibility.TheVariants.{Text, Files, Paths, Crates}
@@ -43,66 +45,114 @@ after_group Parenthesis m = m
 after_group Bracket m = m
 after_group Invisible m = m
 
+-- So does a `;`.
+abbrev pub after_leaf : Leaf → MacroAttributes → MacroAttributes
+after_leaf (punct p) m = if p.char == 59 then no_attributes else m
+after_leaf (ident i) m = m
+after_leaf (literal l) m = m
+
 abbrev pub after_tree : Tree → MacroAttributes → MacroAttributes
-after_tree (Leaf_tree l) m = m
+after_tree (Leaf_tree l) m = after_leaf l m
 after_tree (Group_tree d inside) m = after_group d.kind m
 
 -- After a definition, which had the export.
 abbrev pub after_definition : MacroAttributes → MacroAttributes
 after_definition m = record { is_exported = false; is_used = m.is_used; is_builtin = false }
 
+-- ---- places
+
+-- The place of trees: the name of the innermost module around them (empty at the root of a crate);
+-- whether the only groups around them are modules under `#[macro_use]`; and whether the only ones
+-- are modules.
+pub record TreePlace : Type 0 where
+  pub parent : List ℕ
+  pub is_top : Bool
+  pub is_item : Bool
+
+abbrev pub root_place : Bool → TreePlace
+root_place is_top = record { parent = codes ""; is_top = is_top; is_item = true }
+
+abbrev pub in_group : TreePlace → TreePlace
+in_group p = record { parent = p.parent; is_top = false; is_item = false }
+
+abbrev pub in_module : List ℕ → Bool → TreePlace → TreePlace
+in_module name is_used p =
+    record { parent = name; is_top = p.is_top && is_used; is_item = p.is_item }
+
 -- ---- definitions
 
--- Whether other crates find a definition: it is exported or a `macro` item, and not built into the
--- compiler.
-abbrev pub is_offered : MacroAttributes → MacroDefinition → Bool
-is_offered m d = (m.is_exported || is_item d.form) && not m.is_builtin
+-- A definition is exported by `#[macro_export]`, and isn't built into the compiler.
+abbrev pub exports : MacroAttributes → MacroDefinition → Bool
+exports m d = m.is_exported && not m.is_builtin && not (is_item d.form)
 
--- By what a definition is found. Paths of other crates find what is offered. Paths also find a
--- definition that a `use` after it in its group imports. Names that find no other definition also
--- find one in no group.
-abbrev pub visibility_of : Bool → MacroAttributes → MacroDefinition → Visibility
-visibility_of is_top m d =
-    if is_offered m d then Crates
-    else if is_imported_in d.name.sym d.rest then Paths
-    else if is_top then Files else Text
+-- By what a definition is found. Paths of other crates find what is exported, and `macro` items
+-- that are in no other group than modules. Paths also find a definition there that a `use` after it
+-- in its group imports. Names of other files find one in no group.
+abbrev pub visibility_of : TreePlace → MacroAttributes → MacroDefinition → Visibility
+visibility_of p m d =
+    if exports m d || (p.is_item && is_item d.form && not m.is_builtin) then Crates
+    else if p.is_item && is_imported_in d.name.sym d.rest then Paths
+    else if p.is_top then Files else Text
 
--- That trees lead from one scope to another. The first value says whether they are in no group. A
--- group after `#[macro_use]` doesn't count.
+-- The name of the module in which paths find a definition. What is exported is at the root.
+abbrev pub parent_of : TreePlace → MacroAttributes → MacroDefinition → List ℕ
+parent_of p m d = if exports m d then codes "" else p.parent
+
+-- That trees at a place lead from one scope to another.
 abbrev pub Reading : Type 1
-Reading = Bool → Forest → Scope → Scope → Type 0
+Reading = TreePlace → Forest → Scope → Scope → Type 0
 
-abbrev pub DefinesTree : Reading → Bool → Tree → Scope → Scope → Type 0
-DefinesTree within is_top (Leaf_tree l) s t = t ≡ s
-DefinesTree within is_top (Group_tree d inside) s t = within is_top inside s t
+-- A module declares its name, and its definitions are read.
+abbrev pub DefinesModule : Reading → TreePlace → Bool → ModuleItem → Scope → Scope → Type 0
+DefinesModule within p is_used m s t =
+    within (in_module m.name.sym is_used p) m.inside (with_module m.name.sym s) t
+
+-- A leaf may begin a `use`, which declares names.
+abbrev pub DefinesTree : Reading → TreePlace → Tree → Scope → Scope → Type 0
+DefinesTree within p (Leaf_tree l) s t =
+    (names : List DeclaredName) × (t ≡ with_all_declared names s)
+DefinesTree within p (Group_tree d inside) s t = within (in_group p) inside s t
 
 -- One front after another, with the attributes before it.
-pub data DefinesAll (edition : Edition) (within : Reading) (is_top : Bool) : MacroAttributes
+pub data DefinesAll (edition : Edition) (within : Reading) (p : TreePlace) : MacroAttributes
     → Forest → Scope → Scope
     → Type 0 where
-  ends : (m : MacroAttributes) (s : Scope) → DefinesAll edition within is_top m none s s
+  ends : (m : MacroAttributes) (s : Scope) → DefinesAll edition within p m none s s
   at_definition : (m : MacroAttributes) (f : Forest) (d : MacroDefinition) (s t u : Scope) → front f
       ≡ Definition d
-      → IsRead edition d (visibility_of is_top m d) s t
-      → DefinesAll edition within is_top (after_definition m) d.rest t u
-      → DefinesAll edition within is_top m f s u
+      → IsReadAs edition d (visibility_of p m d) (parent_of p m d) s t
+      → DefinesAll edition within p (after_definition m) d.rest t u
+      → DefinesAll edition within p m f s u
   at_call : (m : MacroAttributes) (f : Forest) (c : MacroCall) (s t : Scope) → front f ≡ CallItem c
-      → DefinesAll edition within is_top m c.rest s t
-      → DefinesAll edition within is_top m f s t
+      → DefinesAll edition within p m c.rest s t
+      → DefinesAll edition within p m f s t
+  at_module : (m : MacroAttributes) (f rest : Forest) (tree : Tree) (x : ModuleItem)
+      (s t u : Scope) → front f ≡ Other tree rest
+      → module_at f ≡ Some x
+      → DefinesModule within p m.is_used x s t
+      → DefinesAll edition within p no_attributes x.rest t u
+      → DefinesAll edition within p m f s u
   at_tree : (m : MacroAttributes) (f rest : Forest) (tree : Tree) (s t u : Scope) → front f
       ≡ Other tree rest
-      → DefinesTree within (is_top && (with_front_attribute f m).is_used) tree s t
-      → DefinesAll edition within is_top (after_tree tree (with_front_attribute f m)) rest t u
-      → DefinesAll edition within is_top m f s u
+      → module_at f ≡ None
+      → DefinesTree within p tree s t
+      → DefinesAll edition within p (after_tree tree (with_front_attribute f m)) rest t u
+      → DefinesAll edition within p m f s u
 
--- The definitions of trees are read, where groups may still be nested that deep.
-unfoldable pub Defines : Edition → ℕ → Reading
-Defines edition zero is_top f s t = t ≡ s
-Defines edition (suc levels) is_top f s t =
-    DefinesAll edition (Defines edition levels) is_top no_attributes f s t
+-- The definitions of trees at a place are read, where groups may still be nested that deep.
+unfoldable pub DefinesIn : Edition → ℕ → Reading
+DefinesIn edition zero p f s t = t ≡ s
+DefinesIn edition (suc levels) p f s t =
+    DefinesAll edition (DefinesIn edition levels) p no_attributes f s t
 
--- The definitions of another crate's trees are read as definitions of that crate.
+-- The same for the trees of a root.
+abbrev pub Defines : Edition → ℕ → Bool → Forest → Scope → Scope → Type 0
+Defines edition levels is_top = DefinesIn edition levels (root_place is_top)
+
+-- The definitions of another crate's trees are read as definitions of that crate. The names that it
+-- declares don't count.
 abbrev pub DefinesExternCrate : Edition → ℕ → List ℕ → Forest → Scope → Scope → Type 0
 DefinesExternCrate edition levels name f s t =
     (read : Scope) × Defines edition levels true f s read
-    × (t ≡ with_crate name (length s.definitions) read)
+    × (t ≡ with_crate name (length s.definitions)
+    (with_first_declared (length s.declared) read))

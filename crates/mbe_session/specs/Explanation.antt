@@ -117,20 +117,27 @@ abbrev pub part_notes : List ℕ → List RulePart → List Note
 part_notes rule [] = []
 part_notes rule (p ∷ ps) = part_note rule p.text p.place ++ part_notes rule ps
 
+unfoldable pub bound_text : List ℕ → List ℕ → List ℕ → List ℕ
+bound_text rule variable text =
+    variable ++ (codes " in " ++ (rule ++ (codes " is bound to " ++ text)))
+
 -- What a variable is bound to, at its span in the rule.
 abbrev pub binding_note : List ℕ → List ℕ → List ℕ → Option Span → List Note
 binding_note rule variable text None = []
 binding_note rule variable text (Some place) =
-    note_at place (variable ++ (codes " in " ++ (rule ++ (codes " took " ++ text)))) ∷ []
+    note_at place (bound_text rule variable text) ∷ []
 
 abbrev pub binding_notes : List ℕ → List BindingText → List Note
 binding_notes rule [] = []
 binding_notes rule (t ∷ ts) = binding_note rule t.variable.text t.text t.variable.place
     ++ binding_notes rule ts
 
+unfoldable pub outcome_text : List ℕ → MatchOutcome → List ℕ
+outcome_text rule outcome = message_text rule outcome
+
 -- The outcome of a rule, and where the parts of the rule are that its message names.
 abbrev pub outcome_notes : List ℕ → MatchOutcome → List Note
-outcome_notes rule outcome = note_at outcome.place (message_text rule outcome)
+outcome_notes rule outcome = note_at outcome.place (outcome_text rule outcome)
     ∷ part_notes rule (named_parts outcome)
 
 -- The outcome of a rule, and what its variables are bound to.

@@ -9,7 +9,8 @@ use Rattle.mbe_semantics.specs.Expansion.Macro.{Macro}
 use Rattle.mbe_semantics.specs.Syntax.Template.{Fault}
 use Rattle.mbe_rewriter.specs.MacroItems.{MacroCall}
 use Rattle.mbe_session.specs.Explanation.{Note, note_at}
-use Rattle.mbe_session.specs.Scopes.{Scope, Definition, definition_at, is_extern, resolve}
+use Rattle.mbe_session.specs.Scopes.{Scope, Definition, definition_at, is_extern}
+use Rattle.mbe_session.specs.Resolution.{resolve}
 use Rattle.mbe_session.specs.declared.notes.Level.TheVariants as level
 
 -- what is wrong with a macro of that name, in words

@@ -4,11 +4,13 @@ pub mod CfgFaults
 pub mod Collector
 pub mod Explanation
 pub mod Faults
+pub mod CallFailure
 pub mod Adjustment
 pub mod Linker
 pub mod CfgFront
 pub mod CallReplacements
 pub mod Scopes
+pub mod Resolution
 pub mod SessionViews
 pub mod BindingText
 pub mod Imports

@@ -1,29 +1,29 @@
 -- The scope of macros: the definitions that were read, and which of them a call resolves to.
 use Rattle.std.specs.Prelude.{◌≡◌, ℕ, zero, suc, Bool, true, false, not, ◌&&◌, ◌==◌, ◌-◌}
 use Rattle.std.specs.Prelude.{if◌then◌else◌, nat_le, nat_lt, List, [], ◌∷◌, ◌++◌, length, take}
-use Rattle.std.specs.Prelude.{Option, Some, None, option_map, option_and_then}
+use Rattle.std.specs.Prelude.{Option, Some, None, option_map, option_and_then, codes}
 use Rattle.std.specs.List.{list_any, slice_get}
-use Rattle.std.specs.Option.{option_or}
 use Rattle.std.specs.Str.{bytes_eq}
 use Rattle.mbe_tt.specs.declared.span.Edition.{Edition}
 use Rattle.mbe_tt.specs.declared.span.Span.{Span}
 use Rattle.mbe_tt.specs.declared.span.SyntaxContext.{SyntaxContext}
 use Rattle.mbe_semantics.specs.Expansion.Macro.{Macro}
 use Rattle.mbe_semantics.specs.Expansion.ParsedMacro.{IsParsedRules, IsParsedMacro}
-use Rattle.mbe_rewriter.specs.MacroItems.{MacroCall, DefinitionForm, Rules, Body, Arguments}
+use Rattle.mbe_rewriter.specs.MacroItems.{DefinitionForm, Rules, Body, Arguments}
 use Rattle.mbe_rewriter.specs.MacroItems.{MacroDefinition}
 use Rattle.mbe_rewriter.specs.Hygiene.Contexts.{contexts_in}
 use Rattle.mbe_rewriter.specs.WholeFragments.VariableParentheses.{parenthesized, parenthesize_rules}
 use Rattle.mbe_session.specs.declared.scope.Visibility.{Visibility}
 use Rattle.mbe_session.specs.declared.scope.Visibility.TheVariants.{Text, Files, Paths, Crates}
 
--- A definition: its name, its rules, the contexts of its tokens, what it is found by, and the span
--- of its name.
+-- A definition: its name, its rules, the contexts of its tokens, what it is found by, the name of
+-- the module in which paths find it (empty for the root), and the span of its name.
 pub record Definition : Type 0 where
   pub name : List ℕ
   pub rules : Macro
   pub contexts : List ℕ
   pub visibility : Visibility
+  pub parent : List ℕ
   pub place : Span
 
 -- Definitions of another crate: the name of the crate, the number of the first definition, and how
@@ -33,12 +33,24 @@ pub record CrateDefinitions : Type 0 where
   pub first : ℕ
   pub count : ℕ
 
+-- A name that a module or a `use` declares. The first name of a module's is `mod`, and that of a
+-- `use` is the first name of its path. It is empty if the name means something else there: after
+-- `as`, and for a second module of a name.
+pub record DeclaredName : Type 0 where
+  pub first : List ℕ
+  pub name : List ℕ
+
 -- A scope: the definitions that were read, in order; the numbers of those that are visible at
--- present, the latest last; and the definitions of other crates.
+-- present, the latest last; the definitions of other crates; and the names that modules and `use`s
+-- declare.
 pub record Scope : Type 0 where
   pub definitions : List Definition
   pub visible : List ℕ
   pub crates : List CrateDefinitions
+  pub declared : List DeclaredName
+
+abbrev pub empty_scope : Scope
+empty_scope = record { definitions = []; visible = []; crates = []; declared = [] }
 
 -- The definition of that number.
 abbrev pub definition_at : Scope → ℕ → Option Definition
@@ -58,9 +70,10 @@ IsReadIn edition Body d m = IsParsedMacro (IsEdition edition) None (parenthesize
 IsReadIn edition (Arguments k pattern) d m =
     IsParsedMacro (IsEdition edition) (Some pattern) (parenthesized pattern d.rules) m
 
--- A scope with one definition more, which isn't visible yet.
-pub record IsRead (edition : Edition) (d : MacroDefinition) (visibility : Visibility)
-    (before after : Scope) : Type 0 where
+-- A scope with one definition more, which isn't visible yet, and which paths find in modules of
+-- that name.
+pub record IsReadAs (edition : Edition) (d : MacroDefinition) (visibility : Visibility)
+    (parent : List ℕ) (before after : Scope) : Type 0 where
   pub rules : Macro
   pub read : IsReadIn edition d.form d rules
   pub definitions : after.definitions
@@ -69,10 +82,16 @@ pub record IsRead (edition : Edition) (d : MacroDefinition) (visibility : Visibi
         rules = rules;
         contexts = contexts_in d.rules;
         visibility = visibility;
+        parent = parent;
         place = d.name.span;
       }) ∷ []
   pub visible : after.visible ≡ before.visible
   pub crates : after.crates ≡ before.crates
+  pub declared : after.declared ≡ before.declared
+
+-- The same for a definition of an expansion, which counts as one of the root.
+abbrev pub IsRead : Edition → MacroDefinition → Visibility → Scope → Scope → Type 0
+IsRead edition d visibility before after = IsReadAs edition d visibility (codes "") before after
 
 -- ---- other crates
 
@@ -97,20 +116,44 @@ is_in_crate crate crates n = list_any (is_named crate n) crates
 abbrev pub is_in_same_crate : ℕ → List CrateDefinitions → ℕ → Bool
 is_in_same_crate m crates n = list_any (contains_both m n) crates
 
--- Among which definitions a lookup searches: those that are no other crate's, those of all other
--- crates, those of the crate of that name, or those of all other crates except the one of a
--- definition.
+-- Whether paths find a definition in modules of that name.
+abbrev pub is_of_module : List ℕ → Option Definition → Bool
+is_of_module parent None = false
+is_of_module parent (Some d) = bytes_eq d.parent parent
+
+abbrev pub is_of_file : ℕ → Option Definition → Bool
+is_of_file file None = false
+is_of_file file (Some d) = d.place.file == file
+
+-- Among which definitions a lookup searches: those that are no other crate's; these without one; of
+-- these the ones in modules of that name, without one, in any module, or in any other file; those
+-- of all other crates; those of the crate of that name; or those of all other crates except the one
+-- of a definition.
 pub data CrateFilter : Type 0 where
   Own : CrateFilter
+  OwnExcept : ℕ → CrateFilter
+  Module : List ℕ → CrateFilter
+  ModuleExcept : List ℕ → ℕ → CrateFilter
+  AnyModule : CrateFilter
+  OtherFile : ℕ → CrateFilter
   Others : CrateFilter
   Crate : List ℕ → CrateFilter
   ExceptCrateOf : ℕ → CrateFilter
 
-abbrev pub is_admitted : List CrateDefinitions → CrateFilter → ℕ → Bool
-is_admitted crates Own n = not (is_extern crates n)
-is_admitted crates Others n = is_extern crates n
-is_admitted crates (Crate name) n = is_in_crate name crates n
-is_admitted crates (ExceptCrateOf m) n = is_extern crates n && not (is_in_same_crate m crates n)
+abbrev pub is_own : Scope → ℕ → Bool
+is_own s n = not (is_extern s.crates n)
+
+abbrev pub is_admitted : Scope → CrateFilter → ℕ → Bool
+is_admitted s Own n = is_own s n
+is_admitted s (OwnExcept m) n = is_own s n && not (n == m)
+is_admitted s (Module name) n = is_own s n && is_of_module name (definition_at s n)
+is_admitted s (ModuleExcept name m) n =
+    is_own s n && is_of_module name (definition_at s n) && not (n == m)
+is_admitted s AnyModule n = is_own s n && not (is_of_module (codes "") (definition_at s n))
+is_admitted s (OtherFile file) n = is_own s n && not (is_of_file file (definition_at s n))
+is_admitted s Others n = is_extern s.crates n
+is_admitted s (Crate name) n = is_in_crate name s.crates n
+is_admitted s (ExceptCrateOf m) n = is_extern s.crates n && not (is_in_same_crate m s.crates n)
 
 -- The definitions from the number `first` on are those of the crate of that name.
 abbrev pub with_crate : List ℕ → ℕ → Scope → Scope
@@ -129,12 +172,12 @@ unfoldable pub last_below : (ℕ → Bool) → ℕ → Option ℕ
 last_below p zero = None
 last_below p (suc n) = if p n then Some n else last_below p n
 
--- A name that finds no other definition finds all but those that only their group sees.
+-- A name that finds no other definition finds one in no group of another file.
 abbrev pub is_wide : Visibility → Bool
 is_wide Text = false
 is_wide Files = true
-is_wide Paths = true
-is_wide Crates = true
+is_wide Paths = false
+is_wide Crates = false
 
 abbrev pub is_public : Visibility → Bool
 is_public Text = false
@@ -164,7 +207,7 @@ is_found name asked (Some d) = permits asked d.visibility && bytes_eq d.name nam
 -- The number of the last definition with that name which the lookup finds.
 abbrev pub last_found : CrateFilter → Scope → Visibility → List ℕ → Option ℕ
 last_found crate_filter s asked name =
-    last_below (λ n. is_admitted s.crates crate_filter n
+    last_below (λ n. is_admitted s crate_filter n
     && is_found name asked (definition_at s n)) (length s.definitions)
 
 abbrev pub unless_rival : ℕ → Option ℕ → Option ℕ
@@ -185,30 +228,6 @@ visible_at s n = option_and_then (definition_at s) (slice_get s.visible n)
 abbrev pub last_visible : Scope → List ℕ → Option ℕ
 last_visible s name = option_and_then (slice_get s.visible)
     (last_below (λ n. is_found name Text (visible_at s n)) (length s.visible))
-
--- Resolves a path, to the last definition by that name which the crate at its start offers; else to
--- the last one of no other crate that paths find.
-abbrev pub resolve_path : Scope → List ℕ → List ℕ → Option ℕ
-resolve_path s crate name =
-    option_or (last_found (Crate crate) s Crates name) (last_found Own s Paths name)
-
--- Resolves a name, to the last visible definition; else to the last one that names find in all
--- files; else to the one that another crate offers.
-abbrev pub resolve_name : Scope → List ℕ → Option ℕ
-resolve_name s name =
-    option_or (last_visible s name) (option_or (last_found Own s Files name) (unique_extern s name))
-
--- The number of the definition that a call resolves to.
-abbrev pub resolve : Scope → MacroCall → Option ℕ
-resolve s c = if c.is_path then resolve_path s c.first.sym c.name.sym else resolve_name s c.name.sym
-
--- The contexts of the tokens of the macro that a call names.
-abbrev pub contexts_found : Scope → MacroCall → Option (List ℕ)
-contexts_found s c = option_map (λ d. d.contexts) (option_and_then (definition_at s) (resolve s c))
-
--- The rules of the macro that a call names.
-abbrev pub rules_found : Scope → MacroCall → Option Macro
-rules_found s c = option_map (λ d. d.rules) (option_and_then (definition_at s) (resolve s c))
 
 -- ---- spans
 

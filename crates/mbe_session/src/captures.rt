@@ -1,10 +1,10 @@
 // Notes captures: names that hygiene keeps apart, but that the text of an expansion would bring
 // together.
 //
-// The call's argument binds one of them, and the macro uses the other where the first is bound. (A
-// name that the macro binds is renamed instead.) The span of a token tells where it is from,
-// because the tokens of the argument keep their spans. What isn't surely a binding or a use is left
-// out.
+// The call's argument binds one of the two, and the macro uses the other one in its scope. (A name
+// that the macro binds is renamed instead.) The span of a token tells its origin, because the
+// tokens of the argument keep their spans. A word is left out if it may be neither a binding nor a
+// use.
 ghost use Rattle.std.specs.Prelude.{◌≡◌, OnOk};
 ghost use Rattle.mbe_session.specs.SessionViews.{setting_of, state_of};
 
@@ -137,6 +137,22 @@ fn is_shared<A: Allocator>(texts: &ExpansionTokens<'_, A>, name: &Ident<A>) -> b
         && names.binary_search(&name.sym.as_str()).is_ok()
 }
 
+// Adds a name that a pattern binds, if the argument has it and the macro uses it.
+fn add_capture<'t, A: Allocator>(
+    captures: &mut Vec<Capture<'t, A>, A>,
+    texts: &ExpansionTokens<'t, A>,
+    binding: PatternScope,
+    name: &'t Ident<A>,
+) -> Result<(), AllocError> {
+    let tokens = texts.tokens.as_slice();
+    if is_shared(texts, name)
+        && let Some(used) = first_use(tokens, texts.places.as_slice(), binding, name)
+    {
+        captures.push(Capture { name, used })?;
+    }
+    Ok(())
+}
+
 // Adds the names of the argument that a pattern binds and the macro uses.
 fn add_captures<'t, A: Allocator>(
     captures: &mut Vec<Capture<'t, A>, A>,
@@ -144,14 +160,15 @@ fn add_captures<'t, A: Allocator>(
     binding: PatternScope,
 ) -> Result<(), AllocError> {
     let tokens = texts.tokens.as_slice();
-    let places = texts.places.as_slice();
+    let mut depth = 0usize;
     for at in binding.from..binding.to {
-        if let Some(Token::Name(name)) = tokens.get(at)
-            && is_bound(tokens, at)
-            && is_shared(texts, name)
-            && let Some(used) = first_use(tokens, places, binding, name)
-        {
-            captures.push(Capture { name, used })?;
+        match tokens.get(at) {
+            Some(Token::Open(_)) => depth = depth.saturating_add(1),
+            Some(Token::Close) => depth = depth.saturating_sub(1),
+            Some(Token::Name(name)) if is_bound(tokens, at, depth == 0) => {
+                add_capture(captures, texts, binding, *name)?;
+            }
+            _ => {}
         }
     }
     Ok(())

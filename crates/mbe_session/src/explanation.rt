@@ -139,6 +139,20 @@ fn note_parts<A: Allocator + Copy>(
     Ok(())
 }
 
+// Returns the text about what a variable of a rule is bound to.
+#[tactic(auto, unfolding(crate::specs::Explanation::bound_text))]
+fn bound_text<A: Allocator>(
+    alloc: A,
+    rule: &str,
+    variable: &str,
+    text: &str,
+) -> Result<String<A>, AllocError>
+    ensures { IfOk result (λ t. string_bytes t
+        ≡ spec.bound_text rule.now variable.now text.now) }
+{
+    format!(in alloc; "{variable} in {rule} is bound to {text}")
+}
+
 // Notes what a variable of a rule is bound to.
 fn note_binding<A: Allocator + Copy>(
     alloc: A,
@@ -159,7 +173,7 @@ fn note_binding<A: Allocator + Copy>(
     notes.push(Note {
         level: Level::Note,
         span,
-        message: format!(in alloc; "{variable} in {rule} took {text}")?,
+        message: bound_text(alloc, rule, variable, text)?,
     })?;
     Ok(())
 }
@@ -181,6 +195,7 @@ fn note_bindings<A: Allocator + Copy>(
 }
 
 // Notes the outcome of a rule, and where the parts of the rule are that its message names.
+#[tactic(auto, unfolding(crate::specs::Explanation::outcome_text))]
 fn note_outcome<A: Allocator + Copy>(
     alloc: A,
     notes: &mut Vec<Note<A>, A>,

@@ -1,12 +1,11 @@
-// What the calls of files and of expansions expand to.
+// Expands the calls of files and of expansions.
 //
-// Trees are gone through from the front. A definition is read, and names find it from there up to
-// the end of the group around
-// it. A call of a macro that is found is replaced by its expansion, whose calls are expanded in
-// turn, as far as the
-// settings say; any other tree stays. So the trees that come out have no call left but those of
-// macros that no file
-// defines, those that no rule fits, and those beyond the limits; of the latter two a note says so.
+// The trees are walked from the front. A definition is parsed, and names resolve to it up to the
+// end of the group around it. A call is replaced by its expansion if its macro is found, and the
+// calls in the expansion are expanded too, up to the limits of the settings. Any other tree stays.
+//
+// Three sorts of calls are left: those of macros that no file defines, those that no rule matches,
+// and those beyond the limits. An error is noted for each of the last two.
 ghost use Rattle.std.specs.Prelude.{◌≡◌, ◌++◌, ◌∷◌, [], IsSome, IfOk, OnOk, length, map};
 ghost use Rattle.std.specs.Prelude.{option_map};
 ghost use Rattle.std.specs.Prelude.{true, unwrap_or};
@@ -21,17 +20,19 @@ ghost use Rattle.mbe_session.specs.CallExpansion.{called_macro, next_context, wi
 ghost use Rattle.mbe_session.specs.CfgFaults as cfg_faults;
 ghost use Rattle.mbe_session.specs.Explanation.{note_seen};
 ghost use Rattle.mbe_session.specs.Faults as faults;
-ghost use Rattle.mbe_session.specs.Scopes.{IsRead, contexts_found};
+ghost use Rattle.mbe_session.specs.Scopes.{IsRead, IsReadAs, empty_scope};
+ghost use Rattle.mbe_session.specs.Resolution.{contexts_found};
 ghost use Rattle.mbe_session.specs.SessionViews.{scope_of, setting_of, state_of};
 
 mod call_replacements;
 mod collector;
 mod nested_expansion;
+mod unresolved_calls;
 
 use crate::notes::{Level, Note};
 use crate::scope::{Scope, Visibility};
 use crate::settings::ExpansionSettings;
-use mbe::{DeclarativeMacro, ExpandError, MacroCallStyle, ValueResult};
+use mbe::{DeclarativeMacro, MacroCallStyle, ValueResult};
 use mbe_cfg::cfg_options as cfg;
 use mbe_cfg::cfg_strip::fault_at;
 use mbe_grammar::tables::peg_table::RuleTable;
@@ -58,7 +59,7 @@ pub struct FileExpander<'g, A: Allocator + Copy = Global> {
     scope: Scope<A>,
     // How many calls may still be expanded.
     fuel: u32,
-    // For each context of a step's tokens, beginning with 1, that of the macro's token.
+    // The context of the macro's token, for each context of a step's tokens. These begin with 1.
     contexts: Vec<u32, A>,
     pub notes: Vec<Note<A>, A>,
 }
@@ -78,7 +79,7 @@ impl<'g, A: Allocator + Copy> FileExpander<'g, A> {
           depth = settings.depth;
         } }
         ensures state { state_of result ≡ record {
-          scope = record { definitions = []; visible = []; crates = [] };
+          scope = empty_scope;
           fuel = settings.fuel;
           contexts = [];
         } }
@@ -95,7 +96,12 @@ impl<'g, A: Allocator + Copy> FileExpander<'g, A> {
         }
     }
 
-    fn note(&mut self, level: Level, span: Span, message: String<A>) -> Result<(), AllocError>
+    pub(crate) fn note(
+        &mut self,
+        level: Level,
+        span: Span,
+        message: String<A>,
+    ) -> Result<(), AllocError>
         ensures setting { OnOk result (setting_of self.new ≡ setting_of self.old) }
         ensures state { OnOk result (state_of self.new ≡ state_of self.old) }
         ensures notes { OnOk result (map note_seen self.new.notes.items
@@ -113,14 +119,15 @@ impl<'g, A: Allocator + Copy> FileExpander<'g, A> {
         Ok(())
     }
 
-    // Reads a definition, and notes nothing.
+    // Reads a definition, and notes nothing. Paths find it in modules of the name `parent`.
     fn read_silently(
         &mut self,
         defined: MacroDefinition<'_, A>,
         visibility: Visibility,
+        parent: &str,
     ) -> Result<usize, AllocError>
-        ensures read { OnOk result (IsRead (setting_of self.old).edition
-            (macro_definition_shown defined.entry) visibility
+        ensures read { OnOk result (IsReadAs (setting_of self.old).edition
+            (macro_definition_shown defined.entry) visibility parent.now
             (scope_of self.old.scope) (scope_of self.new.scope)) }
         ensures number { IfOk result (λ n. n ≡ length (scope_of self.old.scope).definitions) }
         ensures setting { OnOk result (setting_of self.new ≡ setting_of self.old) }
@@ -128,7 +135,7 @@ impl<'g, A: Allocator + Copy> FileExpander<'g, A> {
         ensures contexts { OnOk result (self.new.contexts.items ≡ self.old.contexts.items) }
         ensures notes { OnOk result (self.new.notes.items ≡ self.old.notes.items) }
     {
-        self.scope.read(defined, visibility)
+        self.scope.read(defined, visibility, parent)
     }
 
     // Reads a definition, and notes what is wrong with it.
@@ -145,7 +152,7 @@ impl<'g, A: Allocator + Copy> FileExpander<'g, A> {
         ensures fuel { OnOk result (self.new.fuel ≡ self.old.fuel) }
         ensures contexts { OnOk result (self.new.contexts.items ≡ self.old.contexts.items) }
     {
-        let number = self.read_silently(defined, visibility)?;
+        let number = self.read_silently(defined, visibility, "")?;
         self.note_definition(number)?;
         Ok(number)
     }
@@ -209,7 +216,7 @@ impl<'g, A: Allocator + Copy> FileExpander<'g, A> {
         self.note(Level::Note, place, there)
     }
 
-    // What the macro that a call names says.
+    // The rules of the macro that a call names.
     pub(crate) fn rules<'s>(&'s self, call: MacroCall<'_, A>) -> Option<&'s DeclarativeMacro<A>>
         ensures { option_map (λ m. macro_of m.now) result
             ≡ called_macro (state_of self.now) (call_shown call.entry) }
@@ -240,7 +247,7 @@ impl<'g, A: Allocator + Copy> FileExpander<'g, A> {
         push_contexts(&mut self.contexts, &self.scope, call)
     }
 
-    // Whether the limits allow one more call of that name, which a note says otherwise.
+    // Returns whether the limits allow one more call of that name. If not, an error is noted.
     fn may_expand(&mut self, call: MacroCall<'_, A>, depth: u32) -> Result<bool, AllocError>
         ensures allows { IfOk result (Allows depth (state_of self.old) (state_of self.new)) }
         ensures setting { OnOk result (setting_of self.new ≡ setting_of self.old) }
@@ -267,7 +274,8 @@ impl<'g, A: Allocator + Copy> FileExpander<'g, A> {
         Ok(true)
     }
 
-    // What a call expands to, if its macro is found, a rule fits, and the limits allow it.
+    // Returns the expansion of a call, if its macro is found, a rule matches, and the limits allow
+    // it.
     fn expansion(
         &mut self,
         call: MacroCall<'_, A>,
@@ -282,6 +290,7 @@ impl<'g, A: Allocator + Copy> FileExpander<'g, A> {
             return Ok(None);
         }
         if self.rules(call).is_none() {
+            self.note_unresolved(call)?;
             return Ok(None);
         }
         if !self.may_expand(call, depth)? {
@@ -305,8 +314,8 @@ impl<'g, A: Allocator + Copy> FileExpander<'g, A> {
         self.note(Level::Error, fault.at, message)
     }
 
-    // What the rules that a call names make of its argument; nothing where they have a fault, or
-    // none fits, as a note says.
+    // Returns the expansion of a call by the rules of its macro. It is `None`, and an error is
+    // noted, if the definition has a fault or no rule matches.
     fn apply_rules(&mut self, call: MacroCall<'_, A>) -> Result<Option<TopSubtree<A>>, AllocError>
         requires found { IsSome (called_macro (state_of self.old) (call_shown call)) }
         ensures applies { IfOk result (Applies (setting_of self.old) (call_shown call.entry)
@@ -336,7 +345,7 @@ impl<'g, A: Allocator + Copy> FileExpander<'g, A> {
             call.name.span,
         )?;
         if let Some(error) = err {
-            self.note_fault(call, &error)?;
+            self.note_failure(call, &argument, &error)?;
             self.explain(call, &argument, false)?;
             return Ok(None);
         }
@@ -346,21 +355,6 @@ impl<'g, A: Allocator + Copy> FileExpander<'g, A> {
         self.explain(call, &argument, true)?;
         self.add_contexts(call)?;
         Ok(Some(tree))
-    }
-
-    // Notes why a call has no expansion.
-    fn note_fault(
-        &mut self,
-        call: MacroCall<'_, A>,
-        error: &ExpandError<A>,
-    ) -> Result<(), AllocError>
-        ensures setting { OnOk result (setting_of self.new ≡ setting_of self.old) }
-        ensures state { OnOk result (state_of self.new ≡ state_of self.old) }
-    {
-        let name = call.name.sym.as_str();
-        let (span, kind) = &*error.inner;
-        let message = format!(in self.alloc; "{kind} in the call of `{name}!`")?;
-        self.note(Level::Error, *span, message)
     }
 
     // Notes what the settings ask to be said of what a call expands to.

@@ -4,6 +4,7 @@
 
 mod adjustment;
 pub mod binding_text;
+pub mod call_failure;
 mod captures;
 mod cfg_front;
 pub mod explanation;

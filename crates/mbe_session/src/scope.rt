@@ -1,9 +1,12 @@
 // The scope of macros: the definitions that were read, and which of them a call resolves to.
 //
 // A plain name resolves to the last definition before it that is visible in the groups around it;
-// else to the last definition of all files that names find; else to the one that another crate
-// offers. A path resolves to the last definition of that name that the crate at its start offers;
-// else to the last one of no other crate that paths find.
+// else to one of a `#[macro_use]` module; else to the only one that paths find; else to the one
+// that another crate offers; else to one in no group of another file. A path resolves to the last
+// definition of that name that the crate at its start offers; else, if its first name is one of
+// these files, to the one in the module that it names, or to the only one that paths find.
+//
+// Where more than one definition can be meant, a call resolves to none, and `doubt` says why.
 ghost use Rattle.std.specs.Prelude.{◌≡◌, ◌&&◌, ◌∷◌, [], length, IfOk, OnOk, option_map, false};
 ghost use Rattle.std.specs.String.{string_bytes};
 ghost use Rattle.std.specs.List.{list_any, slice_get};
@@ -13,9 +16,10 @@ ghost use Rattle.mbe_rewriter.specs.MacroItemViews.{call_shown, macro_definition
 ghost use Rattle.mbe_rewriter.specs.MacroItemViews.{definition_form_shown};
 ghost use Rattle.mbe_ops.specs.Errors.ErrorViews.{parse_error_of};
 ghost use Rattle.mbe_session.specs.Faults as faults;
+ghost use Rattle.mbe_session.specs.Resolution as resolution;
 ghost use Rattle.mbe_session.specs.Scopes as spec;
 ghost use Rattle.mbe_semantics.specs.Expansion.ParsedMacro.{IsParsedRules, IsParsedMacro};
-ghost use Rattle.mbe_session.specs.Scopes.{IsEdition, IsRead, IsReadIn, is_found, is_placed};
+ghost use Rattle.mbe_session.specs.Scopes.{IsEdition, IsReadAs, IsReadIn, is_found, is_placed};
 ghost use Rattle.mbe_session.specs.Scopes.{permits};
 ghost use Rattle.mbe_session.specs.Scopes.{with_crate, with_shown, with_left};
 ghost use Rattle.mbe_session.specs.SessionViews.{crate_filter_shown, definition_of};
@@ -23,6 +27,7 @@ ghost use Rattle.mbe_session.specs.SessionViews.{crate_definitions_of, scope_of}
 ghost use Rattle.mbe_session.specs.declared.scope.Visibility.TheVariants.{Text};
 
 mod linker;
+pub(crate) mod resolution;
 
 use mbe::{DeclarativeMacro, ParseError};
 use mbe_rewriter::hygiene::contexts::contexts_in;
@@ -32,18 +37,19 @@ use mbe_rewriter::whole_fragments::variable_parentheses::{
 };
 use mbe_tt::span::{Edition, Span};
 use mbe_tt::tt::{Delimiter, TokenTreesView, TopSubtree, TopSubtreeBuilder};
+use resolution::DeclaredName;
 use std::alloc::{AllocError, Allocator, Global};
 
-/// What a definition is found by. Each variant includes the ones before it.
+/// What a definition is found by.
 #[derive(Clone, Copy, Drop)]
 pub enum Visibility {
     /// A name after the definition, in its group.
     Text,
-    /// A name in any of the files, if the name finds no other definition.
+    /// The same, or a name in another file, if the name finds no other definition.
     Files,
-    /// A path.
+    /// A name after the definition, in its group, or a path.
     Paths,
-    /// A path that begins with the name of the definition's crate, in another crate.
+    /// The same, or a path that begins with the name of the definition's crate, in another crate.
     Crates,
 }
 
@@ -54,10 +60,7 @@ impl Visibility {
     {
         match asked {
             Visibility::Text => true,
-            Visibility::Files => matches!(
-                self,
-                Visibility::Files | Visibility::Paths | Visibility::Crates
-            ),
+            Visibility::Files => matches!(self, Visibility::Files),
             Visibility::Paths => matches!(self, Visibility::Paths | Visibility::Crates),
             Visibility::Crates => matches!(self, Visibility::Crates),
         }
@@ -73,6 +76,8 @@ pub struct Definition<A: Allocator = Global> {
     contexts: Vec<u32, A>,
     // What the definition is found by.
     visibility: Visibility,
+    // The name of the module in which paths find it; empty for the root of the crate.
+    parent: String<A>,
     // The span of its name.
     place: Span,
 }
@@ -174,6 +179,16 @@ fn are_in_same_crate<A: Allocator>(
 enum CrateFilter<'n> {
     /// The definitions that are no other crate's.
     Own,
+    /// The same, except the definition with this number.
+    OwnExcept(usize),
+    /// The definitions of no other crate, in a module of this name.
+    Module(&'n str),
+    /// The same, except the definition with this number.
+    ModuleExcept(&'n str, usize),
+    /// The definitions of no other crate that are in a module.
+    AnyModule,
+    /// The definitions of no other crate that are in another file than this one.
+    OtherFile(u32),
     /// The definitions of all other crates.
     Others,
     /// The definitions of the crate of that name.
@@ -192,6 +207,8 @@ pub struct Scope<A: Allocator + Copy = Global> {
     visible: Vec<usize, A>,
     // The definitions of other crates.
     crates: Vec<CrateDefinitions<A>, A>,
+    // The names that modules and `use`s declare.
+    declared: Vec<DeclaredName<A>, A>,
 }
 
 // Returns the number at an index, if there is one.
@@ -271,7 +288,7 @@ fn rules_of<A: Allocator + Copy>(
 impl<A: Allocator + Copy> Scope<A> {
     /// Returns a scope without macros. Definitions are read in that edition.
     pub fn new(alloc: A, edition: Edition) -> Scope<A>
-        ensures scope { scope_of result ≡ record { definitions = []; visible = []; crates = [] } }
+        ensures scope { scope_of result ≡ spec.empty_scope }
         ensures edition { result.edition ≡ edition }
     {
         Scope {
@@ -280,18 +297,20 @@ impl<A: Allocator + Copy> Scope<A> {
             definitions: Vec::new(alloc),
             visible: Vec::new(alloc),
             crates: Vec::new(alloc),
+            declared: Vec::new(alloc),
         }
     }
 
-    /// Reads a definition, and returns its number. It isn't visible yet. `AllocError` if out of
-    /// memory.
+    /// Reads a definition, and returns its number. It isn't visible yet. Paths find it in modules
+    /// of the name `parent`, or at the root if that is empty. `AllocError` if out of memory.
     pub fn read(
         &mut self,
         defined: MacroDefinition<'_, A>,
         visibility: Visibility,
+        parent: &str,
     ) -> Result<usize, AllocError>
         ensures read { OnOk result
-            (IsRead self.old.edition (macro_definition_shown defined.entry) visibility
+            (IsReadAs self.old.edition (macro_definition_shown defined.entry) visibility parent.now
             (scope_of self.old) (scope_of self.new)) }
         ensures number { IfOk result (λ n. n ≡ length (scope_of self.old).definitions) }
         ensures edition { OnOk result (self.new.edition ≡ self.old.edition) }
@@ -304,6 +323,7 @@ impl<A: Allocator + Copy> Scope<A> {
             rules,
             contexts: contexts_in(self.alloc, defined.rules)?,
             visibility,
+            parent: String::from_str(self.alloc, parent)?,
             place: defined.name.span,
         })?;
         Ok(number)
@@ -410,13 +430,42 @@ impl<A: Allocator + Copy> Scope<A> {
         are_in_same_crate(self.crates.as_slice(), other, number)
     }
 
+    // Whether paths find the definition of that number in modules of that name.
+    fn is_of_module(&self, parent: &str, number: usize) -> bool
+        ensures { result ≡ spec.is_of_module parent.now
+            (spec.definition_at (scope_of self.now) number) }
+    {
+        match self.definition(number) {
+            Some(found) => found.parent.as_str() == parent,
+            None => false,
+        }
+    }
+
+    // Whether the definition of that number is in that file.
+    fn is_of_file(&self, file: u32, number: usize) -> bool
+        ensures { result ≡ spec.is_of_file file (spec.definition_at (scope_of self.now) number) }
+    {
+        match self.definition(number) {
+            Some(found) => found.place.file == file,
+            None => false,
+        }
+    }
+
     // Whether a lookup searches the definition of that number.
     fn is_admitted(&self, number: usize, crate_filter: CrateFilter<'_>) -> bool
-        ensures { result ≡ spec.is_admitted (scope_of self.now).crates
+        ensures { result ≡ spec.is_admitted (scope_of self.now)
             (crate_filter_shown crate_filter.entry) number }
     {
         match crate_filter {
             CrateFilter::Own => !self.is_extern(number),
+            CrateFilter::OwnExcept(other) => !self.is_extern(number) && number != other,
+            CrateFilter::Module(name) => !self.is_extern(number) && self.is_of_module(name, number),
+            CrateFilter::ModuleExcept(name, other) => !self.is_extern(number)
+                && self.is_of_module(name, number)
+                && number != other,
+            CrateFilter::AnyModule => !self.is_extern(number) && !self.is_of_module("", number),
+            CrateFilter::OtherFile(file) => !self.is_extern(number)
+                && !self.is_of_file(file, number),
             CrateFilter::Others => self.is_extern(number),
             CrateFilter::Crate(name) => self.is_in_crate(name, number),
             CrateFilter::ExceptCrateOf(other) => self.is_extern(number)
@@ -434,8 +483,7 @@ impl<A: Allocator + Copy> Scope<A> {
         crate_filter: CrateFilter<'_>,
     ) -> bool
         ensures { result
-            ≡ (spec.is_admitted (scope_of self.now).crates (crate_filter_shown crate_filter.entry)
-            number
+            ≡ (spec.is_admitted (scope_of self.now) (crate_filter_shown crate_filter.entry) number
             && is_found name.now asked (spec.definition_at (scope_of self.now) number)) }
     {
         self.is_found(number, name, asked) && self.is_admitted(number, crate_filter)
@@ -487,47 +535,10 @@ impl<A: Allocator + Copy> Scope<A> {
         None
     }
 
-    // Resolves a path that begins with the name `first`, which is that of a crate or any other
-    // name. Returns the definition's number.
-    fn resolve_path(&self, first: &str, name: &str) -> Option<usize>
-        ensures { result ≡ spec.resolve_path (scope_of self.now) first.now name.now }
-    {
-        match self.last_found(name, Visibility::Crates, CrateFilter::Crate(first)) {
-            Some(number) => Some(number),
-            None => self.last_found(name, Visibility::Paths, CrateFilter::Own),
-        }
-    }
-
-    /// Resolves a plain name. Returns the number of the last visible definition; else of the last
-    /// definition in all files that names find; else of the one that another crate offers.
-    pub fn resolve_name(&self, name: &str) -> Option<usize>
-        ensures { result ≡ spec.resolve_name (scope_of self.now) name.now }
-    {
-        if let Some(number) = self.last_visible(name) {
-            return Some(number);
-        }
-        match self.last_found(name, Visibility::Files, CrateFilter::Own) {
-            Some(number) => Some(number),
-            None => self.unique_extern(name),
-        }
-    }
-
-    // Resolves the name or the path of a call. Returns the definition's number.
-    fn resolve(&self, call: MacroCall<'_, A>) -> Option<usize>
-        ensures { result ≡ spec.resolve (scope_of self.now) (call_shown call.entry) }
-    {
-        let name = call.name.sym.as_str();
-        if call.is_path {
-            self.resolve_path(call.first.sym.as_str(), name)
-        } else {
-            self.resolve_name(name)
-        }
-    }
-
     /// Returns the syntax contexts of the tokens of the macro that a call names.
     pub fn contexts<'s>(&'s self, call: MacroCall<'_, A>) -> Option<&'s [u32]>
         ensures { option_map (λ c. c.now) result
-            ≡ spec.contexts_found (scope_of self.now) (call_shown call.entry) }
+            ≡ resolution.contexts_found (scope_of self.now) (call_shown call.entry) }
     {
         let number = self.resolve(call)?;
         Some(self.definition(number)?.contexts.as_slice())
@@ -536,7 +547,7 @@ impl<A: Allocator + Copy> Scope<A> {
     /// Returns the rules of the macro that a call names.
     pub fn find<'s>(&'s self, call: MacroCall<'_, A>) -> Option<&'s DeclarativeMacro<A>>
         ensures { option_map (λ m. macro_of m.now) result
-            ≡ spec.rules_found (scope_of self.now) (call_shown call.entry) }
+            ≡ resolution.rules_found (scope_of self.now) (call_shown call.entry) }
     {
         let number = self.resolve(call)?;
         Some(&self.definition(number)?.rules)

@@ -1,5 +1,6 @@
 -- The messages of findings, in rustc's words where it has some.
 use Rattle.std.specs.Prelude.{ℕ, codes, List, [], ◌∷◌, ◌++◌, Option, Some, None, unwrap_or}
+use Rattle.std.specs.Prelude.{Bool, true, false, if◌then◌else◌}
 use Rattle.std.specs.Fmt.{decimal}
 use Rattle.mbe_tt.specs.declared.span.Span.{Span}
 use Rattle.mbe_semantics.specs.declared.fragment_kinds.MetaVarKind.{MetaVarKind}
@@ -7,13 +8,16 @@ use Rattle.mbe_semantics.specs.declared.fragment_kinds.FollowSet.{FollowSet}
 use Rattle.mbe_semantics.specs.declared.fragment_kinds.FollowSet.TheVariants as sets
 use Rattle.mbe_semantics.specs.Fragments.Kinds.{facts}
 use Rattle.mbe_semantics.specs.Syntax.Op.{Name, Op, token, group, variable, repetition, expression}
+use Rattle.mbe_semantics.specs.Syntax.Op.{Separator}
 use Rattle.mbe_rewriter.specs.MacroItems.{MacroDefinition}
 use Rattle.mbe_matcher.specs.Expected.{separating as expected_separator, reading as expected_op}
-use Rattle.mbe_diagnostics.specs.Outcome.{RulePart, part_of}
+use Rattle.mbe_matcher.specs.Expected.{closing as expected_closing}
+use Rattle.mbe_diagnostics.specs.Outcome.{RulePart, part_of, separator_place}
 use Rattle.mbe_diagnostics.specs.RuleChecks.Variables.{PatternVariable, VariableUse}
 use Rattle.mbe_diagnostics.specs.RuleChecks.FollowCheck.{Follower, reading, separating}
-use Rattle.mbe_diagnostics.specs.RuleChecks.FollowCheck.{FollowViolation}
+use Rattle.mbe_diagnostics.specs.RuleChecks.FollowCheck.{closing, FollowViolation, needs_pat_param}
 use Rattle.mbe_diagnostics.specs.RuleChecks.Findings.{Finding, bound_twice, unknown_specifier}
+use Rattle.mbe_diagnostics.specs.RuleChecks.Findings.{separated_optional, unknown_variable}
 use Rattle.mbe_diagnostics.specs.RuleChecks.Findings.{never_used, still_repeats, forbidden}
 use Rattle.mbe_diagnostics.specs.Lints.Lint.{Lint, error_at, warning_at, note_at, help_at}
 use Rattle.mbe_diagnostics.specs.Lints.SimilarSpecifier.{similar_specifier}
@@ -53,6 +57,36 @@ unknown_lints v =
     error_at v.full_span (unknown_text v.specifier)
     ++ (similar_lints v.specifier_span (similar_specifier v.specifier)
     ++ help_at v.specifier_span valid_text)
+
+-- ---- a separator of a repetition with `?`
+
+unfoldable pub separator_text : List ℕ
+separator_text = codes "the `?` macro repetition operator does not take a separator"
+
+-- At the separator.
+abbrev pub separated_lints : MacroDefinition → Separator → List Lint
+separated_lints d s = error_at (unwrap_or (separator_place s) d.name.span) separator_text
+
+-- ---- names that aren't bound, and variables that aren't used
+
+unfoldable pub unbound_text : Name → List ℕ
+unbound_text name = codes "unknown macro variable `" ++ (name ++ codes "`")
+
+unfoldable pub similar_variable_text : Name → List ℕ
+similar_variable_text name = codes "there's a macro metavariable with a similar name: `$"
+    ++ (name ++ codes "`")
+
+abbrev pub similar_variable_lints : Span → Option Name → List Lint
+similar_variable_lints place None = []
+similar_variable_lints place (Some name) = help_at place (similar_variable_text name)
+
+abbrev pub unbound_lints : Name → Option Name → VariableDisplay → List Lint
+unbound_lints name similar at =
+    warning_at at.name_span (unbound_text name) ++ similar_variable_lints at.name_span similar
+
+-- At the use.
+abbrev pub use_display : MacroDefinition → VariableUse → VariableDisplay
+use_display d u = variable_display d (unwrap_or u.place d.name.span) None
 
 unfoldable pub unused_text : Name → List ℕ
 unused_text name = codes "unused macro variable: `$" ++ (name ++ codes "`")
@@ -110,17 +144,38 @@ op_part d (expression e) = part_of (expected_op (expression e))
 abbrev pub follower_part : MacroDefinition → Follower → RulePart
 follower_part d (reading o) = op_part d o
 follower_part d (separating s) = part_of (expected_separator s)
+follower_part d closing = part_of expected_closing
 
-unfoldable pub forbidden_text : Name → Name → List ℕ → List ℕ
-forbidden_text name specifier next =
+-- Whether it follows in each call, or may follow.
+abbrev pub followed_text : Bool → List ℕ
+followed_text true = codes "is followed by"
+followed_text false = codes "may be followed by"
+
+unfoldable pub forbidden_text : Name → Name → Bool → List ℕ → List ℕ
+forbidden_text name specifier alone next =
     variable_text name specifier
-    ++ (codes " may be followed by "
-    ++ (next ++ (codes ", which is not allowed for `" ++ (specifier ++ codes "` fragments"))))
+    ++ (codes " "
+    ++ (followed_text alone
+    ++ (codes " "
+    ++ (next ++ (codes ", which is not allowed for `" ++ (specifier ++ codes "` fragments"))))))
 
-abbrev pub violation_lints : Name → Option MetaVarKind → VariableDisplay → RulePart → List Lint
-violation_lints name kind v next =
-    error_at (unwrap_or next.place v.full_span) (forbidden_text name v.specifier next.text)
-    ++ note_at v.full_span (allowed_text kind)
+unfoldable pub pat_param_text : Name → List ℕ
+pat_param_text name = codes "try a `pat_param` fragment specifier instead: `$"
+    ++ (name ++ codes ":pat_param`")
+
+abbrev pub pat_param_lints : FollowViolation → Span → List Lint
+pat_param_lints f place = if needs_pat_param f then help_at place (pat_param_text f.name) else []
+
+abbrev pub violation_lints : FollowViolation → VariableDisplay → RulePart → List Lint
+violation_lints f v next =
+    error_at (unwrap_or next.place v.full_span)
+    (forbidden_text f.name v.specifier f.alone next.text)
+    ++ (note_at v.full_span (allowed_text f.kind) ++ pat_param_lints f v.full_span)
+
+-- What follows, and the variable, as they are written.
+abbrev pub forbidden_lints : MacroDefinition → FollowViolation → List Lint
+forbidden_lints d f =
+    violation_lints f (variable_display d f.place f.kind) (follower_part d f.next)
 
 -- ---- all findings
 
@@ -131,12 +186,14 @@ abbrev pub finding_lints : MacroDefinition → Finding → List Lint
 finding_lints d (bound_twice first later) =
     duplicate_lints (bound_display d first) (bound_display d later)
 finding_lints d (unknown_specifier b) = unknown_lints (bound_display d b)
+finding_lints d (separated_optional s) = separated_lints d s
+finding_lints d (unknown_variable u similar) =
+    unbound_lints u.name similar (use_display d u)
 finding_lints d (never_used b) = unused_lints b.name (bound_display d b)
 finding_lints d (still_repeats b u) =
     repeating_lints b.name b.depth u.depth (bound_display d b)
     (variable_display d (unwrap_or u.place b.place) None)
-finding_lints d (forbidden f) =
-    violation_lints f.name f.kind (variable_display d f.place f.kind) (follower_part d f.next)
+finding_lints d (forbidden f) = forbidden_lints d f
 
 -- The lints of each finding, in order.
 abbrev pub findings_lints : MacroDefinition → List Finding → List Lint

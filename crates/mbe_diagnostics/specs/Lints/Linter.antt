@@ -1,5 +1,5 @@
 -- The lints of definitions.
-use Rattle.std.specs.Prelude.{◌≡◌, codes, List, [], ◌∷◌, ◌++◌, Option, Some, None}
+use Rattle.std.specs.Prelude.{◌≡◌, ℕ, codes, List, [], ◌∷◌, ◌++◌, Option, Some, None}
 use Rattle.std.specs.Fmt.{decimal}
 use Rattle.mbe_tt.specs.declared.span.Edition.{Edition}
 use Rattle.mbe_tt.specs.declared.span.SyntaxContext.{SyntaxContext}
@@ -13,6 +13,8 @@ use Rattle.mbe_rewriter.specs.MacroItems.{DefinitionForm, Rules, Body, Arguments
 use Rattle.mbe_diagnostics.specs.RuleChecks.Findings.{findings}
 use Rattle.mbe_diagnostics.specs.RuleChecks.UnreachableRules.{unreachable_rules}
 use Rattle.mbe_diagnostics.specs.Lints.Lint.{Lint, error_at}
+use Rattle.mbe_diagnostics.specs.RuleChecks.FixedRepetitions.{fixed_repetitions}
+use Rattle.mbe_diagnostics.specs.Lints.RepetitionLints.{fixed_lints}
 use Rattle.mbe_diagnostics.specs.Lints.UnreachableLints.{unreachable_lints, number_of}
 use Rattle.mbe_diagnostics.specs.Lints.ErrorLocation.{RefusedAt}
 use Rattle.mbe_diagnostics.specs.declared.lints.error_location.ErrorLocation.{ErrorLocation}
@@ -28,17 +30,32 @@ refusal_lints name (Some fault) (Some location) =
     ++ (name.sym ++ (codes "`, rule " ++ (decimal (number_of location.rule)
     ++ (codes ": " ++ text_of_fault fault)))))
 
--- The findings of each rule.
+unfoldable pub no_rules_text : List ℕ
+no_rules_text = codes "macros must contain at least one rule"
+
+-- A definition without rules, if none is refused.
+abbrev pub empty_lints : Ident → List Rule → Option Fault → List Lint
+empty_lints name [] None = error_at name.span no_rules_text
+empty_lints name [] (Some fault) = []
+empty_lints name (r ∷ rs) err = []
+
+-- The findings of a rule, and its repetitions without a variable that repeats there.
+abbrev pub rule_lints : MacroDefinition → Rule → List Lint
+rule_lints d r =
+    findings_lints d (findings r.reads r.writes)
+    ++ fixed_lints d (fixed_repetitions r.reads r.writes)
+
 abbrev pub rules_lints : MacroDefinition → List Rule → List Lint
 rules_lints d [] = []
-rules_lints d (r ∷ rs) = findings_lints d (findings r.reads r.writes) ++ rules_lints d rs
+rules_lints d (r ∷ rs) = rule_lints d r ++ rules_lints d rs
 
 -- The lints of a parsed definition: why it is refused, the findings of the rules that were parsed,
 -- and which of these rules no call reaches.
 abbrev pub macro_lints : MacroDefinition → Macro → Option ErrorLocation → List Lint
 macro_lints d m location =
     refusal_lints d.name m.err location
-    ++ (rules_lints d m.rules ++ unreachable_lints d (unreachable_rules m.rules))
+    ++ (empty_lints d.name m.rules m.err
+    ++ (rules_lints d m.rules ++ unreachable_lints d (unreachable_rules m.rules)))
 
 module _ (HasEdition : SyntaxContext → Edition → Type 0) where
   -- What a definition is parsed as: its rules up to the first fault, and that fault.

@@ -1,5 +1,5 @@
--- The specifier that is most similar to an unknown one, as rustc finds a similar name: one that
--- differs only in case, or else the first of those with the fewest edits, if they are few.
+-- The name that is most similar to an unknown one, as rustc finds it: one that differs only in
+-- case, or else the first of those with the fewest edits, if they are few.
 use Prim.Native.String.{String}
 use Rattle.std.specs.Prelude.{ℕ, Bool, ◌+◌, ◌/◌, max, nat_lt, if◌then◌else◌, codes, chars, List, []}
 use Rattle.std.specs.Prelude.{◌∷◌, length, map, Option, Some, None}
@@ -45,6 +45,10 @@ find_same_letters name [] = None
 find_same_letters name (s ∷ ss) =
     if has_same_letters name s then Some s else find_same_letters name ss
 
-unfoldable pub similar_specifier : List ℕ → Option (List ℕ)
-similar_specifier name =
-    option_or (find_same_letters name specifiers) (fewest name (edit_limit name) None specifiers)
+-- The name that is most similar, among these.
+unfoldable pub similar_name : List ℕ → List (List ℕ) → Option (List ℕ)
+similar_name name all =
+    option_or (find_same_letters name all) (fewest name (edit_limit name) None all)
+
+abbrev pub similar_specifier : List ℕ → Option (List ℕ)
+similar_specifier name = similar_name name specifiers

@@ -51,8 +51,8 @@ number_of n = min (n + 1) (2 ^ 64 - 1)
 
 unfoldable pub unreachable_text : ℕ → List ℕ
 unreachable_text earlier =
-    codes "no call reaches this rule: rule "
-    ++ (decimal earlier ++ codes " takes every argument that it takes")
+    codes "unreachable rule: rule "
+    ++ (decimal earlier ++ codes " matches everything it does")
 
 unfoldable pub earlier_text : ℕ → Name → List ℕ
 earlier_text earlier name = codes "rule "

@@ -27,10 +27,11 @@ use Rattle.mbe_diagnostics.specs.declared.rule_checks.follow_check.Follower as n
 use Rattle.mbe_diagnostics.specs.declared.rule_checks.follow_check.TokenClass as token_class
 use Rattle.mbe_diagnostics.specs.declared.rule_checks.follow_check.FollowViolation as followed_code
 
--- What may come next in a pattern: an op, or a separator.
+-- What may come next in a pattern: an op, a separator, or the closing delimiter of a group.
 pub data Follower : Type 0 where
   reading : Op → Follower
   separating : Separator → Follower
+  closing : Follower
 
 -- ---- what ops may begin with
 
@@ -114,6 +115,17 @@ class_of_separator (lifetime_separator p i) = lifetime_next
 abbrev pub class_of : Follower → TokenClass
 class_of (reading o) = class_of_op o
 class_of (separating s) = class_of_separator s
+class_of closing = other_next
+
+-- The closing delimiter may follow every fragment.
+abbrev pub closes : Follower → Bool
+closes closing = true
+closes _ = false
+
+-- Nothing else may come next.
+abbrev pub is_one : List Follower → Bool
+is_one (n ∷ []) = true
+is_one _ = false
 
 -- `=>` or `,`
 abbrev pub is_arrow_or_comma : List ℕ → Bool
@@ -208,30 +220,47 @@ may_follow (Some kind) token_class = may_follow_set (facts kind).follow_set toke
 
 -- ---- violations of the follow sets
 
--- A variable of a pattern, and something that may come after it.
+-- A variable of a pattern, something that may come after it, and whether nothing else may.
 pub record FollowViolation : Type 0 where
   pub name : Name
   pub kind : Option MetaVarKind
   pub place : Span
   pub next : Follower
+  pub alone : Bool
 
 abbrev pub if_forbidden : FollowViolation → List FollowViolation
-if_forbidden f = if may_follow f.kind (class_of f.next) then [] else f ∷ []
+if_forbidden f =
+    if closes f.next || may_follow f.kind (class_of f.next) then [] else f ∷ []
 
 -- Each of these that is forbidden after the fragment.
-abbrev pub forbidden_of : Name → Option MetaVarKind → Span → List Follower → List FollowViolation
-forbidden_of name kind place [] = []
-forbidden_of name kind place (n ∷ ns) =
-    if_forbidden (record { name = name; kind = kind; place = place; next = n })
-    ++ forbidden_of name kind place ns
+abbrev pub forbidden_of : Name → Option MetaVarKind → Span → Bool → List Follower
+    → List FollowViolation
+forbidden_of name kind place alone [] = []
+forbidden_of name kind place alone (n ∷ ns) =
+    if_forbidden (record { name = name; kind = kind; place = place; next = n; alone = alone })
+    ++ forbidden_of name kind place alone ns
 
--- The closing delimiter of a group may follow everything. A separator may follow the rounds of its
+-- `pat` matches alternatives. `pat_param` doesn't, so a `|` may follow it.
+abbrev pub is_pat : Option MetaVarKind → Bool
+is_pat (Some kinds.Pat) = true
+is_pat _ = false
+
+abbrev pub is_or : TokenClass → Bool
+is_or (chars_next chars) = bytes_eq chars (codes "|")
+is_or _ = false
+
+-- Whether `pat_param` is what the pattern needs.
+abbrev pub needs_pat_param : FollowViolation → Bool
+needs_pat_param f = is_pat f.kind && is_or (class_of f.next)
+
+-- The closing delimiter comes after the ops of a group. A separator may follow the rounds of its
 -- repetition.
 abbrev mutual
   pub forbidden_in_op : List Follower → Op → List FollowViolation
   forbidden_in_op after (token t) = []
-  forbidden_in_op after (group d body) = forbidden_in [] body
-  forbidden_in_op after (variable name kind span) = forbidden_of name kind span after
+  forbidden_in_op after (group d body) = forbidden_in (closing ∷ []) body
+  forbidden_in_op after (variable name kind span) =
+      forbidden_of name kind span (is_one after) after
   forbidden_in_op after (repetition body separator repeat) =
       forbidden_in (after ++ separators separator) body
   forbidden_in_op after (expression e) = []
@@ -245,10 +274,18 @@ abbrev mutual
 abbrev pub follower_seen : {A : Type 0} → next.Follower A → Follower
 follower_seen (next.TheVariants.Op o) = reading (op_of o.now)
 follower_seen (next.TheVariants.Separator s) = separating (separator_seen s.now)
+follower_seen next.TheVariants.Closing = closing
 
 abbrev pub violation_seen : {A : Type 0} → followed_code.FollowViolation A → FollowViolation
 violation_seen f =
-    record { name = f.name.now; kind = f.kind; place = f.place; next = follower_seen f.next }
+    record {
+      name = f.name.now;
+      kind = f.kind;
+      place = f.place;
+      next = follower_seen f.next;
+      alone =
+          f.alone;
+    }
 
 abbrev pub class_seen : token_class.TokenClass → TokenClass
 class_seen (token_class.TheVariants.Puncts ps) = chars_next (chars_of ps.now)

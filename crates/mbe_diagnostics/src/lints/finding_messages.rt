@@ -3,12 +3,12 @@ ghost use Rattle.std.specs.Prelude.{◌≡◌, ◌++◌, map, option_map, IfOk, 
 ghost use Rattle.std.specs.String.{string_bytes};
 ghost use Rattle.mbe_rewriter.specs.MacroItemViews.{macro_definition_shown};
 ghost use Rattle.mbe_diagnostics.specs.Outcome.{part_seen};
-ghost use Rattle.mbe_diagnostics.specs.RuleChecks.FollowCheck.{follower_seen};
-ghost use Rattle.mbe_diagnostics.specs.RuleChecks.Variables.{variable_seen};
+ghost use Rattle.mbe_diagnostics.specs.RuleChecks.FollowCheck.{follower_seen, violation_seen};
+ghost use Rattle.mbe_diagnostics.specs.RuleChecks.Variables.{variable_seen, use_seen};
 ghost use Rattle.mbe_diagnostics.specs.RuleChecks.Findings.{finding_seen};
 ghost use Rattle.mbe_diagnostics.specs.Lints.Lint.{lint_seen};
 ghost use Rattle.mbe_diagnostics.specs.Lints.VariableDisplay.{display_seen, variable_text};
-ghost use Rattle.mbe_ops.specs.Views.{op_of};
+ghost use Rattle.mbe_ops.specs.Views.{op_of, separator_seen};
 ghost use Rattle.mbe_diagnostics.specs.Lints.FindingMessages as spec;
 
 use crate::diagnostic::Level;
@@ -16,11 +16,11 @@ use crate::lints::lint::{Lint, push, push_text};
 use crate::lints::similar_specifier::similar_specifier;
 use crate::lints::variable_display::{VariableDisplay, display_variable};
 use crate::rule_checks::findings::Finding;
-use crate::rule_checks::follow_check::{FollowViolation, Follower};
+use crate::rule_checks::follow_check::{FollowViolation, Follower, needs_pat_param};
 use crate::rule_checks::variables::{PatternVariable, VariableUse};
-use crate::rule_part::{RulePart, describe};
+use crate::rule_part::{RulePart, describe, separator_span};
 use mbe_matcher::expectations::Expected;
-use mbe_ops::ops::Op;
+use mbe_ops::ops::{Op, Separator};
 use mbe_rewriter::macro_items::MacroDefinition;
 use mbe_semantics::fragment_kinds::{FollowSet, MetaVarKind};
 use mbe_tt::span::Span;
@@ -118,6 +118,75 @@ fn push_unknown<A: Allocator + Copy>(
     push_similar(alloc, lints, variable.specifier_span, similar)?;
     let message = valid_text(alloc)?;
     push(lints, Level::Help, variable.specifier_span, message)
+}
+
+#[tactic(auto, unfolding(crate::specs::Lints::FindingMessages::separator_text))]
+fn separator_text() -> &'static str
+    ensures { result.now ≡ spec.separator_text }
+{
+    "the `?` macro repetition operator does not take a separator"
+}
+
+// Adds the error on the separator of a repetition with `?`.
+fn push_separated<A: Allocator + Copy>(
+    alloc: A,
+    lints: &mut Vec<Lint<A>, A>,
+    defined: MacroDefinition<'_, A>,
+    separator: &Separator<A>,
+) -> Result<(), AllocError>
+    ensures { OnOk result (map lint_seen lints.new.items ≡ map lint_seen lints.old.items
+        ++ spec.separated_lints (macro_definition_shown defined.entry)
+        (separator_seen separator.now)) }
+{
+    let place = separator_span(separator).unwrap_or(defined.name.span);
+    push_text(alloc, lints, Level::Error, place, separator_text())
+}
+
+#[tactic(auto, unfolding(crate::specs::Lints::FindingMessages::unbound_text))]
+fn unbound_text<A: Allocator>(alloc: A, name: &str) -> Result<String<A>, AllocError>
+    ensures { IfOk result (λ text. string_bytes text ≡ spec.unbound_text name.now) }
+{
+    format!(in alloc; "unknown macro variable `{name}`")
+}
+
+#[tactic(auto, unfolding(crate::specs::Lints::FindingMessages::similar_variable_text))]
+fn similar_variable_text<A: Allocator>(alloc: A, name: &str) -> Result<String<A>, AllocError>
+    ensures { IfOk result (λ text. string_bytes text ≡ spec.similar_variable_text name.now) }
+{
+    format!(in alloc; "there's a macro metavariable with a similar name: `${name}`")
+}
+
+fn push_similar_variable<A: Allocator + Copy>(
+    alloc: A,
+    lints: &mut Vec<Lint<A>, A>,
+    place: Span,
+    similar: Option<&str>,
+) -> Result<(), AllocError>
+    ensures { OnOk result (map lint_seen lints.new.items ≡ map lint_seen lints.old.items
+        ++ spec.similar_variable_lints place (option_map (λ s. s.now) similar.entry)) }
+{
+    if let Some(name) = similar {
+        let message = similar_variable_text(alloc, name)?;
+        push(lints, Level::Help, place, message)?;
+    }
+    Ok(())
+}
+
+// Adds the warning on a use of a name that no variable of the pattern has.
+fn push_unbound<A: Allocator + Copy>(
+    alloc: A,
+    lints: &mut Vec<Lint<A>, A>,
+    name: &str,
+    similar: Option<&str>,
+    at: VariableDisplay<'_>,
+) -> Result<(), AllocError>
+    ensures { OnOk result (map lint_seen lints.new.items ≡ map lint_seen lints.old.items
+        ++ spec.unbound_lints name.now (option_map (λ s. s.now) similar.entry)
+        (display_seen at.entry)) }
+{
+    let message = unbound_text(alloc, name)?;
+    push(lints, Level::Warning, at.name_span, message)?;
+    push_similar_variable(alloc, lints, at.name_span, similar)
 }
 
 #[tactic(auto, unfolding(crate::specs::Lints::FindingMessages::unused_text))]
@@ -260,6 +329,20 @@ fn follower_part<A: Allocator + Copy>(
     match next {
         Follower::Separator(separator) => describe(alloc, Expected::Separator(separator)),
         Follower::Op(op) => op_part(alloc, defined, op),
+        Follower::Closing => Ok(RulePart {
+            text: String::from_str(alloc, "the end of the group")?,
+            span: None,
+        }),
+    }
+}
+
+fn followed_text(alone: bool) -> &'static str
+    ensures { result.now ≡ spec.followed_text alone }
+{
+    if alone {
+        "is followed by"
+    } else {
+        "may be followed by"
     }
 }
 
@@ -268,15 +351,41 @@ fn forbidden_text<A: Allocator + Copy>(
     alloc: A,
     name: &str,
     specifier: &str,
+    alone: bool,
     next: &str,
 ) -> Result<String<A>, AllocError>
     ensures { IfOk result (λ text. string_bytes text
-        ≡ spec.forbidden_text name.now specifier.now next.now) }
+        ≡ spec.forbidden_text name.now specifier.now alone next.now) }
 {
     let variable = variable_text(alloc, name, specifier)?;
+    let followed = followed_text(alone);
     format!(in alloc;
-        "{variable} may be followed by {next}, which is not allowed for `{specifier}` fragments"
+        "{variable} {followed} {next}, which is not allowed for `{specifier}` fragments"
     )
+}
+
+#[tactic(auto, unfolding(crate::specs::Lints::FindingMessages::pat_param_text))]
+fn pat_param_text<A: Allocator>(alloc: A, name: &str) -> Result<String<A>, AllocError>
+    ensures { IfOk result (λ text. string_bytes text ≡ spec.pat_param_text name.now) }
+{
+    format!(in alloc; "try a `pat_param` fragment specifier instead: `${name}:pat_param`")
+}
+
+// Adds the help for a `pat` that a `|` follows.
+fn push_pat_param<A: Allocator + Copy>(
+    alloc: A,
+    lints: &mut Vec<Lint<A>, A>,
+    followed: FollowViolation<'_, A>,
+    place: Span,
+) -> Result<(), AllocError>
+    ensures { OnOk result (map lint_seen lints.new.items ≡ map lint_seen lints.old.items
+        ++ spec.pat_param_lints (violation_seen followed.entry) place) }
+{
+    if needs_pat_param(followed) {
+        let message = pat_param_text(alloc, followed.name)?;
+        push(lints, Level::Help, place, message)?;
+    }
+    Ok(())
 }
 
 // Adds the error on a fragment that something may follow which is forbidden there.
@@ -288,12 +397,18 @@ fn push_violation<A: Allocator + Copy>(
     next: RulePart<A>,
 ) -> Result<(), AllocError>
     ensures { OnOk result (map lint_seen lints.new.items ≡ map lint_seen lints.old.items
-        ++ spec.violation_lints followed.entry.name.now followed.entry.kind
-        (display_seen variable.entry) (part_seen next)) }
+        ++ spec.violation_lints (violation_seen followed.entry) (display_seen variable.entry)
+        (part_seen next)) }
 {
     let place = next.span.unwrap_or(variable.full_span);
     let text = next.text.as_str();
-    let message = forbidden_text(alloc, followed.name, variable.specifier, text)?;
+    let message = forbidden_text(
+        alloc,
+        followed.name,
+        variable.specifier,
+        followed.alone,
+        text,
+    )?;
     push(lints, Level::Error, place, message)?;
     push_text(
         alloc,
@@ -301,7 +416,8 @@ fn push_violation<A: Allocator + Copy>(
         Level::Note,
         variable.full_span,
         allowed_text(followed.kind),
-    )
+    )?;
+    push_pat_param(alloc, lints, followed, variable.full_span)
 }
 
 // Returns how to display a variable of the definition.
@@ -313,6 +429,33 @@ fn bound_display<'t, A: Allocator>(
         (variable_seen bound.entry) }
 {
     display_variable(defined, bound.place, bound.kind)
+}
+
+// Returns how to display the variable at a use of it.
+fn use_display<'t, A: Allocator>(
+    defined: MacroDefinition<'t, A>,
+    used: VariableUse<'_>,
+) -> VariableDisplay<'t>
+    ensures { display_seen result ≡ spec.use_display (macro_definition_shown defined.entry)
+        (use_seen used.entry) }
+{
+    display_variable(defined, used.place.unwrap_or(defined.name.span), None)
+}
+
+// Adds the error on a fragment of the definition that something forbidden may follow.
+fn push_forbidden<A: Allocator + Copy>(
+    alloc: A,
+    lints: &mut Vec<Lint<A>, A>,
+    defined: MacroDefinition<'_, A>,
+    followed: FollowViolation<'_, A>,
+) -> Result<(), AllocError>
+    ensures { OnOk result (map lint_seen lints.new.items ≡ map lint_seen lints.old.items
+        ++ spec.forbidden_lints (macro_definition_shown defined.entry)
+        (violation_seen followed.entry)) }
+{
+    let next = follower_part(alloc, defined, followed.next)?;
+    let variable = display_variable(defined, followed.place, followed.kind);
+    push_violation(alloc, lints, followed, variable, next)
 }
 
 /// Adds the lints of a finding in that definition. `AllocError` if out of memory.
@@ -333,24 +476,19 @@ pub fn push_finding<A: Allocator + Copy>(
         Finding::UnknownSpecifier(bound) => {
             push_unknown(alloc, lints, bound_display(defined, *bound))
         }
+        Finding::SeparatedOptional(separator) => push_separated(alloc, lints, defined, separator),
+        Finding::UnknownVariable(used, similar) => {
+            let at = use_display(defined, *used);
+            push_unbound(alloc, lints, used.name, *similar, at)
+        }
         Finding::NeverUsed(bound) => {
             push_unused(alloc, lints, bound.name, bound_display(defined, *bound))
         }
         Finding::StillRepeats(bound, used) => {
             let at = display_variable(defined, used.place.unwrap_or(bound.place), None);
-            push_repeating(
-                alloc,
-                lints,
-                *bound,
-                *used,
-                bound_display(defined, *bound),
-                at,
-            )
+            let variable = bound_display(defined, *bound);
+            push_repeating(alloc, lints, *bound, *used, variable, at)
         }
-        Finding::Forbidden(followed) => {
-            let next = follower_part(alloc, defined, followed.next)?;
-            let variable = display_variable(defined, followed.place, followed.kind);
-            push_violation(alloc, lints, *followed, variable, next)
-        }
+        Finding::Forbidden(followed) => push_forbidden(alloc, lints, defined, *followed),
     }
 }

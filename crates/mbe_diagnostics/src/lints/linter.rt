@@ -4,7 +4,7 @@ ghost use Rattle.std.specs.Prelude.{◌≡◌, ◌++◌, map, option_map, IfOk, 
 ghost use Rattle.mbe_tt.specs.Views.View.{trees};
 ghost use Rattle.mbe_tt.specs.Views.LeafViews.{ident_of};
 ghost use Rattle.mbe_ops.specs.Errors.ErrorViews.{parse_error_of};
-ghost use Rattle.mbe_parser.specs.RuleViews.{rules_seen};
+ghost use Rattle.mbe_parser.specs.RuleViews.{rule_of, rules_seen};
 ghost use Rattle.mbe_rewriter.specs.MacroItemViews.{macro_definition_shown};
 ghost use Rattle.mbe_diagnostics.specs.RuleChecks.Findings.{finding_seen};
 ghost use Rattle.mbe_semantics.specs.Laws.Callbacks.{MayAsk};
@@ -18,10 +18,12 @@ ghost use Rattle.mbe_diagnostics.specs.Lints.ParsedMacroViews.{macro_read};
 use crate::diagnostic::Level;
 use crate::lints::definitions::definitions;
 use crate::lints::finding_messages::push_finding;
-use crate::lints::lint::{Lint, push};
+use crate::lints::lint::{Lint, push, push_text};
 use crate::lints::parsed_macro::{ParsedMacro, read};
+use crate::lints::repetition_lints::push_all_fixed;
 use crate::lints::unreachable_lints::{number_of, push_all_unreachable};
 use crate::rule_checks::findings::{Finding, findings};
+use crate::rule_checks::fixed_repetitions::fixed_repetitions;
 use crate::rule_checks::unreachable_rules::unreachable_rules;
 use mbe_parser::rules::Rule;
 use mbe_rewriter::macro_items::MacroDefinition;
@@ -53,6 +55,31 @@ fn push_refusal<A: Allocator + Copy>(
     push(lints, Level::Error, location.span, message)
 }
 
+#[tactic(auto, unfolding(crate::specs::Lints::Linter::no_rules_text))]
+fn no_rules_text() -> &'static str
+    ensures { result.now ≡ spec.no_rules_text }
+{
+    "macros must contain at least one rule"
+}
+
+// Adds the error on a definition without rules, unless it is refused.
+fn push_empty<A: Allocator + Copy>(
+    alloc: A,
+    lints: &mut Vec<Lint<A>, A>,
+    name: &Ident<A>,
+    read: &ParsedMacro<A>,
+) -> Result<(), AllocError>
+    ensures { OnOk result (map lint_seen lints.new.items ≡ map lint_seen lints.old.items
+        ++ spec.empty_lints (ident_of name.now) (rules_seen read.now.rules.items)
+        (option_map parse_error_of read.now.err)) }
+{
+    match (read.rules.as_slice(), read.err.as_ref()) {
+        ([], None) => push_text(alloc, lints, Level::Error, name.span, no_rules_text()),
+        ([], Some(_)) => Ok(()),
+        ([_, ..], _) => Ok(()),
+    }
+}
+
 fn push_findings<A: Allocator + Copy>(
     alloc: A,
     lints: &mut Vec<Lint<A>, A>,
@@ -68,6 +95,22 @@ fn push_findings<A: Allocator + Copy>(
     Ok(())
 }
 
+// Adds the findings of a rule, and its repetitions without a variable that repeats there.
+fn push_rule<A: Allocator + Copy>(
+    alloc: A,
+    lints: &mut Vec<Lint<A>, A>,
+    defined: MacroDefinition<'_, A>,
+    rule: &Rule<A>,
+) -> Result<(), AllocError>
+    ensures { OnOk result (map lint_seen lints.new.items ≡ map lint_seen lints.old.items
+        ++ spec.rule_lints (macro_definition_shown defined.entry) (rule_of rule.now)) }
+{
+    let found = findings(alloc, &rule.lhs, &rule.rhs)?;
+    push_findings(alloc, lints, defined, found.as_slice())?;
+    let fixed = fixed_repetitions(alloc, &rule.lhs, &rule.rhs)?;
+    push_all_fixed(alloc, lints, defined, fixed.as_slice())
+}
+
 fn push_rules<A: Allocator + Copy>(
     alloc: A,
     lints: &mut Vec<Lint<A>, A>,
@@ -78,8 +121,7 @@ fn push_rules<A: Allocator + Copy>(
         ++ spec.rules_lints (macro_definition_shown defined.entry) (rules_seen rules.now)) }
 {
     for rule in rules {
-        let found = findings(alloc, &rule.lhs, &rule.rhs)?;
-        push_findings(alloc, lints, defined, found.as_slice())?;
+        push_rule(alloc, lints, defined, rule)?;
     }
     Ok(())
 }
@@ -92,9 +134,11 @@ fn push_macro<A: Allocator + Copy>(
     read: &ParsedMacro<A>,
 ) -> Result<(), AllocError>
     ensures { OnOk result (map lint_seen lints.new.items ≡ map lint_seen lints.old.items
-        ++ macro_lints (macro_definition_shown defined.entry) (macro_read read.now) read.now.location) }
+        ++ macro_lints (macro_definition_shown defined.entry) (macro_read read.now)
+        read.now.location) }
 {
     push_refusal(alloc, lints, defined.name, read)?;
+    push_empty(alloc, lints, defined.name, read)?;
     push_rules(alloc, lints, defined, read.rules.as_slice())?;
     let beyond = unreachable_rules(alloc, read.rules.as_slice())?;
     push_all_unreachable(alloc, lints, defined, beyond.as_slice())
@@ -137,8 +181,10 @@ fn push_definitions<A: Allocator + Copy, E: Copy + Fn(SyntaxContext) -> Edition>
 ///
 /// 1. why it is refused, if it is: at the token that can't be parsed, or at the opening of the
 ///    repetition that can match nothing;
-/// 2. the findings of each rule up to the first fault, in the order of `findings`;
-/// 3. which of these rules no call reaches.
+/// 2. that it has no rules, if it has none and isn't refused;
+/// 3. the findings of each rule up to the first fault, in the order of `findings`, and its
+///    repetitions without a variable that repeats there;
+/// 4. which of these rules no call reaches.
 ///
 /// The function `ctx_edition` returns the edition of a context; it decides what `pat` and `expr`
 /// mean. `AllocError` if out of memory, or if groups and repetitions of a rule are nested too deep.

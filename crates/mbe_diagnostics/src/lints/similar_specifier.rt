@@ -1,4 +1,4 @@
-// Finds the fragment specifier that is most similar to an unknown one.
+// Finds the name, or the fragment specifier, that is most similar to an unknown one.
 ghost use Rattle.std.specs.Prelude.{◌≡◌, None, map, option_map, IfOk};
 ghost use Rattle.mbe_diagnostics.specs.Lints.SimilarSpecifier as spec;
 
@@ -70,11 +70,27 @@ fn fewest_edits<'s, A: Allocator + Copy>(
     Ok(found)
 }
 
-/// Returns the fragment specifier that is most similar to a name, if one is similar, as rustc does.
-/// A specifier that differs only in case comes first. Else it is the first of those with the fewest
-/// edits. The edits are at most a third of the name's bytes, but one is always allowed. An edit
-/// inserts, removes or replaces a character, or swaps two. `AllocError` if out of memory.
-#[tactic(auto, unfolding(crate::specs::Lints::SimilarSpecifier::similar_specifier))]
+/// Returns the name among `all` that is most similar to `name`, if one is similar, as rustc does. A
+/// name that differs only in case comes first. Else it is the first of those with the fewest edits.
+/// The edits are at most a third of the name's bytes, but one is always allowed. An edit inserts,
+/// removes or replaces a character, or swaps two. `AllocError` if out of memory.
+#[tactic(auto, unfolding(crate::specs::Lints::SimilarSpecifier::similar_name))]
+pub fn similar_name<'s, A: Allocator + Copy>(
+    alloc: A,
+    name: &str,
+    all: &[&'s str],
+) -> Result<Option<&'s str>, AllocError>
+    ensures { IfOk result (λ found. option_map (λ s. s.now) found
+        ≡ spec.similar_name name.now (map (λ s. s.now) all.now)) }
+{
+    match find_same_letters(name, all) {
+        Some(found) => Ok(Some(found)),
+        None => fewest_edits(alloc, name, all),
+    }
+}
+
+/// Returns the fragment specifier that is most similar to a name, if one is similar (see
+/// `similar_name`). `AllocError` if out of memory.
 pub fn similar_specifier<A: Allocator + Copy>(
     alloc: A,
     name: &str,
@@ -82,8 +98,5 @@ pub fn similar_specifier<A: Allocator + Copy>(
     ensures { IfOk result (λ found. option_map (λ s. s.now) found
         ≡ spec.similar_specifier name.now) }
 {
-    match find_same_letters(name, SPECIFIERS) {
-        Some(found) => Ok(Some(found)),
-        None => fewest_edits(alloc, name, SPECIFIERS),
-    }
+    similar_name(alloc, name, SPECIFIERS)
 }

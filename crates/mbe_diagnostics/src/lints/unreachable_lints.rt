@@ -77,9 +77,7 @@ pub(crate) fn number_of(index: usize) -> usize
 fn unreachable_text<A: Allocator>(alloc: A, earlier: usize) -> Result<String<A>, AllocError>
     ensures { IfOk result (λ text. string_bytes text ≡ spec.unreachable_text earlier) }
 {
-    format!(in alloc;
-        "no call reaches this rule: rule {earlier} takes every argument that it takes"
-    )
+    format!(in alloc; "unreachable rule: rule {earlier} matches everything it does")
 }
 
 #[tactic(auto, unfolding(crate::specs::Lints::UnreachableLints::earlier_text))]

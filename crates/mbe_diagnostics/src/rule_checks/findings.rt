@@ -1,14 +1,17 @@
 // Finds errors in a rule, and variables without use. What it finds holds for every call.
 ghost use Rattle.std.specs.Prelude.{◌≡◌, ◌++◌, [], map, option_map, IfOk, OnOk};
-ghost use Rattle.mbe_ops.specs.Views.{template_of};
+ghost use Rattle.mbe_ops.specs.Views.{separator_seen, template_of};
 ghost use Rattle.mbe_diagnostics.specs.RuleChecks.Variables.{variable_seen, use_seen};
 ghost use Rattle.mbe_diagnostics.specs.RuleChecks.FollowCheck.{violation_seen};
 ghost use Rattle.mbe_diagnostics.specs.RuleChecks.Findings as spec;
 ghost use Rattle.mbe_diagnostics.specs.RuleChecks.Findings.{finding_seen};
 
+use crate::lints::similar_specifier::similar_name;
 use crate::rule_checks::follow_check::{FollowViolation, forbidden};
+use crate::rule_checks::optional_separators::push_optional_separators;
 use crate::rule_checks::variables::{PatternVariable, VariableUse, uses_in, variables_in};
-use mbe_ops::ops::MetaTemplate;
+use crate::rule_checks::words::{has_word, holds_definition};
+use mbe_ops::ops::{MetaTemplate, Separator};
 use std::alloc::{AllocError, Allocator, Global};
 
 /// A finding in a rule. Clauses see it by `finding_seen`.
@@ -18,7 +21,12 @@ pub enum Finding<'a, A: Allocator = Global> {
     BoundTwice(PatternVariable<'a>, PatternVariable<'a>),
     /// A variable whose specifier is unknown. rustc refuses the rule.
     UnknownSpecifier(PatternVariable<'a>),
-    /// A variable that the template doesn't name.
+    /// A separator of a repetition with `?`, which has at most one round. rustc refuses the rule.
+    SeparatedOptional(&'a Separator<A>),
+    /// A use of a name that no variable of the pattern has, and the variable's name that is
+    /// similar, if there is one. The template emits the `$` and the name as they are.
+    UnknownVariable(VariableUse<'a>, Option<&'a str>),
+    /// A variable that the template doesn't name, where a mistake is likely.
     NeverUsed(PatternVariable<'a>),
     /// A variable, and a use of it in fewer repetitions than it is bound in: it still repeats
     /// there. rustc refuses each call that expands the use.
@@ -95,6 +103,107 @@ fn push_unknown<'a, A: Allocator>(
     Ok(())
 }
 
+fn push_separated<'a, A: Allocator>(
+    found: &mut Vec<Finding<'a, A>, A>,
+    all: &[&'a Separator<A>],
+) -> Result<(), AllocError>
+    ensures { OnOk result (map finding_seen found.new.items ≡ map finding_seen found.old.items
+        ++ map spec.separated_optional (map (λ s. separator_seen s.now) all.now)) }
+{
+    for one in all {
+        found.push(Finding::SeparatedOptional(*one))?;
+    }
+    Ok(())
+}
+
+fn is_unbound(bound: &[PatternVariable<'_>], one: VariableUse<'_>) -> bool
+    ensures { result ≡ spec.is_unbound (map variable_seen bound.now) (use_seen one.entry) }
+{
+    one.place.is_some() && first_of_name(one.name, bound).is_none()
+}
+
+fn has_unbound(bound: &[PatternVariable<'_>], used: &[VariableUse<'_>]) -> bool
+    ensures { result ≡ spec.has_unbound (map variable_seen bound.now) (map use_seen used.now) }
+{
+    for one in used {
+        if is_unbound(bound, *one) {
+            return true;
+        }
+    }
+    false
+}
+
+// Whether the template has a name that isn't bound. `holds` says whether it may define a macro.
+fn is_misspelt(holds: bool, bound: &[PatternVariable<'_>], used: &[VariableUse<'_>]) -> bool
+    ensures { result ≡ spec.is_misspelt holds (map variable_seen bound.now)
+        (map use_seen used.now) }
+{
+    !holds && has_unbound(bound, used)
+}
+
+fn names_of<'a, A: Allocator>(
+    alloc: A,
+    bound: &[PatternVariable<'a>],
+) -> Result<Vec<&'a str, A>, AllocError>
+    ensures { IfOk result (λ names. map (λ s. s.now) names.items
+        ≡ spec.names_of_variables (map variable_seen bound.now)) }
+{
+    let mut names = Vec::new(alloc);
+    for one in bound {
+        names.push(one.name)?;
+    }
+    Ok(names)
+}
+
+fn push_if_unbound<'a, A: Allocator + Copy>(
+    alloc: A,
+    found: &mut Vec<Finding<'a, A>, A>,
+    bound: &[PatternVariable<'a>],
+    one: VariableUse<'a>,
+) -> Result<(), AllocError>
+    ensures { OnOk result (map finding_seen found.new.items ≡ map finding_seen found.old.items
+        ++ spec.if_unbound (map variable_seen bound.now) (use_seen one.entry)) }
+{
+    if !is_unbound(bound, one) {
+        return Ok(());
+    }
+    let names = names_of(alloc, bound)?;
+    let similar = similar_name(alloc, one.name, names.as_slice())?;
+    found.push(Finding::UnknownVariable(one, similar))?;
+    Ok(())
+}
+
+fn push_unbound<'a, A: Allocator + Copy>(
+    alloc: A,
+    found: &mut Vec<Finding<'a, A>, A>,
+    bound: &[PatternVariable<'a>],
+    used: &[VariableUse<'a>],
+) -> Result<(), AllocError>
+    ensures { OnOk result (map finding_seen found.new.items ≡ map finding_seen found.old.items
+        ++ spec.unbound (map variable_seen bound.now) (map use_seen used.now)) }
+{
+    for one in used {
+        push_if_unbound(alloc, found, bound, *one)?;
+    }
+    Ok(())
+}
+
+fn push_unbound_unless<'a, A: Allocator + Copy>(
+    alloc: A,
+    found: &mut Vec<Finding<'a, A>, A>,
+    holds: bool,
+    bound: &[PatternVariable<'a>],
+    used: &[VariableUse<'a>],
+) -> Result<(), AllocError>
+    ensures { OnOk result (map finding_seen found.new.items ≡ map finding_seen found.old.items
+        ++ spec.unbound_unless holds (map variable_seen bound.now) (map use_seen used.now)) }
+{
+    if holds {
+        return Ok(());
+    }
+    push_unbound(alloc, found, bound, used)
+}
+
 fn begins_with_underscore(name: &str) -> bool
     ensures { result ≡ spec.begins_with_underscore name.now }
 {
@@ -115,15 +224,28 @@ fn is_named(name: &str, used: &[VariableUse<'_>]) -> bool
     false
 }
 
+// Whether the variable's name may be misspelt in the template.
+fn is_suspicious<A: Allocator>(misspelt: bool, template: &MetaTemplate<A>, name: &str) -> bool
+    ensures { result ≡ spec.is_suspicious misspelt (template_of template.now) name.now }
+{
+    misspelt || has_word(name, template)
+}
+
 fn push_if_unused<'a, A: Allocator>(
     found: &mut Vec<Finding<'a, A>, A>,
+    misspelt: bool,
+    template: &MetaTemplate<A>,
     used: &[VariableUse<'a>],
     one: PatternVariable<'a>,
 ) -> Result<(), AllocError>
     ensures { OnOk result (map finding_seen found.new.items ≡ map finding_seen found.old.items
-        ++ spec.if_unused (map use_seen used.now) (variable_seen one.entry)) }
+        ++ spec.if_unused misspelt (template_of template.now) (map use_seen used.now)
+        (variable_seen one.entry)) }
 {
-    if !(begins_with_underscore(one.name) || is_named(one.name, used)) {
+    if !(begins_with_underscore(one.name)
+        || is_named(one.name, used)
+        || !is_suspicious(misspelt, template, one.name))
+    {
         found.push(Finding::NeverUsed(one))?;
     }
     Ok(())
@@ -131,14 +253,17 @@ fn push_if_unused<'a, A: Allocator>(
 
 fn push_unused<'a, A: Allocator>(
     found: &mut Vec<Finding<'a, A>, A>,
+    misspelt: bool,
+    template: &MetaTemplate<A>,
     used: &[VariableUse<'a>],
     bound: &[PatternVariable<'a>],
 ) -> Result<(), AllocError>
     ensures { OnOk result (map finding_seen found.new.items ≡ map finding_seen found.old.items
-        ++ spec.unused (map use_seen used.now) (map variable_seen bound.now)) }
+        ++ spec.unused misspelt (template_of template.now) (map use_seen used.now)
+        (map variable_seen bound.now)) }
 {
     for one in bound {
-        push_if_unused(found, used, *one)?;
+        push_if_unused(found, misspelt, template, used, *one)?;
     }
     Ok(())
 }
@@ -191,9 +316,12 @@ fn push_forbidden<'a, A: Allocator>(
 ///
 /// 1. names that are bound twice;
 /// 2. unknown specifiers;
-/// 3. variables that the template doesn't name, unless their name begins with `_`;
-/// 4. uses of a variable in fewer repetitions than it is bound in;
-/// 5. fragments that something may follow which the Rust Reference forbids there ("Follow-set
+/// 3. separators of repetitions with `?`, first in the pattern, then in the template;
+/// 4. uses of names that no variable has, unless the template may define a macro;
+/// 5. variables that the template doesn't name, unless their name begins with `_`, and only where a
+///    mistake is likely: there is a finding of 4, or the name is in the template without `$`;
+/// 6. uses of a variable in fewer repetitions than it is bound in;
+/// 7. fragments that something may follow which the Rust Reference forbids there ("Follow-set
 ///    Ambiguity Restrictions"), as rustc 1.95 checks it.
 ///
 /// The findings of each kind are in the order of the text. If a name is bound twice, the first
@@ -209,10 +337,23 @@ pub fn findings<'a, A: Allocator + Copy>(
     let bound = variables_in(alloc, pattern)?;
     let used = uses_in(alloc, template)?;
     let followed = forbidden(alloc, pattern)?;
+    let mut separators = Vec::new(alloc);
+    push_optional_separators(&mut separators, pattern)?;
+    push_optional_separators(&mut separators, template)?;
+    let holds = holds_definition(template);
+    let misspelt = is_misspelt(holds, bound.as_slice(), used.as_slice());
     let mut found = Vec::new(alloc);
     push_duplicates(&mut found, bound.as_slice())?;
     push_unknown(&mut found, bound.as_slice())?;
-    push_unused(&mut found, used.as_slice(), bound.as_slice())?;
+    push_separated(&mut found, separators.as_slice())?;
+    push_unbound_unless(alloc, &mut found, holds, bound.as_slice(), used.as_slice())?;
+    push_unused(
+        &mut found,
+        misspelt,
+        template,
+        used.as_slice(),
+        bound.as_slice(),
+    )?;
     push_repeating(&mut found, bound.as_slice(), used.as_slice())?;
     push_forbidden(&mut found, followed.as_slice())?;
     Ok(found)

@@ -22,6 +22,8 @@ pub enum Follower<'a, A: Allocator = Global> {
     Op(&'a Op<A>),
     /// The separator of a repetition.
     Separator(&'a Separator<A>),
+    /// The closing delimiter of a group.
+    Closing,
 }
 
 /// A fragment, and something that may follow it though the language forbids that. Clauses see it by
@@ -33,6 +35,8 @@ pub struct FollowViolation<'a, A: Allocator = Global> {
     /// The span of the variable's name.
     pub place: Span,
     pub next: Follower<'a, A>,
+    /// Whether nothing else may follow the fragment.
+    pub alone: bool,
 }
 
 fn spell(puncts: &[Punct], bytes: &[u8]) -> bool
@@ -112,7 +116,50 @@ fn classify<'a, A: Allocator>(next: Follower<'a, A>) -> TokenClass<'a>
     match next {
         Follower::Op(op) => classify_op(op),
         Follower::Separator(separator) => classify_separator(separator),
+        Follower::Closing => TokenClass::Other,
     }
+}
+
+fn closes<A: Allocator>(next: Follower<'_, A>) -> bool
+    ensures { result ≡ spec.closes (follower_seen next.entry) }
+{
+    match next {
+        Follower::Closing => true,
+        Follower::Op(_) | Follower::Separator(_) => false,
+    }
+}
+
+fn is_one<A: Allocator>(after: &[Follower<'_, A>]) -> bool
+    ensures { result ≡ spec.is_one (map follower_seen after.now) }
+{
+    match after {
+        [_] => true,
+        [] | [_, _, ..] => false,
+    }
+}
+
+fn is_or(token_class: TokenClass<'_>) -> bool
+    ensures { result ≡ spec.is_or (class_seen token_class.entry) }
+{
+    match token_class {
+        TokenClass::Puncts(puncts) => spell(puncts, b"|"),
+        TokenClass::Word(_) | TokenClass::RawWord | TokenClass::Literal | TokenClass::Lifetime =>
+            false,
+        TokenClass::Opening(_) | TokenClass::Fragment(_) | TokenClass::Other => false,
+    }
+}
+
+fn is_pat(kind: Option<MetaVarKind>) -> bool
+    ensures { result ≡ spec.is_pat kind }
+{
+    matches!(kind, Some(MetaVarKind::Pat))
+}
+
+/// Whether the pattern needs `pat_param` in place of `pat`: a `|` follows the fragment.
+pub fn needs_pat_param<A: Allocator>(followed: FollowViolation<'_, A>) -> bool
+    ensures { result ≡ spec.needs_pat_param (violation_seen followed.entry) }
+{
+    is_pat(followed.kind) && is_or(classify(followed.next))
 }
 
 fn is_arrow_or_comma(puncts: &[Punct]) -> bool
@@ -402,17 +449,18 @@ fn after_round<'a, A: Allocator + Copy>(
     Ok(next)
 }
 
-// Adds each of `after` that is forbidden after the fragment.
+// Adds each of `after` that is forbidden after the fragment. `alone` says whether it is just one.
 fn push_forbidden_of<'a, A: Allocator>(
     found: &mut Vec<FollowViolation<'a, A>, A>,
     name: &'a str,
     kind: Option<MetaVarKind>,
     place: Span,
+    alone: bool,
     after: &[Follower<'a, A>],
 ) -> Result<(), AllocError>
     ensures { OnOk result (map violation_seen found.new.items
         ≡ map violation_seen found.old.items
-        ++ spec.forbidden_of name.now kind place (map follower_seen after.now)) }
+        ++ spec.forbidden_of name.now kind place alone (map follower_seen after.now)) }
 {
     for next in after {
         push_if_forbidden(
@@ -422,6 +470,7 @@ fn push_forbidden_of<'a, A: Allocator>(
                 kind,
                 place,
                 next: *next,
+                alone,
             },
         )?;
     }
@@ -435,7 +484,7 @@ fn push_if_forbidden<'a, A: Allocator>(
     ensures { OnOk result (map violation_seen found.new.items
         ≡ map violation_seen found.old.items ++ spec.if_forbidden (violation_seen one.entry)) }
 {
-    if !may_follow(one.kind, one.next) {
+    if !(closes(one.next) || may_follow(one.kind, one.next)) {
         found.push(one)?;
     }
     Ok(())
@@ -474,8 +523,12 @@ fn push_forbidden_in_op<'a, A: Allocator + Copy>(
         ++ spec.forbidden_in_op (map follower_seen after.now) (op_of op.now)) }
 {
     match op {
-        Op::Var { name, kind, id } => push_forbidden_of(found, name.as_str(), *kind, *id, after),
-        Op::Subtree { tokens, .. } => push_forbidden(alloc, found, &tokens.0, &[]),
+        Op::Var { name, kind, id } => {
+            push_forbidden_of(found, name.as_str(), *kind, *id, is_one(after), after)
+        }
+        Op::Subtree { tokens, .. } => {
+            push_forbidden(alloc, found, &tokens.0, &[Follower::Closing])
+        }
         Op::Repeat {
             tokens,
             separator,

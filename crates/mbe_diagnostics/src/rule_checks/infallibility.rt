@@ -28,7 +28,8 @@ fn is_single(depth: usize, bound: Option<PatternVariable<'_>>) -> bool
     }
 }
 
-fn still_repeats(depth: usize, bound: Option<PatternVariable<'_>>) -> bool
+// Whether the variable still repeats in that many repetitions.
+pub(crate) fn still_repeats(depth: usize, bound: Option<PatternVariable<'_>>) -> bool
     ensures { result ≡ spec.still_repeats depth (option_map variable_seen bound.entry) }
 {
     match bound {

@@ -166,6 +166,18 @@ pub fn variables_in<'a, A: Allocator + Copy>(
     Ok(bound)
 }
 
+// Returns the uses of names in these ops, at any depth. `AllocError` if out of memory.
+pub(crate) fn uses_in_ops<'a, A: Allocator + Copy>(
+    alloc: A,
+    ops: &'a [Op<A>],
+) -> Result<Vec<VariableUse<'a>, A>, AllocError>
+    ensures { IfOk result (λ used. map use_seen used.items ≡ spec.uses_in 0 (ops_of ops.now)) }
+{
+    let mut used = Vec::new(alloc);
+    push_used(&mut used, ops, 0)?;
+    Ok(used)
+}
+
 /// Returns the uses of names in a template, at any depth, in the order of the text. `AllocError` if
 /// out of memory.
 pub fn uses_in<'a, A: Allocator + Copy>(

@@ -7,7 +7,8 @@ use Rattle.std.proofs.lemmas.Slice.Eq.{bytes_eq-Decides}
 use Rattle.mbe_rewriter.specs.declared.hygiene.scan_state.TokenRole.{TokenRole}
 use Rattle.mbe_rewriter.specs.declared.hygiene.scan_state.TokenRole.TheVariants.{Other, Used, Bound, Late, Shorthand}
 use Rattle.mbe_rewriter.specs.declared.hygiene.scan_state.TokenRole.TheVariants.{Unsure, Label, Jump, Text, Inner}
-use Rattle.mbe_rewriter.specs.declared.hygiene.scan_state.TokenRole.TheVariants.{InnerLabel, Begin, End}
+use Rattle.mbe_rewriter.specs.declared.hygiene.scan_state.TokenRole.TheVariants.{InnerLabel, Begin, End, Enter, Body}
+use Rattle.mbe_rewriter.specs.declared.hygiene.scan_state.TokenRole.TheVariants.{Leave, Next}
 use Rattle.mbe_rewriter.specs.Hygiene.LocalNames.{Word, context, is_local, is_label, is_nested_role, is_same_namespace}
 use Rattle.mbe_rewriter.specs.Hygiene.LocalNames.{is_same, Naming, name_in, or_own, new_name}
 
@@ -95,6 +96,10 @@ no_label Inner e = refl
 no_label InnerLabel e = refl
 no_label Begin e = refl
 no_label End e = refl
+no_label Enter e = refl
+no_label Body e = refl
+no_label Leave e = refl
+no_label Next e = refl
 
 classes : (r q : TokenRole) → is_same_namespace r q ≡ true → (is_local r ≡ is_local q) × (is_label r ≡ is_label q)
 classes r q e = sorts (is_local r) (is_label r) (is_local q) (is_label q) e (no_label r) (no_label q)
@@ -124,6 +129,10 @@ not_aside Label q e = refl
 not_aside Jump q e = refl
 not_aside Begin q e = refl
 not_aside End q e = refl
+not_aside Enter q e = refl
+not_aside Body q e = refl
+not_aside Leave q e = refl
+not_aside Next q e = refl
 not_aside Text q e = refl
 not_aside Inner q e = absurd (both true true refl (sym e))
 not_aside InnerLabel q e = absurd (both true true refl (sym e))

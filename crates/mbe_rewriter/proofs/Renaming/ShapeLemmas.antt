@@ -8,6 +8,7 @@ use Rattle.mbe_rewriter.specs.Hygiene.Laws.{leaf_without_word, without_words, Ke
 use Rattle.mbe_rewriter.specs.Hygiene.Laws.{event_texts, new_texts, RenamesEach}
 use Rattle.mbe_rewriter.specs.Hygiene.LocalNames.{Naming}
 use Rattle.mbe_rewriter.specs.Hygiene.Renamer.{renamed_leaf, renamed, namings_in}
+use Rattle.mbe_rewriter.specs.Hygiene.Roles.{close_role}
 use Rattle.mbe_rewriter.specs.Hygiene.ScanState.{start, after_leaf, after_group, inside_group}
 use Rattle.mbe_rewriter.specs.Hygiene.TreeEvents.{TreeEvent, token, closing, leaf_role, events}
 
@@ -57,7 +58,7 @@ each_named given (group d inside rest) s =
     ∙ ap (λ k. new_texts given (events (inside_group s d.kind inside) inside) ++ k)
     (each_named given rest (after_group s d.kind rest))
     ∙ sym (new_texts-append given (events (inside_group s d.kind inside) inside)
-    (closing d.close ∷ events (after_group s d.kind rest) rest))
+    (closing d.close (close_role s d.kind) ∷ events (after_group s d.kind rest) rest))
 
 pub renames_each : RenamesEach
 renames_each names ns f = each_named (namings_in names ns f) f start

@@ -7,18 +7,19 @@ use Rattle.mbe_tt.specs.Trees.Tree.{Forest, none, leaf, group, Leaf_tree, Group_
 use Rattle.mbe_tt.specs.declared.span.Span.{Span}
 use Rattle.mbe_tt.specs.declared.tt.Delimiter.{Delimiter}
 use Rattle.mbe_rewriter.specs.declared.hygiene.scan_state.ScanState.{ScanState}
-use Rattle.mbe_rewriter.specs.Hygiene.Roles.{group_role}
+use Rattle.mbe_rewriter.specs.declared.hygiene.scan_state.TokenRole.{TokenRole}
+use Rattle.mbe_rewriter.specs.Hygiene.Roles.{group_role, close_role}
 use Rattle.mbe_rewriter.specs.Hygiene.ScanState.{after_leaf, after_group, inside_group}
 use Rattle.mbe_rewriter.specs.Hygiene.TreeEvents.{TreeEvent, token, opening, closing, leaf_role, events}
 
--- a group around: where it closes, the site after it, and the trees after it
+-- a group around: where it closes with that role, the site after it, and the trees after it
 abbrev pub OpenGroup : Type 0
-OpenGroup = Span × ScanState × Forest
+OpenGroup = (Span × TokenRole) × ScanState × Forest
 
 -- the steps after the content of each group around, from the innermost
 unfoldable pub steps_around : List OpenGroup → List TreeEvent
 steps_around [] = []
-steps_around (g ∷ open_groups) = closing g.0 ∷ (events g.1 g.2 ++ steps_around open_groups)
+steps_around (g ∷ open_groups) = closing g.0.0 g.0.1 ∷ (events g.1 g.2 ++ steps_around open_groups)
 
 abbrev pub tokens_around : List OpenGroup → ℕ
 tokens_around [] = 0
@@ -35,7 +36,7 @@ leaf_step (group d inside rest) l s h = absurd (cc)
 
 group_step : (f inside : Forest) (d : Delimiter) (s : ScanState) → Some (Group_tree d inside) ≡ first f
     → events s f ≡ opening d.kind d.opening (group_role s d.kind) ∷ (events (inside_group s d.kind inside) inside
-    ++ closing d.close ∷ events (after_group s d.kind (rest_of f)) (rest_of f))
+    ++ closing d.close (close_role s d.kind) ∷ events (after_group s d.kind (rest_of f)) (rest_of f))
 unfolding events
 group_step none inside d s h = absurd (cc)
 group_step (leaf m rest) inside d s h = absurd (cc)
@@ -44,9 +45,9 @@ group_step (group e content rest) inside d s h =
     let same_content : content ≡ inside = cc in
     ap (λ (x : Delimiter). opening x.kind x.opening (group_role s x.kind)
     ∷ (events (inside_group s x.kind content) content
-    ++ closing x.close ∷ events (after_group s x.kind rest) rest)) same_delimiter
+    ++ closing x.close (close_role s x.kind) ∷ events (after_group s x.kind rest) rest)) same_delimiter
     ∙ ap (λ (x : Forest). opening d.kind d.opening (group_role s d.kind) ∷ (events (inside_group s d.kind x) x
-    ++ closing d.close ∷ events (after_group s d.kind rest) rest)) same_content
+    ++ closing d.close (close_role s d.kind) ∷ events (after_group s d.kind rest) rest)) same_content
 
 end_step : (f : Forest) (s : ScanState) → None ≡ first f → events s f ≡ []
 unfolding events
@@ -55,7 +56,7 @@ end_step (leaf m rest) s h = absurd (cc)
 end_step (group e content rest) s h = absurd (cc)
 
 around_cons : (g : OpenGroup) (open_groups : List OpenGroup)
-    → steps_around (g ∷ open_groups) ≡ closing g.0 ∷ (events g.1 g.2 ++ steps_around open_groups)
+    → steps_around (g ∷ open_groups) ≡ closing g.0.0 g.0.1 ∷ (events g.1 g.2 ++ steps_around open_groups)
 unfolding steps_around
 around_cons g open_groups = refl
 
@@ -107,38 +108,41 @@ pub group_on : (found more all : List TreeEvent) (s here next : ScanState) (f af
     (items deeper : List OpenGroup)
     (d : Delimiter) → after ≡ rest_of f → Some (Group_tree d inside) ≡ first f
     → more ≡ found ++ (opening d.kind d.opening (group_role s d.kind) ∷ []) → here ≡ after_group s d.kind after
-    → deeper ≡ items ++ ((d.close, here, after) ∷ [])
+    → deeper ≡ items ++ (((d.close, close_role s d.kind), here, after) ∷ [])
     → next ≡ inside_group s d.kind inside → Left found s f items all → Left more next inside deeper all
 group_on found more all s here next f after inside items deeper d r h m a i n w =
     let open_groups = steps_around (reverse items) in
     let begin = opening d.kind d.opening (group_role s d.kind) in
     let content = events (inside_group s d.kind inside) inside in
-    let deep : steps_around (reverse deeper) ≡ closing d.close ∷ (events here after ++ open_groups) =
-    ap (λ k. steps_around (reverse k)) i ∙ ap steps_around (reverse-append items ((d.close, here, after) ∷ []))
-    ∙ around_cons (d.close, here, after) (reverse items) in
+    let end = closing d.close (close_role s d.kind) in
+    let deep : steps_around (reverse deeper) ≡ end ∷ (events here after ++ open_groups) =
+    ap (λ k. steps_around (reverse k)) i
+    ∙ ap steps_around (reverse-append items (((d.close, close_role s d.kind), here, after) ∷ []))
+    ∙ around_cons ((d.close, close_role s d.kind), here, after) (reverse items) in
     let rest : events here after ≡ events (after_group s d.kind (rest_of f)) (rest_of f) =
     ap (λ t. events t after) a ∙ ap (λ (x : Forest). events (after_group s d.kind x) x) r in
     record {
       same = ap (λ t. more ++ (events t inside ++ steps_around (reverse deeper))) n
           ∙ one_more found more begin (content ++ steps_around (reverse deeper)) m
           ∙ ap (λ k. found ++ (begin ∷ (content ++ k))) deep
-          ∙ ap (λ k. found ++ (begin ∷ (content ++ (closing d.close ∷ (k ++ open_groups))))) rest
+          ∙ ap (λ k. found ++ (begin ∷ (content ++ (end ∷ (k ++ open_groups))))) rest
           ∙ ap (λ k. found ++ (begin ∷ k)) (sym (append_assoc content
-          (closing d.close ∷ events (after_group s d.kind (rest_of f)) (rest_of f)) open_groups))
+          (end ∷ events (after_group s d.kind (rest_of f)) (rest_of f)) open_groups))
           ∙ ap (λ k. found ++ (k ++ open_groups)) (sym (group_step f inside d s h)) ∙ w.same;
     }
 
 pub pop_on : (found more all : List TreeEvent) (s here : ScanState) (f rest : Forest) (items fewer : List OpenGroup)
-    (close : Span)
-    → None ≡ first f → more ≡ found ++ (closing close ∷ []) → items ≡ fewer ++ ((close, here, rest) ∷ [])
+    (close : Span) (role : TokenRole)
+    → None ≡ first f → more ≡ found ++ (closing close role ∷ []) → items ≡ fewer ++ (((close, role), here, rest) ∷ [])
     → Left found s f items all → Left more here rest fewer all
-pop_on found more all s here f rest items fewer close h m i w =
+pop_on found more all s here f rest items fewer close role h m i w =
     let open_groups = steps_around (reverse fewer) in
-    let deep : steps_around (reverse items) ≡ closing close ∷ (events here rest ++ open_groups) =
-    ap (λ k. steps_around (reverse k)) i ∙ ap steps_around (reverse-append fewer ((close, here, rest) ∷ []))
-    ∙ around_cons (close, here, rest) (reverse fewer) in
+    let deep : steps_around (reverse items) ≡ closing close role ∷ (events here rest ++ open_groups) =
+    ap (λ k. steps_around (reverse k)) i ∙ ap steps_around (reverse-append fewer (((close, role), here, rest) ∷ []))
+    ∙ around_cons ((close, role), here, rest) (reverse fewer) in
     record {
-      same = one_more found more (closing close) (events here rest ++ open_groups) m ∙ ap (λ k. found ++ k) (sym deep)
+      same = one_more found more (closing close role) (events here rest ++ open_groups) m
+          ∙ ap (λ k. found ++ k) (sym deep)
           ∙ ap (λ k. found ++ (k ++ steps_around (reverse items))) (sym (end_step f s h)) ∙ w.same;
     }
 

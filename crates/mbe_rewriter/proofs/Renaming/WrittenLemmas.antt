@@ -11,6 +11,7 @@ use Rattle.mbe_tt.specs.declared.tt.Delimiter.{Delimiter}
 use Rattle.mbe_rewriter.specs.declared.hygiene.scan_state.ScanState.{ScanState}
 use Rattle.mbe_rewriter.specs.Hygiene.LocalNames.{Naming}
 use Rattle.mbe_rewriter.specs.Hygiene.Renamer.{renamed_leaf, renamed, closed_inside, written}
+use Rattle.mbe_rewriter.specs.Hygiene.Roles.{close_role}
 use Rattle.mbe_rewriter.specs.Hygiene.ScanState.{start, after_leaf, after_group, inside_group}
 use Rattle.mbe_rewriter.specs.Hygiene.TreeEvents.{TreeEvent, closing, leaf_role, events}
 
@@ -42,9 +43,10 @@ steps_written given (group d inside rest) s b more h =
     let x : Delimiter × Forest = (record { opening = d.opening; close = d.opening; kind = d.kind }, none) in
     let content = renamed given si inside in
     let others = events sa rest in
+    let end = closing d.close (close_role s d.kind) in
     let deep : 0 < length (x ∷ b) = omega (arith, h) in
-    ap (λ k. written given k (x ∷ b)) (append_assoc (events si inside) (closing d.close ∷ others) more)
-    ∙ steps_written given inside si (x ∷ b) (closing d.close ∷ (others ++ more)) deep
+    ap (λ k. written given k (x ∷ b)) (append_assoc (events si inside) (end ∷ others) more)
+    ∙ steps_written given inside si (x ∷ b) (end ∷ (others ++ more)) deep
     ∙ ap (written given (others ++ more)) (closes d content b h)
     ∙ steps_written given rest sa (put (group d content none) b) more (put_some (group d content none) b h)
     ∙ ap (written given more) (put_one (Group_tree d content) (renamed given sa rest) b)

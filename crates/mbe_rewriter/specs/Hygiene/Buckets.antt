@@ -13,7 +13,8 @@ use Rattle.mbe_rewriter.specs.Hygiene.EventViews.{word_of}
 abbrev pub bucket_of : ℕ → ℕ
 bucket_of c = c % 64
 
--- A word of one of the bucket's contexts, or a point where a value begins or ends.
+-- A word of one of the bucket's contexts, or a point where a value, an arm or a group begins or
+-- ends.
 abbrev pub is_in_bucket : ℕ → Word → Bool
 is_in_bucket n w = bucket_of (context w) == n || is_edge w.role
 

@@ -28,7 +28,7 @@ with_number found n = if contains_number found n then found else found ++ (n ∷
 abbrev pub with_context : List ℕ → TreeEvent → List ℕ
 with_context found (token l r) = with_number found (leaf_context l)
 with_context found (opening k span r) = found
-with_context found (closing span) = found
+with_context found (closing span r) = found
 
 abbrev pub contexts_from : List ℕ → List TreeEvent → List ℕ
 contexts_from found [] = found
@@ -77,7 +77,7 @@ leaf_words (punct p) r = []
 abbrev pub event_words : TreeEvent → List (List ℕ)
 event_words (token l r) = leaf_words l r
 event_words (opening k span r) = []
-event_words (closing span) = []
+event_words (closing span r) = []
 
 abbrev pub words_of : List TreeEvent → List (List ℕ)
 words_of [] = []

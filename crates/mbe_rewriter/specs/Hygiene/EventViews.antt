@@ -10,7 +10,7 @@ use Rattle.mbe_rewriter.specs.Hygiene.TreeEvents.{TreeEvent, token, opening, clo
 abbrev pub event_of : {A : Type 0} → code.TreeEvent A → TreeEvent
 event_of (code.TheVariants.Leaf l r) = token (leaf_of l.now) r
 event_of (code.TheVariants.Open k span r) = opening k span r
-event_of (code.TheVariants.Close span) = closing span
+event_of (code.TheVariants.Close span r) = closing span r
 
 abbrev pub word_of : code_word.Word → Word
 word_of w = word w.text.now w.span w.role

@@ -48,7 +48,7 @@ event_texts given (token (ident i) r) = new_name_of given i.sym i.span r ∷ []
 event_texts given (token (literal l) r) = []
 event_texts given (token (punct p) r) = []
 event_texts given (opening k span r) = []
-event_texts given (closing span) = []
+event_texts given (closing span r) = []
 
 -- The new names of the words of steps, in order.
 abbrev pub new_texts : List Naming → List TreeEvent → List (List ℕ)

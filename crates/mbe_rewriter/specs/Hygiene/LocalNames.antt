@@ -15,13 +15,14 @@ use Rattle.mbe_rewriter.specs.declared.hygiene.scan_state.TokenRole.TheVariants.
 use Rattle.mbe_rewriter.specs.declared.hygiene.scan_state.TokenRole.TheVariants.{Unsure, Label}
 use Rattle.mbe_rewriter.specs.declared.hygiene.scan_state.TokenRole.TheVariants.{Jump, Text, Inner}
 use Rattle.mbe_rewriter.specs.declared.hygiene.scan_state.TokenRole.TheVariants.{InnerLabel, Begin}
-use Rattle.mbe_rewriter.specs.declared.hygiene.scan_state.TokenRole.TheVariants.{End}
+use Rattle.mbe_rewriter.specs.declared.hygiene.scan_state.TokenRole.TheVariants.{End, Enter, Body}
+use Rattle.mbe_rewriter.specs.declared.hygiene.scan_state.TokenRole.TheVariants.{Leave, Next}
 use Rattle.mbe_rewriter.specs.Hygiene.FormatNames.{format_names}
 use Rattle.mbe_rewriter.specs.Hygiene.Roles.{inner_role}
 use Rattle.mbe_rewriter.specs.Hygiene.TreeEvents.{TreeEvent, token, opening, closing}
 
--- A word of the trees, or another token that matters to locals: a name that a string mentions, or
--- the end of a value.
+-- A word of the trees, or another token that matters to locals: a name that a string mentions, the
+-- end of a value or of an arm, or the beginning or the end of a group.
 pub record Word : Type 0 where
   pub text : List ℕ
   pub span : Span
@@ -114,13 +115,18 @@ with_inner ns w = w ∷ (words_of_rules w ++ inner_words ns w)
 
 -- ---- words
 
-abbrev pub is_end : TokenRole → Bool
-is_end End = true
-is_end _ = false
+-- A value or an arm ends, or a group begins or ends.
+abbrev pub is_boundary : TokenRole → Bool
+is_boundary End = true
+is_boundary Enter = true
+is_boundary Body = true
+is_boundary Leave = true
+is_boundary Next = true
+is_boundary _ = false
 
--- The end of a value.
-abbrev pub end_words : Span → TokenRole → List Word
-end_words span r = if is_end r then word [] span r ∷ [] else []
+-- A token that is no word, if it matters to locals.
+abbrev pub boundary_words : Span → TokenRole → List Word
+boundary_words span r = if is_boundary r then word [] span r ∷ [] else []
 
 -- A string's names, each with the string's span.
 abbrev pub text_words : ContextParents → Span → List (List ℕ) → List Word
@@ -131,12 +137,12 @@ abbrev pub leaf_words : ContextParents → Leaf → TokenRole → List Word
 leaf_words ns (ident i) r = with_inner ns (word i.sym i.span r)
 leaf_words ns (literal l) r =
     if is_string_role r then text_words ns l.span (format_names l.text_and_suffix) else []
-leaf_words ns (punct p) r = end_words p.span r
+leaf_words ns (punct p) r = boundary_words p.span r
 
 abbrev pub event_words : ContextParents → TreeEvent → List Word
 event_words ns (token l r) = leaf_words ns l r
-event_words ns (opening k span r) = end_words span r
-event_words ns (closing span) = []
+event_words ns (opening k span r) = boundary_words span r
+event_words ns (closing span r) = boundary_words span r
 
 -- The words of steps, and the names that their strings mention.
 abbrev pub words : ContextParents → List TreeEvent → List Word
@@ -197,8 +203,13 @@ is_shared ws names w = has_other ws w || contains_name names w.text
 -- ---- what can't be decided
 
 abbrev pub is_bound : BindingState → Bool
-is_bound progress.Bound = true
+is_bound (progress.Bound d) = true
 is_bound _ = false
+
+-- The local's pattern has begun, and its scope hasn't ended.
+abbrev pub is_in_scope : BindingState → Bool
+is_in_scope progress.Unbound = false
+is_in_scope _ = true
 
 -- The word may be a field too, or is one. Or it is a use before the name is bound, which means
 -- something else.
@@ -223,30 +234,53 @@ may_be_local w v = is_inner v.role w.role && (context w == context v && bytes_eq
 abbrev pub is_undecided_use : Word → BindingState → Word → Bool
 is_undecided_use w p v = is_same w v && is_undecided_role p v.role || may_be_local w v
 
--- One more `let` or `for` in the value.
-abbrev pub deeper : ℕ → BindingState
-deeper n = if n == 4294967295 then progress.Later n else progress.Later (n + 1)
+-- One more. The greatest number stands for all greater ones.
+abbrev pub one_more : ℕ → ℕ
+one_more n = if n == 4294967295 then n else n + 1
 
-abbrev pub ended : ℕ → BindingState
-ended n = if n == 0 then progress.Bound else progress.Later (n - 1)
+-- The state after the end of a value. The second number counts the groups around the next token.
+abbrev pub ended : ℕ → ℕ → BindingState
+ended n d = if n == 0 then progress.Bound 0 else progress.Later (n - 1) d
 
-abbrev pub or_bound : ℕ → Bool → BindingState
-or_bound n same = if same then progress.Bound else progress.Later n
+abbrev pub later_after_closing : ℕ → ℕ → BindingState
+later_after_closing n d = if d == 0 then progress.Unbound else progress.Later n (d - 1)
+
+-- A local that an inner pattern binds counts as bound up to the end of the value's group.
+abbrev pub later_after_binding : ℕ → ℕ → Bool → BindingState
+later_after_binding n d same = if same then progress.Bound d else progress.Later n d
 
 -- The state after a word of that role, in the value that belongs to the local's pattern.
-abbrev pub later : ℕ → Bool → TokenRole → BindingState
-later n same Begin = deeper n
-later n same End = ended n
-later n same Bound = or_bound n same
-later n same Shorthand = or_bound n same
-later n same Label = or_bound n same
-later n same _ = progress.Later n
+abbrev pub later : ℕ → ℕ → Bool → TokenRole → BindingState
+later n d same Begin = progress.Later (one_more n) d
+later n d same End = ended n d
+later n d same Enter = progress.Later n (one_more d)
+later n d same Body = ended n (one_more d)
+later n d same Leave = later_after_closing n d
+later n d same Bound = later_after_binding n d same
+later n d same Shorthand = later_after_binding n d same
+later n d same Label = later_after_binding n d same
+later n d same _ = progress.Later n d
+
+abbrev pub bound_after_closing : ℕ → BindingState
+bound_after_closing d = if d == 0 then progress.Unbound else progress.Bound (d - 1)
+
+-- A local may be that arm's, if it is bound in no group of the arm and not before the `match`.
+abbrev pub bound_after_arm : ℕ → BindingState
+bound_after_arm d = if d == 0 then progress.Unbound else progress.Bound d
+
+-- The state of a bound local after a word of that role.
+abbrev pub bound : ℕ → TokenRole → BindingState
+bound d Enter = progress.Bound (one_more d)
+bound d Body = progress.Bound (one_more d)
+bound d Leave = bound_after_closing d
+bound d Next = bound_after_arm d
+bound d _ = progress.Bound d
 
 abbrev pub bound_by : TokenRole → BindingState
-bound_by Bound = progress.Bound
-bound_by Shorthand = progress.Bound
-bound_by Label = progress.Bound
-bound_by Late = progress.Later 0
+bound_by Bound = progress.Bound 0
+bound_by Shorthand = progress.Bound 0
+bound_by Label = progress.Bound 0
+bound_by Late = progress.Later 0 0
 bound_by _ = progress.Unbound
 
 abbrev pub unbound : Bool → TokenRole → BindingState
@@ -255,17 +289,16 @@ unbound same r = if not same then progress.Unbound else bound_by r
 -- Whether the local is bound after that word.
 abbrev pub after_word : Word → BindingState → Word → BindingState
 after_word w progress.Unbound v = unbound (is_same w v) v.role
-after_word w (progress.Later n) v = later n (is_same w v) v.role
-after_word w progress.Bound v = progress.Bound
+after_word w (progress.Later n d) v = later n d (is_same w v) v.role
+after_word w (progress.Bound d) v = bound d v.role
 
--- A value begins or ends.
+-- A value, an arm or a group begins or ends.
 abbrev pub is_edge : TokenRole → Bool
 is_edge Begin = true
-is_edge End = true
-is_edge _ = false
+is_edge r = is_boundary r
 
--- The word has the local's context, or a value begins or ends there. No other word changes
--- anything.
+-- The word has the local's context, or a value, an arm or a group begins or ends there. No other
+-- word changes anything.
 abbrev pub is_relevant : Word → Word → Bool
 is_relevant w v = context w == context v || is_edge v.role
 
@@ -283,15 +316,27 @@ abbrev pub has_undecided_use : Word → BindingState → List Word → Bool
 has_undecided_use w p [] = false
 has_undecided_use w p (v ∷ vs) = is_undecided_use w p v || has_undecided_use w (after_word w p v) vs
 
+-- A token of another context has the local's name in the local's scope, or a name around the trees
+-- is in that scope. Only such a token meets a local that keeps its name.
+abbrev pub is_met : List (List ℕ) → Word → BindingState → List Word → Bool
+is_met names w p [] = is_in_scope p && contains_name names w.text
+is_met names w p (v ∷ vs) = is_in_scope p && is_other v w || is_met names w (after_word w p v) vs
+
+-- The local keeps its name where it meets another of that name.
+abbrev pub is_in_doubt : List Word → List (List ℕ) → Word → Bool
+is_in_doubt ws names w =
+    is_shared ws names w
+    && (has_undecided_use w progress.Unbound ws && is_met names w progress.Unbound ws)
+
 abbrev pub undecided_uses_of : List Word → List (List ℕ) → Word → List UndecidedUse
 undecided_uses_of ws names w =
-    if is_shared ws names w then undecided_uses w progress.Unbound ws else []
+    if is_in_doubt ws names w then undecided_uses w progress.Unbound ws else []
 
 abbrev pub undecided_of : List Word → List (List ℕ) → List Word → List UndecidedUse
 undecided_of ws names [] = []
 undecided_of ws names (w ∷ more) = undecided_uses_of ws names w ++ undecided_of ws names more
 
--- The uses that keep locals from being renamed.
+-- The uses that keep locals from being renamed, where such a local meets another of its name.
 abbrev pub undecided : List Word → List (List ℕ) → List UndecidedUse
 undecided ws names = undecided_of ws names (locals ws)
 

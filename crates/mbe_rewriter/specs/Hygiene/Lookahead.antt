@@ -111,6 +111,14 @@ is_lowercase_name (c ∷ cs) = is_low_byte c
 
 -- ---- labels
 
+abbrev pub is_in : Option WordClass → Bool
+is_in (Some sort.In) = true
+is_in _ = false
+
+-- An `in` follows.
+abbrev pub in_follows : Forest → Bool
+in_follows f = is_in (front_word_class f)
+
 abbrev pub begins_loop : Option WordClass → Bool
 begins_loop (Some sort.Loop) = true
 begins_loop (Some sort.For) = true

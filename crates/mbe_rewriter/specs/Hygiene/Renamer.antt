@@ -60,7 +60,7 @@ abbrev pub event_written : List Naming → TreeEvent → GroupStack → GroupSta
 event_written given (token l r) b = put (one_leaf (renamed_leaf given l r)) b
 event_written given (opening k span r) b =
     (record { opening = span; close = span; kind = k }, none) ∷ b
-event_written given (closing span) b = closed_inside span b
+event_written given (closing span r) b = closed_inside span b
 
 abbrev pub written : List Naming → List TreeEvent → GroupStack → GroupStack
 written given [] b = b

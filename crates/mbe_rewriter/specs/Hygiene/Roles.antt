@@ -21,12 +21,13 @@ use Rattle.mbe_rewriter.specs.declared.hygiene.scan_state.TokenRole.TheVariants.
 use Rattle.mbe_rewriter.specs.declared.hygiene.scan_state.TokenRole.TheVariants.{Unsure, Label}
 use Rattle.mbe_rewriter.specs.declared.hygiene.scan_state.TokenRole.TheVariants.{Jump, Text, Inner}
 use Rattle.mbe_rewriter.specs.declared.hygiene.scan_state.TokenRole.TheVariants.{InnerLabel, Begin}
-use Rattle.mbe_rewriter.specs.declared.hygiene.scan_state.TokenRole.TheVariants.{End}
+use Rattle.mbe_rewriter.specs.declared.hygiene.scan_state.TokenRole.TheVariants.{End, Enter, Body}
+use Rattle.mbe_rewriter.specs.declared.hygiene.scan_state.TokenRole.TheVariants.{Leave, Next}
 use Rattle.mbe_rewriter.specs.Hygiene.TokenClasses.{word_class_of}
 use Rattle.mbe_rewriter.specs.Hygiene.Lookahead.{path_follows, bang_follows, colon_follows}
 use Rattle.mbe_rewriter.specs.Hygiene.Lookahead.{equals_follows, comma_or_end_follows, binds_before}
-use Rattle.mbe_rewriter.specs.Hygiene.Lookahead.{is_lowercase_name, is_label, has_in}
-use Rattle.mbe_rewriter.specs.Hygiene.ScanState.{is_dots, begins_field, is_open, is_body}
+use Rattle.mbe_rewriter.specs.Hygiene.Lookahead.{is_lowercase_name, is_label, has_in, begins_arm}
+use Rattle.mbe_rewriter.specs.Hygiene.ScanState.{is_dots, begins_field, is_open, is_body, is_scope}
 
 -- Bound after a value, or at once.
 abbrev pub binding_role : Bool → TokenRole
@@ -109,14 +110,35 @@ begin_role is_one = if is_one then Begin else Other
 abbrev pub end_role : Bool → TokenRole
 end_role is_one = if is_one then End else Other
 
--- A `;` may end the value of a `let`.
-abbrev pub punct_role : ScanState → Sign → TokenRole
-punct_role s sign.Semicolon = end_role s.in_let
-punct_role s _ = Other
+-- The scan is in the expression of an arm.
+abbrev pub is_arm_body : StatementPart → Region → Bool
+is_arm_body part.Whole region.Body = true
+is_arm_body _ _ = false
+
+abbrev pub comma_role : ScanState → Forest → TokenRole
+comma_role s rest = if is_arm_body s.part s.region && begins_arm rest then Next else Other
+
+-- A `;` may end the value of a `let`, and a `,` an arm.
+abbrev pub punct_role : ScanState → Sign → Forest → TokenRole
+punct_role s sign.Semicolon rest = end_role s.in_let
+punct_role s sign.Comma rest = comma_role s rest
+punct_role s _ rest = Other
+
+abbrev pub enter_role : Bool → TokenRole
+enter_role is_one = if is_one then Enter else Other
+
+abbrev pub body_role : Bool → TokenRole
+body_role is_one = if is_one then Body else End
 
 -- Braces may end the value of an `if let`, a `while let` or a `for`.
 abbrev pub group_role : ScanState → DelimiterKind → TokenRole
-group_role s k = end_role (s.in_head_let && (s.is_head && is_body s k))
+group_role s k =
+    if s.in_head_let && (s.is_head && is_body s k) then body_role (is_scope s k)
+    else enter_role (is_scope s k)
+
+-- The role of the closing of a group, by the state before the group.
+abbrev pub close_role : ScanState → DelimiterKind → TokenRole
+close_role s k = if is_scope s k then Leave else Other
 
 abbrev pub role_by : ScanState → WordClass → Ident → Forest → TokenRole
 role_by s sort.Name i rest = name_role s i rest

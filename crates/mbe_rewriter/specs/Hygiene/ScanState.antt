@@ -16,8 +16,9 @@ use Rattle.mbe_rewriter.specs.declared.hygiene.scan_state.Region.TheVariants as 
 use Rattle.mbe_rewriter.specs.declared.hygiene.scan_state.StatementPart.{StatementPart}
 use Rattle.mbe_rewriter.specs.declared.hygiene.scan_state.StatementPart.TheVariants as part
 use Rattle.mbe_rewriter.specs.declared.hygiene.scan_state.ScanState.{ScanState}
-use Rattle.mbe_rewriter.specs.Hygiene.TokenClasses.{sign_of, word_class_of}
+use Rattle.mbe_rewriter.specs.Hygiene.TokenClasses.{sign_of, word_class_of, is_one_of, text_macros}
 use Rattle.mbe_rewriter.specs.Hygiene.Lookahead.{front_sign, is_colon, is_equals, has_in}
+use Rattle.mbe_rewriter.specs.Hygiene.Lookahead.{bang_follows}
 use Rattle.mbe_rewriter.specs.Hygiene.Lookahead.{begins_arm, begins_fields}
 
 -- Trees begin: items, statements or an expression.
@@ -57,6 +58,37 @@ is_open_by _ r = false
 -- The scan is among statements and expressions.
 abbrev pub is_open : ScanState → Bool
 is_open s = is_open_by s.part s.region
+
+abbrev pub is_pattern_region : Region → Bool
+is_pattern_region region.Arm = true
+is_pattern_region region.Pattern = true
+is_pattern_region region.FieldPatterns = true
+is_pattern_region region.FieldPattern = true
+is_pattern_region _ = false
+
+-- The scan is in a pattern.
+abbrev pub is_pattern : ScanState → StatementPart → Bool
+is_pattern s part.LetPattern = true
+is_pattern s part.ForPattern = true
+is_pattern s part.Parameters = true
+is_pattern s part.LetType = false
+is_pattern s part.ParameterType = false
+is_pattern s part.Whole = is_pattern_region s.region
+
+-- A group is the argument of a macro. What it binds may be bound after it too.
+abbrev pub is_argument : PreviousToken → Bool
+is_argument before.Bang = true
+is_argument before.TextBang = true
+is_argument before.Named = true
+is_argument _ = false
+
+abbrev pub is_invisible : DelimiterKind → Bool
+is_invisible kind.Invisible = true
+is_invisible _ = false
+
+-- What a group binds is bound up to its closing. A group in a pattern is no such group.
+abbrev pub is_scope : ScanState → DelimiterKind → Bool
+is_scope s k = not (is_pattern s s.part) && (not (is_argument s.before) && not (is_invisible k))
 
 abbrev pub is_arm : StatementPart → Region → Bool
 is_arm part.Whole region.Arm = true
@@ -102,15 +134,31 @@ after_word_class s sort.Keyword rest = after_keyword s before.Word s.is_head
 after_word_class s sort.Value rest = after_keyword s before.Name s.is_head
 after_word_class s sort.Name rest = after_keyword s before.Name s.is_head
 
+-- The name of a macro that takes its argument as text, before its `!`.
+abbrev pub is_text_call : Ident → Forest → Bool
+is_text_call i rest = is_one_of text_macros i.sym && bang_follows rest
+
+-- A word after a `::`.
+abbrev pub after_segment : ScanState → Ident → Forest → ScanState
+after_segment s i rest =
+    if is_text_call i rest then after_keyword s before.TextMacro s.is_head
+    else after_keyword s before.Name s.is_head
+
+-- A word that may be a keyword.
+abbrev pub after_front_word : ScanState → Ident → Forest → ScanState
+after_front_word s i rest =
+    if is_text_call i rest then after_keyword s before.TextMacro s.is_head
+    else after_word_class s (word_class_of i) rest
+
 -- A word after a `.`, a `::`, a `$` or a `'` is no keyword.
 abbrev pub after_ident : ScanState → PreviousToken → Ident → Forest → ScanState
 after_ident s before.Dot i rest = after_keyword s before.Name s.is_head
-after_ident s before.Colons i rest = after_keyword s before.Name s.is_head
+after_ident s before.Colons i rest = after_segment s i rest
 after_ident s before.Dollar i rest = after_keyword s before.Name s.is_head
 after_ident s before.Quote i rest = after_keyword s before.Sign s.is_head
 after_ident s before.JumpQuote i rest = after_keyword s before.Sign s.is_head
 after_ident s before.Bang i rest = after_keyword s before.Named s.is_head
-after_ident s _ i rest = after_word_class s (word_class_of i) rest
+after_ident s _ i rest = after_front_word s i rest
 
 -- ---- after a punct
 
@@ -129,6 +177,7 @@ after_quote _ = before.Quote
 
 abbrev pub after_bang : PreviousToken → Option Sign → PreviousToken
 after_bang before.Hash next = before.Hash
+after_bang before.TextMacro next = before.TextBang
 after_bang before.Name next = if is_equals next then before.Sign else before.Bang
 after_bang _ next = before.Sign
 
@@ -326,6 +375,7 @@ part_group s part.Whole k inside = whole_group s s.region k inside
 
 abbrev pub group_after : ScanState → PreviousToken → DelimiterKind → Forest → Region
 group_after s before.Hash k inside = region.Opaque
+group_after s before.TextBang k inside = region.Opaque
 group_after s before.Named k inside = region.Rules
 group_after s before.Bang k inside = region.Arguments
 group_after s _ k inside = part_group s s.part k inside

@@ -56,6 +56,12 @@ keywords =
     ∷ "ref" ∷ "return"
     ∷ "unsafe" ∷ "where" ∷ "yield" ∷ []
 
+-- Built-in macros that take their argument as text, or as names of other things than locals.
+abbrev pub text_macros : List String
+text_macros =
+    "cfg" ∷ "compile_error" ∷ "concat" ∷ "concat_bytes" ∷ "env" ∷ "include" ∷ "include_bytes"
+    ∷ "include_str" ∷ "offset_of" ∷ "option_env" ∷ "stringify" ∷ []
+
 -- Words that are a value or a type, and no name.
 abbrev pub values : List String
 values =

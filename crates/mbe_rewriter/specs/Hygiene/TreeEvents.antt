@@ -12,14 +12,14 @@ use Rattle.mbe_rewriter.specs.declared.hygiene.scan_state.TokenRole.{TokenRole}
 use Rattle.mbe_rewriter.specs.declared.hygiene.scan_state.TokenRole.TheVariants.{Other, Text}
 use Rattle.mbe_rewriter.specs.declared.hygiene.scan_state.ScanState.{ScanState}
 use Rattle.mbe_rewriter.specs.Hygiene.TokenClasses.{sign_of}
-use Rattle.mbe_rewriter.specs.Hygiene.Roles.{role_of, punct_role, group_role}
+use Rattle.mbe_rewriter.specs.Hygiene.Roles.{role_of, punct_role, group_role, close_role}
 use Rattle.mbe_rewriter.specs.Hygiene.ScanState.{after_leaf, after_group, inside_group}
 
 -- A leaf with its role, an opening, or a closing.
 pub data TreeEvent : Type 0 where
   token : Leaf → TokenRole → TreeEvent
   opening : DelimiterKind → Span → TokenRole → TreeEvent
-  closing : Span → TreeEvent
+  closing : Span → TokenRole → TreeEvent
 
 abbrev pub text_role : Region → TokenRole
 text_role region.Opaque = Other
@@ -35,7 +35,7 @@ literal_role r _ = Other
 abbrev pub leaf_role : ScanState → Leaf → Forest → TokenRole
 leaf_role s (ident i) rest = role_of s i rest
 leaf_role s (literal l) rest = literal_role s.region l.kind
-leaf_role s (punct p) rest = punct_role s (sign_of p.char)
+leaf_role s (punct p) rest = punct_role s (sign_of p.char) rest
 
 -- The events of these trees, from that state on.
 unfoldable pub events : ScanState → Forest → List TreeEvent
@@ -43,4 +43,4 @@ events s none = []
 events s (leaf l rest) = token l (leaf_role s l rest) ∷ events (after_leaf s l rest) rest
 events s (group d inside rest) =
     opening d.kind d.opening (group_role s d.kind) ∷ (events (inside_group s d.kind inside) inside
-    ++ closing d.close ∷ events (after_group s d.kind rest) rest)
+    ++ closing d.close (close_role s d.kind) ∷ events (after_group s d.kind rest) rest)

@@ -1,7 +1,8 @@
 -- Variables of templates that rustc keeps whole, where their text would be parsed differently. In
 -- `$x as $t << 1`, the `<` would begin generic arguments of the type, so `($t)` is written there.
--- In `$x.pow(2)`, the `-` of `-2` would apply to the whole call, so a receiver's parentheses are
--- written there.
+-- In `$x.pow(2)`, the `-` of `-2` would apply to the whole call, and in `&$p` the `&` to a part of
+-- `1 | 2`, so an operand's parentheses are written there. In `$s - 1` the `-` would go on with the
+-- statement, so a statement's parentheses are written there.
 use Rattle.std.specs.Prelude.{ℕ, zero, suc, Bool, true, false, ◌&&◌, ◌||◌, if◌then◌else◌, codes}
 use Rattle.std.specs.Prelude.{List, Option, Some, None, is_some, option_map}
 use Rattle.mbe_tt.specs.Trees.Leaf.{Leaf, literal, punct, ident, span_of}
@@ -13,16 +14,28 @@ use Rattle.mbe_rewriter.specs.declared.whole_fragments.variable_parentheses.Vari
 use Rattle.mbe_rewriter.specs.WholeFragments.FrontTokens.{is_char, is_char_leaf, is_single_dot}
 use Rattle.mbe_rewriter.specs.WholeFragments.FrontTokens.{is_word}
 use Rattle.mbe_rewriter.specs.WholeFragments.Receivers.{around_fragment, around_receiver}
+use Rattle.mbe_rewriter.specs.WholeFragments.Receivers.{around_statement}
 use Rattle.mbe_rewriter.specs.WholeFragments.TreeSearch.{any_tree}
 
 -- ---- variables of patterns
 
+-- The specifier of an expression or a literal is at the front.
+abbrev pub is_value_specifier : Forest → Bool
+is_value_specifier f = is_word (codes "expr") f || is_word (codes "expr_2021") f
+    || is_word (codes "literal") f
+
+-- The specifier of a pattern or a type is at the front.
+abbrev pub is_operand_specifier : Forest → Bool
+is_operand_specifier f = is_word (codes "pat") f || is_word (codes "pat_param") f
+    || is_word (codes "ty") f
+
 -- A fragment specifier for that role is at the front.
 abbrev pub is_specifier : VariableRole → Forest → Bool
 is_specifier role.Dollar f = false
-is_specifier role.Type f = is_word (codes "ty") f
-is_specifier role.Receiver f = is_word (codes "expr") f || is_word (codes "expr_2021") f
-    || is_word (codes "literal") f
+is_specifier role.Type f = is_word (codes "ty") f || is_word (codes "path") f
+is_specifier role.Receiver f = is_value_specifier f || is_operand_specifier f
+is_specifier role.Operand f = is_operand_specifier f
+is_specifier role.Statement f = is_word (codes "stmt") f
 
 -- The name, a `:` and a specifier for the role are at the front.
 abbrev pub is_declared : VariableRole → List ℕ → Forest → Bool
@@ -48,20 +61,21 @@ has_role pattern r (literal l) = false
 -- ---- variables of templates
 
 -- The role that the trees after a variable ask for. The variable after a `$` may begin with a `.`.
-abbrev pub expected_role : Forest → Option VariableRole
+abbrev pub expected_role : Forest → VariableRole
 expected_role f =
-    if is_char 60 f then Some role.Type
-    else if is_char 36 f || is_single_dot f then Some role.Receiver
-    else None
+    if is_char 60 f then role.Type
+    else if is_char 36 f || is_single_dot f then role.Receiver
+    else role.Operand
 
-abbrev pub role_if : Forest → Leaf → Option VariableRole → Option VariableRole
-role_if pattern l None = None
-role_if pattern l (Some r) = if has_role pattern r l then Some r else None
+abbrev pub role_if : Forest → Leaf → VariableRole → Option VariableRole
+role_if pattern l r = if has_role pattern r l then Some r else None
 
 -- The role of the leaf after a `$`, before the last trees.
 abbrev pub role_of : Forest → Leaf → Forest → Option VariableRole
 role_of pattern l rest =
-    if is_char_leaf 36 l then Some role.Dollar else role_if pattern l (expected_role rest)
+    if is_char_leaf 36 l then Some role.Dollar
+    else if has_role pattern role.Statement l then Some role.Statement
+    else role_if pattern l (expected_role rest)
 
 -- The leaf at the front with its role after a `$`, if it has one.
 abbrev pub role_at_front : Forest → Forest → Option (VariableRole × Leaf)
@@ -86,6 +100,8 @@ abbrev pub pair : VariableRole → Leaf → Leaf → Forest
 pair role.Dollar dollar name = two dollar name
 pair role.Type dollar name = in_group (around_fragment (span_of dollar)) dollar name
 pair role.Receiver dollar name = in_group (around_receiver (span_of dollar)) dollar name
+pair role.Operand dollar name = in_group (around_receiver (span_of dollar)) dollar name
+pair role.Statement dollar name = in_group (around_statement (span_of dollar)) dollar name
 
 -- A leaf, written together with the leaf after it if that one has a role.
 abbrev pub kept : Leaf → Option (VariableRole × Leaf) → Forest

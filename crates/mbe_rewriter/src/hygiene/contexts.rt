@@ -12,6 +12,7 @@ ghost use Rattle.mbe_rewriter.specs.Hygiene.EventViews.{event_of};
 
 use crate::hygiene::format_names::format_names;
 use crate::hygiene::local_names::{ContextParents, is_string_role};
+use crate::hygiene::pattern_calls::push_pattern_doubts;
 use crate::hygiene::renamer::{Renamed, rename};
 use crate::hygiene::scan_state::TokenRole;
 use crate::hygiene::tree_events::{TreeEvent, events_of};
@@ -61,7 +62,7 @@ fn push_context<A: Allocator>(
 {
     match event {
         TreeEvent::Leaf(leaf, _) => push_number(found, leaf_context(leaf)),
-        TreeEvent::Open(..) | TreeEvent::Close(_) => Ok(()),
+        TreeEvent::Open(..) | TreeEvent::Close(..) => Ok(()),
     }
 }
 
@@ -207,7 +208,7 @@ fn push_words<A: Allocator + Copy>(
 {
     match event {
         TreeEvent::Leaf(leaf, role) => push_leaf(alloc, words, leaf, role),
-        TreeEvent::Open(..) | TreeEvent::Close(_) => Ok(()),
+        TreeEvent::Open(..) | TreeEvent::Close(..) => Ok(()),
     }
 }
 
@@ -253,7 +254,8 @@ fn reserved_names<A: Allocator + Copy>(
 
 /// Returns an expansion with its locals renamed apart from others of their names, also those in
 /// `left`, the trees after the expansion. For each context of a step, from 1 on, `contexts` has the
-/// context that the macro's token had. Contexts up to `mark` belong to earlier calls. Returns
+/// context that the macro's token had. Contexts up to `mark` belong to earlier calls. The result
+/// also lists names that `left` uses and that are the expansion's own if it is a pattern. Returns
 /// `AllocError` if memory runs out.
 pub fn apply_hygiene<A: Allocator + Copy>(
     alloc: A,
@@ -270,5 +272,12 @@ pub fn apply_hygiene<A: Allocator + Copy>(
         contexts,
         mark: numbered(mark),
     };
-    rename(alloc, tree, names.as_slice(), context_parents)
+    let apart = rename(alloc, tree, names.as_slice(), context_parents)?;
+    let mut undecided = apart.undecided;
+    let renamed = apart.tree.iter().remaining();
+    push_pattern_doubts(alloc, &mut undecided, renamed, left, context_parents.mark)?;
+    Ok(Renamed {
+        tree: apart.tree,
+        undecided,
+    })
 }

@@ -1,18 +1,17 @@
-// Decides which locals and labels are renamed, and chooses their new names.
+// Decides which locals and labels may be renamed.
 //
 // `words_of` lists the words of an expansion, and `locals` those that its steps bind. `undecided`
-// lists the uses that keep a local from being renamed, and `namings` returns the new names of the
-// others.
-ghost use Rattle.std.specs.Prelude.{◌≡◌, ◌≤◌, ◌++◌, ◌∷◌, [], IfOk, OnOk, length, map, option_map};
+// lists the uses that keep a local from being renamed. `new_names` has the names of the others.
+ghost use Rattle.std.specs.Prelude.{◌≡◌, ◌≤◌, ◌++◌, ◌∷◌, [], IfOk, OnOk, length, map};
 ghost use Rattle.mbe_tt.specs.Trees.Leaf as tree;
 ghost use Rattle.mbe_tt.specs.Views.LeafViews.{leaf_of, literal_of};
-ghost use Rattle.mbe_rewriter.specs.Hygiene.EventViews.{event_of, word_of, naming_of};
+ghost use Rattle.mbe_rewriter.specs.Hygiene.EventViews.{event_of, word_of};
 ghost use Rattle.mbe_rewriter.specs.Hygiene.EventViews.{context_parents_of};
-ghost use Rattle.mbe_rewriter.specs.Hygiene.Buckets.{AreBuckets, buckets_of, numbered_words};
+ghost use Rattle.mbe_rewriter.specs.Hygiene.Buckets.{AreBuckets, buckets_of};
 ghost use Rattle.mbe_rewriter.specs.Hygiene.LocalNames as spec;
 ghost use Rattle.mbe_rewriter.specs.declared.hygiene.local_names.BindingState.TheVariants.{Unbound};
 
-use crate::hygiene::buckets::{numbered_words, relevant_words};
+use crate::hygiene::buckets::relevant_words;
 use crate::hygiene::format_names::format_names;
 use crate::hygiene::roles::inner_role;
 use crate::hygiene::scan_state::TokenRole;
@@ -22,8 +21,8 @@ use mbe_tt::symbol::Symbol;
 use mbe_tt::tt::{Leaf, Literal};
 use std::alloc::{AllocError, Allocator};
 
-/// A word of the trees, or another token that matters to locals: a name that a string mentions, or
-/// the end of a value.
+/// A word of the trees, or another token that matters to locals: a name that a string mentions, the
+/// end of a value or of an arm, or the beginning or the end of a group.
 #[derive(Clone, Copy, Drop)]
 pub(crate) struct Word<'t> {
     pub(crate) text: &'t str,
@@ -61,10 +60,12 @@ pub struct ContextParents<'c> {
 #[derive(Clone, Copy, Drop)]
 enum BindingState {
     Unbound,
-    // It is bound when the value ends that belongs to its pattern. The number counts the `let`s and
-    // `for`s that have begun in that value and not ended.
-    Later(u32),
-    Bound,
+    // It is bound when the value ends that belongs to its pattern. The first number counts the
+    // `let`s and `for`s that have begun in that value and not ended, the second one the groups.
+    Later(u32, u32),
+    // It is bound up to the end of the group that holds its pattern. The number counts the groups
+    // that have begun in that group and not ended.
+    Bound(u32),
 }
 
 // ---- roles
@@ -81,10 +82,14 @@ fn is_nested_role(role: TokenRole) -> bool
     matches!(role, TokenRole::Inner | TokenRole::InnerLabel)
 }
 
-fn is_end(role: TokenRole) -> bool
-    ensures { result ≡ spec.is_end role }
+// Returns whether a token that is no word matters to locals.
+fn is_boundary(role: TokenRole) -> bool
+    ensures { result ≡ spec.is_boundary role }
 {
-    matches!(role, TokenRole::End)
+    matches!(
+        role,
+        TokenRole::End | TokenRole::Enter | TokenRole::Body | TokenRole::Leave | TokenRole::Next
+    )
 }
 
 fn is_local(role: TokenRole) -> bool
@@ -112,7 +117,7 @@ fn is_same_namespace(one: TokenRole, two: TokenRole) -> bool
     is_local(one) && is_local(two) || is_label(one) && is_label(two)
 }
 
-fn binds_role(role: TokenRole) -> bool
+pub(crate) fn binds_role(role: TokenRole) -> bool
     ensures { result ≡ spec.binds_role role }
 {
     matches!(
@@ -124,7 +129,14 @@ fn binds_role(role: TokenRole) -> bool
 fn is_bound(progress: BindingState) -> bool
     ensures { result ≡ spec.is_bound progress }
 {
-    matches!(progress, BindingState::Bound)
+    matches!(progress, BindingState::Bound(_))
+}
+
+// Returns whether the local's pattern has begun and its scope hasn't ended.
+fn is_in_scope(progress: BindingState) -> bool
+    ensures { result ≡ spec.is_in_scope progress }
+{
+    !matches!(progress, BindingState::Unbound)
 }
 
 fn is_undecided_role(progress: BindingState, role: TokenRole) -> bool
@@ -137,42 +149,99 @@ fn is_undecided_role(progress: BindingState, role: TokenRole) -> bool
     }
 }
 
-// Counts one more `let` or `for` in the value.
-fn deeper(lets: u32) -> BindingState
-    ensures { result ≡ spec.deeper lets }
+// Counts one more. The greatest number stands for all greater ones.
+fn one_more(number: u32) -> u32
+    ensures { result ≡ spec.one_more number }
 {
-    if lets == u32::MAX {
-        BindingState::Later(lets)
+    if number == u32::MAX {
+        number
     } else {
-        BindingState::Later(lets + 1)
+        number + 1
     }
 }
 
-fn ended(lets: u32) -> BindingState
-    ensures { result ≡ spec.ended lets }
+// Returns the state after the end of a value. `depth` counts the groups around the next token.
+fn ended(lets: u32, depth: u32) -> BindingState
+    ensures { result ≡ spec.ended lets depth }
 {
     if lets == 0 {
-        BindingState::Bound
+        BindingState::Bound(0)
     } else {
-        BindingState::Later(lets - 1)
+        BindingState::Later(lets - 1, depth)
+    }
+}
+
+// Returns the state after a closing, in the value that belongs to the local's pattern.
+fn later_after_closing(lets: u32, depth: u32) -> BindingState
+    ensures { result ≡ spec.later_after_closing lets depth }
+{
+    if depth == 0 {
+        BindingState::Unbound
+    } else {
+        BindingState::Later(lets, depth - 1)
+    }
+}
+
+// Returns the state after a binding, in the value that belongs to the local's pattern. A local that
+// an inner pattern binds counts as bound up to the end of the value's group.
+fn later_after_binding(lets: u32, depth: u32, is_same: bool) -> BindingState
+    ensures { result ≡ spec.later_after_binding lets depth is_same }
+{
+    if is_same {
+        BindingState::Bound(depth)
+    } else {
+        BindingState::Later(lets, depth)
     }
 }
 
 // Returns the state after a word of that role, in the value that belongs to the local's pattern.
-fn later(lets: u32, is_same: bool, role: TokenRole) -> BindingState
-    ensures { result ≡ spec.later lets is_same role }
+fn later(lets: u32, depth: u32, is_same: bool, role: TokenRole) -> BindingState
+    ensures { result ≡ spec.later lets depth is_same role }
 {
     match role {
-        TokenRole::Begin => deeper(lets),
-        TokenRole::End => ended(lets),
+        TokenRole::Begin => BindingState::Later(one_more(lets), depth),
+        TokenRole::End => ended(lets, depth),
+        TokenRole::Enter => BindingState::Later(lets, one_more(depth)),
+        TokenRole::Body => ended(lets, one_more(depth)),
+        TokenRole::Leave => later_after_closing(lets, depth),
         TokenRole::Bound | TokenRole::Shorthand | TokenRole::Label => {
-            if is_same {
-                BindingState::Bound
-            } else {
-                BindingState::Later(lets)
-            }
+            later_after_binding(lets, depth, is_same)
         }
-        _ => BindingState::Later(lets),
+        _ => BindingState::Later(lets, depth),
+    }
+}
+
+// Returns the state of a bound local after a closing.
+fn bound_after_closing(depth: u32) -> BindingState
+    ensures { result ≡ spec.bound_after_closing depth }
+{
+    if depth == 0 {
+        BindingState::Unbound
+    } else {
+        BindingState::Bound(depth - 1)
+    }
+}
+
+// Returns the state of a bound local after an arm. The local may be that arm's.
+fn bound_after_arm(depth: u32) -> BindingState
+    ensures { result ≡ spec.bound_after_arm depth }
+{
+    if depth == 0 {
+        BindingState::Unbound
+    } else {
+        BindingState::Bound(depth)
+    }
+}
+
+// Returns the state of a bound local after a word of that role.
+fn bound(depth: u32, role: TokenRole) -> BindingState
+    ensures { result ≡ spec.bound depth role }
+{
+    match role {
+        TokenRole::Enter | TokenRole::Body => BindingState::Bound(one_more(depth)),
+        TokenRole::Leave => bound_after_closing(depth),
+        TokenRole::Next => bound_after_arm(depth),
+        _ => BindingState::Bound(depth),
     }
 }
 
@@ -183,8 +252,8 @@ fn unbound(is_same: bool, role: TokenRole) -> BindingState
         return BindingState::Unbound;
     }
     match role {
-        TokenRole::Bound | TokenRole::Shorthand | TokenRole::Label => BindingState::Bound,
-        TokenRole::Late => BindingState::Later(0),
+        TokenRole::Bound | TokenRole::Shorthand | TokenRole::Label => BindingState::Bound(0),
+        TokenRole::Late => BindingState::Later(0, 0),
         _ => BindingState::Unbound,
     }
 }
@@ -299,15 +368,15 @@ fn push_word<'t, A: Allocator>(
 
 // ---- words
 
-fn push_end<A: Allocator>(
+fn push_boundary<A: Allocator>(
     found: &mut Vec<Word<'_>, A>,
     span: Span,
     role: TokenRole,
 ) -> Result<(), AllocError>
     ensures { OnOk result (map word_of found.new.items
-        ≡ map word_of found.old.items ++ spec.end_words span role) }
+        ≡ map word_of found.old.items ++ spec.boundary_words span role) }
 {
-    if is_end(role) {
+    if is_boundary(role) {
         found.push(Word {
             text: "",
             span,
@@ -348,7 +417,8 @@ fn push_text<'t, A: Allocator + Copy>(
     role: TokenRole,
 ) -> Result<(), AllocError>
     ensures { OnOk result (map word_of found.new.items ≡ map word_of found.old.items
-        ++ spec.leaf_words (context_parents_of context_parents.entry) (tree.literal (literal_of literal.now)) role) }
+        ++ spec.leaf_words (context_parents_of context_parents.entry)
+        (tree.literal (literal_of literal.now)) role) }
 {
     if !is_string_role(role) {
         return Ok(());
@@ -377,7 +447,7 @@ fn push_leaf<'t, A: Allocator + Copy>(
             push_word(found, context_parents, word)
         }
         Leaf::Literal(literal) => push_text(alloc, found, context_parents, literal, role),
-        Leaf::Punct(punct) => push_end(found, punct.span, role),
+        Leaf::Punct(punct) => push_boundary(found, punct.span, role),
     }
 }
 
@@ -393,8 +463,9 @@ fn push_event<'t, A: Allocator + Copy>(
 {
     match event {
         TreeEvent::Leaf(leaf, role) => push_leaf(alloc, found, context_parents, leaf, role),
-        TreeEvent::Open(_, span, role) => push_end(found, span, role),
-        TreeEvent::Close(_) => Ok(()),
+        TreeEvent::Open(_, span, role) | TreeEvent::Close(span, role) => {
+            push_boundary(found, span, role)
+        }
     }
 }
 
@@ -416,7 +487,7 @@ pub(crate) fn words_of<'t, A: Allocator + Copy>(
 }
 
 // Returns whether two words are the same local, or the same label.
-fn is_same(one: Word<'_>, two: Word<'_>) -> bool
+pub(crate) fn is_same(one: Word<'_>, two: Word<'_>) -> bool
     ensures { result ≡ spec.is_same (word_of one.entry) (word_of two.entry) }
 {
     is_same_namespace(one.role, two.role)
@@ -471,7 +542,7 @@ pub(crate) fn locals<'t, A: Allocator + Copy>(
 
 // ---- which names are shared
 
-fn is_written(word: Word<'_>, text: &str) -> bool
+pub(crate) fn is_written(word: Word<'_>, text: &str) -> bool
     ensures { result ≡ spec.is_written (word_of word.entry) text.now }
 {
     !is_nested_role(word.role) && word.text == text
@@ -494,7 +565,7 @@ fn has_other(words: &[Word<'_>], word: Word<'_>) -> bool
     false
 }
 
-fn contains_name<A: Allocator>(names: &[Symbol<A>], text: &str) -> bool
+pub(crate) fn contains_name<A: Allocator>(names: &[Symbol<A>], text: &str) -> bool
     ensures { result ≡ spec.contains_name names.now text.now }
 {
     for name in names {
@@ -505,7 +576,11 @@ fn contains_name<A: Allocator>(names: &[Symbol<A>], text: &str) -> bool
     false
 }
 
-fn is_shared<A: Allocator>(words: &[Word<'_>], names: &[Symbol<A>], word: Word<'_>) -> bool
+pub(crate) fn is_shared<A: Allocator>(
+    words: &[Word<'_>],
+    names: &[Symbol<A>],
+    word: Word<'_>,
+) -> bool
     ensures { result ≡ spec.is_shared (map word_of words.now) names.now (word_of word.entry) }
 {
     has_other(words, word) || contains_name(names, word.text)
@@ -536,7 +611,7 @@ fn may_be_local(local: Word<'_>, word: Word<'_>) -> bool
 pub(crate) fn is_edge(role: TokenRole) -> bool
     ensures { result ≡ spec.is_edge role }
 {
-    matches!(role, TokenRole::Begin | TokenRole::End)
+    matches!(role, TokenRole::Begin) || is_boundary(role)
 }
 
 // Returns whether a word matters to a local. Most words don't, and each local looks at all words.
@@ -564,8 +639,8 @@ fn after_word(local: Word<'_>, progress: BindingState, word: Word<'_>) -> Bindin
     }
     match progress {
         BindingState::Unbound => unbound(is_same(local, word), word.role),
-        BindingState::Later(lets) => later(lets, is_same(local, word), word.role),
-        BindingState::Bound => BindingState::Bound,
+        BindingState::Later(lets, depth) => later(lets, depth, is_same(local, word), word.role),
+        BindingState::Bound(depth) => bound(depth, word.role),
     }
 }
 
@@ -605,8 +680,9 @@ fn push_undecided_uses<A: Allocator>(
     Ok(())
 }
 
-fn has_undecided_use(local: Word<'_>, words: &[Word<'_>]) -> bool
-    ensures { result ≡ spec.has_undecided_use (word_of local.entry) Unbound (map word_of words.now) }
+pub(crate) fn has_undecided_use(local: Word<'_>, words: &[Word<'_>]) -> bool
+    ensures { result
+        ≡ spec.has_undecided_use (word_of local.entry) Unbound (map word_of words.now) }
 {
     let mut progress = BindingState::Unbound;
     for word in words {
@@ -616,6 +692,48 @@ fn has_undecided_use(local: Word<'_>, words: &[Word<'_>]) -> bool
         progress = after_word(local, progress, *word);
     }
     false
+}
+
+// Returns whether a token of another context has the local's name in the local's scope, or a name
+// around the trees is in that scope. Only such a token meets a local that keeps its name.
+fn is_met<A: Allocator>(words: &[Word<'_>], names: &[Symbol<A>], local: Word<'_>) -> bool
+    ensures { result ≡ spec.is_met names.now (word_of local.entry) Unbound (map word_of words.now) }
+{
+    let mut progress = BindingState::Unbound;
+    for word in words {
+        if is_in_scope(progress) && is_other(*word, local) {
+            return true;
+        }
+        progress = after_word(local, progress, *word);
+    }
+    is_in_scope(progress) && contains_name(names, local.text)
+}
+
+// Returns whether a use keeps a local from being renamed. It looks at the relevant words alone.
+fn is_undecided<A: Allocator>(
+    words: &[Word<'_>],
+    buckets: &[Vec<Word<'_>, A>],
+    local: Word<'_>,
+) -> bool
+    requires buckets { AreBuckets (map word_of words.now) (buckets_of buckets.now) }
+    ensures { result ≡ spec.has_undecided_use (word_of local.entry) Unbound (map word_of words.now) }
+{
+    has_undecided_use(local, relevant_words(words, buckets, local))
+}
+
+// Returns whether a local keeps its name where it meets another of that name.
+fn is_in_doubt<A: Allocator>(
+    words: &[Word<'_>],
+    buckets: &[Vec<Word<'_>, A>],
+    names: &[Symbol<A>],
+    local: Word<'_>,
+) -> bool
+    requires buckets { AreBuckets (map word_of words.now) (buckets_of buckets.now) }
+    ensures { result ≡ spec.is_in_doubt (map word_of words.now) names.now (word_of local.entry) }
+{
+    is_shared(words, names, local)
+        && is_undecided(words, buckets, local)
+        && is_met(words, names, local)
 }
 
 fn push_undecided_uses_of<A: Allocator>(
@@ -629,14 +747,14 @@ fn push_undecided_uses_of<A: Allocator>(
     ensures { OnOk result (found.new.items ≡ found.old.items
         ++ spec.undecided_uses_of (map word_of words.now) names.now (word_of local.entry)) }
 {
-    if is_shared(words, names, local) {
+    if is_in_doubt(words, buckets, names, local) {
         push_undecided_uses(found, local, relevant_words(words, buckets, local))?;
     }
     Ok(())
 }
 
-/// Returns the uses that keep these locals from being renamed. Returns `AllocError` if memory runs
-/// out.
+/// Returns the uses that keep these locals from being renamed, where a local then meets another of
+/// its name. Returns `AllocError` if memory runs out.
 pub(crate) fn undecided<A: Allocator + Copy>(
     alloc: A,
     words: &[Word<'_>],
@@ -656,159 +774,3 @@ pub(crate) fn undecided<A: Allocator + Copy>(
 }
 
 // ---- new names
-
-fn is_word(words: &[Word<'_>], text: &str) -> bool
-    ensures { result ≡ spec.is_word (map word_of words.now) text.now }
-{
-    for word in words {
-        if is_written(*word, text) {
-            return true;
-        }
-    }
-    false
-}
-
-fn is_given<A: Allocator>(given: &[Naming<'_, A>], text: &str) -> bool
-    ensures { result ≡ spec.is_given (map naming_of given.now) text.now }
-{
-    for one in given {
-        if one.name.as_str() == text {
-            return true;
-        }
-    }
-    false
-}
-
-fn is_taken<A: Allocator>(
-    words: &[Word<'_>],
-    names: &[Symbol<A>],
-    given: &[Naming<'_, A>],
-    text: &str,
-) -> bool
-    ensures { result ≡ spec.is_taken (map word_of words.now) names.now (map naming_of given.now)
-        text.now }
-{
-    is_word(words, text) || contains_name(names, text) || is_given(given, text)
-}
-
-fn numbered<A: Allocator + Copy>(alloc: A, text: &str, number: u64) -> Result<Symbol<A>, AllocError>
-    ensures { IfOk result (λ s. s ≡ spec.numbered text.now number) }
-{
-    let name = format!(in alloc; "{text}_{number}")?;
-    Symbol::intern(alloc, name.as_str())
-}
-
-// Returns how many of these locals had that name.
-fn count_named<A: Allocator>(given: &[Naming<'_, A>], text: &str) -> u64
-    ensures count { result ≡ spec.count_named (map naming_of given.now) text.now }
-    ensures few { result ≤ length given.now }
-{
-    let mut count = 0u64;
-    for one in given {
-        if one.local.text == text {
-            count += 1;
-        }
-    }
-    count
-}
-
-// Returns the first of `a_1`, `a_2` and so on that isn't taken. As many of these as locals had the
-// name before are taken, so the search skips them.
-fn fresh<A: Allocator + Copy>(
-    alloc: A,
-    words: &[Word<'_>],
-    names: &[Symbol<A>],
-    given: &[Naming<'_, A>],
-    text: &str,
-) -> Result<Symbol<A>, AllocError>
-    requires taken { spec.AreTaken (map word_of words.now) names.now (map naming_of given.now) }
-    ensures { IfOk result (λ s. s ≡ spec.fresh (map word_of words.now) names.now
-        (map naming_of given.now) text.now) }
-{
-    let mut number = 1 + count_named(given, text);
-    'numbers: while number < u64::MAX {
-        let name = numbered(alloc, text, number)?;
-        if is_taken(words, names, given, name.as_str()) {
-            number += 1;
-        } else {
-            return Ok(name);
-        }
-    }
-    numbered(alloc, text, number)
-}
-
-fn is_renamed<A: Allocator>(
-    words: &[Word<'_>],
-    buckets: &[Vec<Word<'_>, A>],
-    names: &[Symbol<A>],
-    local: Word<'_>,
-) -> bool
-    requires buckets { AreBuckets (map word_of words.now) (buckets_of buckets.now) }
-    ensures { result ≡ spec.is_renamed (map word_of words.now) names.now (word_of local.entry) }
-{
-    is_shared(words, names, local)
-        && !has_undecided_use(local, relevant_words(words, buckets, local))
-}
-
-fn push_name<'t, A: Allocator + Copy>(
-    alloc: A,
-    given: &mut Vec<Naming<'t, A>, A>,
-    words: &[Word<'_>],
-    buckets: &[Vec<Word<'_>, A>],
-    numbered: &[Word<'_>],
-    names: &[Symbol<A>],
-    local: Word<'t>,
-) -> Result<(), AllocError>
-    requires buckets { AreBuckets (map word_of words.now) (buckets_of buckets.now) }
-    requires numbered { map word_of numbered.now ≡ numbered_words (map word_of words.now) }
-    requires taken { spec.AreTaken (map word_of words.now) names.now
-        (map naming_of given.now.items) }
-    ensures given { OnOk result (map naming_of given.new.items ≡ spec.with_name
-        (map word_of words.now) names.now (map naming_of given.old.items) (word_of local.entry)) }
-    ensures taken { OnOk result (spec.AreTaken (map word_of words.now) names.now
-        (map naming_of given.new.items)) }
-{
-    if is_renamed(words, buckets, names, local) {
-        let name = fresh(alloc, numbered, names, given.as_slice(), local.text)?;
-        given.push(Naming { local, name })?;
-    }
-    Ok(())
-}
-
-/// Returns those of these locals that are renamed, with their new names. Returns `AllocError` if
-/// memory runs out.
-pub(crate) fn namings<'t, A: Allocator + Copy>(
-    alloc: A,
-    words: &[Word<'_>],
-    buckets: &[Vec<Word<'_>, A>],
-    names: &[Symbol<A>],
-    locals: &[Word<'t>],
-) -> Result<Vec<Naming<'t, A>, A>, AllocError>
-    requires buckets { AreBuckets (map word_of words.now) (buckets_of buckets.now) }
-    ensures { IfOk result (λ v. map naming_of v.items ≡ spec.names_from (map word_of words.now)
-        names.now [] (map word_of locals.now)) }
-{
-    let found = numbered_words(alloc, words)?;
-    let numbered = found.as_slice();
-    let mut given = Vec::new(alloc);
-    for local in locals {
-        push_name(alloc, &mut given, words, buckets, numbered, names, *local)?;
-    }
-    Ok(given)
-}
-
-/// Returns the new name of a word, if it gets one.
-pub(crate) fn name_in<'s, A: Allocator>(
-    given: &'s [Naming<'_, A>],
-    word: Word<'_>,
-) -> Option<&'s Symbol<A>>
-    ensures { option_map (λ s. s.now) result
-        ≡ spec.name_in (map naming_of given.now) (word_of word.entry) }
-{
-    for one in given {
-        if is_same(one.local, word) {
-            return Some(&one.name);
-        }
-    }
-    None
-}

@@ -27,8 +27,8 @@ fn after_first<'t, A: Allocator>(tokens: TokenTreesView<'t, A>) -> TokenTreesVie
     iter.remaining()
 }
 
-// Returns the class of the second tree, if it is a punct.
-fn second_sign<A: Allocator>(tokens: TokenTreesView<'_, A>) -> Option<Sign>
+/// Returns the class of the second tree, if it is a punct.
+pub(crate) fn second_sign<A: Allocator>(tokens: TokenTreesView<'_, A>) -> Option<Sign>
     ensures { result ≡ spec.second_sign (trees tokens.entry) }
 {
     front_sign(after_first(tokens))
@@ -163,6 +163,19 @@ pub(crate) fn is_lowercase_name(name: &str) -> bool
         [] => false,
         [first, ..] => *first == b'_' || b'a' <= *first && *first <= b'z',
     }
+}
+
+fn is_in(sort: Option<WordClass>) -> bool
+    ensures { result ≡ spec.is_in sort }
+{
+    matches!(sort, Some(WordClass::In))
+}
+
+/// Returns whether an `in` follows.
+pub(crate) fn in_follows<A: Allocator>(tokens: TokenTreesView<'_, A>) -> bool
+    ensures { result ≡ spec.in_follows (trees tokens.entry) }
+{
+    is_in(front_word_class(tokens))
 }
 
 fn begins_loop(sort: Option<WordClass>) -> bool

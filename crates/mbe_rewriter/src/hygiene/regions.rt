@@ -337,7 +337,7 @@ fn group_after<A: Allocator>(
     ensures { result ≡ spec.group_after scan scan.before kind (trees inside.entry) }
 {
     match scan.before {
-        PreviousToken::Hash => Region::Opaque,
+        PreviousToken::Hash | PreviousToken::TextBang => Region::Opaque,
         PreviousToken::Named => Region::Rules,
         PreviousToken::Bang => Region::Arguments,
         _ => part_group(scan, kind, inside),

@@ -11,8 +11,9 @@ ghost use Rattle.mbe_rewriter.specs.Hygiene.ScanState.{start};
 ghost use Rattle.mbe_rewriter.specs.Hygiene.TreeEvents.{events as events_from};
 
 use crate::hygiene::buckets::buckets_for;
-use crate::hygiene::local_names::{Naming, Word, locals, name_in, namings, undecided, words_of};
+use crate::hygiene::local_names::{Naming, Word, locals, undecided, words_of};
 pub use crate::hygiene::local_names::{ContextParents, UndecidedUse};
+use crate::hygiene::new_names::{name_in, namings};
 use crate::hygiene::scan_state::TokenRole;
 use crate::hygiene::tree_events::{TreeEvent, events_of};
 use mbe_tt::span::Span;
@@ -85,7 +86,7 @@ fn write_event<A: Allocator>(
     match event {
         TreeEvent::Leaf(leaf, role) => builder.push(renamed_leaf(given, leaf, role)?),
         TreeEvent::Open(kind, span, _) => builder.open(kind, span),
-        TreeEvent::Close(span) => {
+        TreeEvent::Close(span, _) => {
             close(builder, span);
             Ok(())
         }

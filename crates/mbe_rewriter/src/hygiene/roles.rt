@@ -8,11 +8,11 @@ ghost use Rattle.mbe_rewriter.specs.Hygiene.ScanState as spec;
 ghost use Rattle.mbe_rewriter.specs.Hygiene.Roles as roles;
 
 use crate::hygiene::lookahead::{
-    bang_follows, binds_before, colon_follows, comma_or_end_follows, equals_follows, has_in,
-    is_label, is_lowercase_name, path_follows,
+    bang_follows, begins_arm, binds_before, colon_follows, comma_or_end_follows, equals_follows,
+    has_in, is_label, is_lowercase_name, path_follows,
 };
 use crate::hygiene::scan_state::{
-    PreviousToken, Region, ScanState, StatementPart, TokenRole, is_body, is_dots, is_open,
+    PreviousToken, Region, ScanState, StatementPart, TokenRole, is_body, is_dots, is_open, is_scope,
 };
 use crate::hygiene::token_classes::{Sign, WordClass, word_class_of};
 use mbe_tt::tt::{DelimiterKind, Ident, TokenTreesView};
@@ -238,13 +238,60 @@ fn end_role(is_one: bool) -> TokenRole
     }
 }
 
-/// Returns the role of a punct. A `;` may end the value of a `let`.
-pub(crate) fn punct_role(scan: ScanState, sign: Sign) -> TokenRole
-    ensures { result ≡ roles.punct_role scan sign }
+// Returns whether the scan is in the expression of an arm.
+fn is_arm_body(scan: ScanState) -> bool
+    ensures { result ≡ roles.is_arm_body scan.part scan.region }
+{
+    match scan.part {
+        StatementPart::Whole => matches!(scan.region, Region::Body),
+        _ => false,
+    }
+}
+
+fn comma_role<A: Allocator>(scan: ScanState, rest: TokenTreesView<'_, A>) -> TokenRole
+    ensures { result ≡ roles.comma_role scan (trees rest.entry) }
+{
+    if is_arm_body(scan) && begins_arm(rest) {
+        TokenRole::Next
+    } else {
+        TokenRole::Other
+    }
+}
+
+/// Returns the role of a punct before `rest`. A `;` may end the value of a `let`, and a `,` an arm.
+pub(crate) fn punct_role<A: Allocator>(
+    scan: ScanState,
+    sign: Sign,
+    rest: TokenTreesView<'_, A>,
+) -> TokenRole
+    ensures { result ≡ roles.punct_role scan sign (trees rest.entry) }
 {
     match sign {
         Sign::Semicolon => end_role(scan.in_let),
+        Sign::Comma => comma_role(scan, rest),
         _ => TokenRole::Other,
+    }
+}
+
+// Returns the role of an opening that ends no value.
+fn enter_role(is_scope: bool) -> TokenRole
+    ensures { result ≡ roles.enter_role is_scope }
+{
+    if is_scope {
+        TokenRole::Enter
+    } else {
+        TokenRole::Other
+    }
+}
+
+// Returns the role of an opening that ends a value.
+fn body_role(is_scope: bool) -> TokenRole
+    ensures { result ≡ roles.body_role is_scope }
+{
+    if is_scope {
+        TokenRole::Body
+    } else {
+        TokenRole::End
     }
 }
 
@@ -253,5 +300,20 @@ pub(crate) fn punct_role(scan: ScanState, sign: Sign) -> TokenRole
 pub(crate) fn group_role(scan: ScanState, kind: DelimiterKind) -> TokenRole
     ensures { result ≡ roles.group_role scan kind }
 {
-    end_role(scan.in_head_let && scan.is_head && is_body(scan, kind))
+    if scan.in_head_let && scan.is_head && is_body(scan, kind) {
+        body_role(is_scope(scan, kind))
+    } else {
+        enter_role(is_scope(scan, kind))
+    }
+}
+
+/// Returns the role of the closing of a group, by the state before the group.
+pub(crate) fn close_role(scan: ScanState, kind: DelimiterKind) -> TokenRole
+    ensures { result ≡ roles.close_role scan kind }
+{
+    if is_scope(scan, kind) {
+        TokenRole::Leave
+    } else {
+        TokenRole::Other
+    }
 }

@@ -9,11 +9,11 @@ ghost use Rattle.mbe_tt.specs.Views.LeafViews.{ident_of, leaf_of};
 ghost use Rattle.mbe_tt.specs.Views.View.{trees};
 ghost use Rattle.mbe_rewriter.specs.Hygiene.ScanState as spec;
 
-use crate::hygiene::lookahead::{front_sign, has_in, is_equals};
+use crate::hygiene::lookahead::{bang_follows, front_sign, has_in, is_equals};
 use crate::hygiene::regions::{
     ends_arrow, is_semicolon, part_after, region_after, region_after_group, region_inside,
 };
-use crate::hygiene::token_classes::{Sign, WordClass, sign_of, word_class_of};
+use crate::hygiene::token_classes::{Sign, WordClass, is_text_macro, sign_of, word_class_of};
 use mbe_tt::tt::{DelimiterKind, Ident, Leaf, TokenTreesView};
 use std::alloc::Allocator;
 
@@ -52,6 +52,9 @@ pub(crate) enum PreviousToken {
     Bang,
     // The name after the `!` of a macro, as in `macro_rules! name`.
     Named,
+    // The name of a macro that takes its argument as text, before its `!`, and that `!`.
+    TextMacro,
+    TextBang,
     Equals,
     // `=>`.
     Arrow,
@@ -68,7 +71,7 @@ pub(crate) enum Region {
     Code,
     // The argument of a macro.
     Arguments,
-    // An attribute.
+    // An attribute, or the argument of a macro that takes it as text.
     Opaque,
     // The rules of a macro.
     Rules,
@@ -142,8 +145,16 @@ pub enum TokenRole {
     InnerLabel,
     /// A `let` or a `for`, before a pattern.
     Begin,
-    /// The end of the value that belongs to a `let` or a `for`.
+    /// The end of the value that belongs to a `let`.
     End,
+    /// The opening of a group. What it binds is bound up to its closing.
+    Enter,
+    /// Such an opening that ends the value of an `if let`, a `while let` or a `for`.
+    Body,
+    /// The closing of such a group.
+    Leave,
+    /// A `,` after an arm of a `match`.
+    Next,
 }
 
 pub(crate) fn is_dots(before: PreviousToken) -> bool
@@ -169,6 +180,44 @@ pub(crate) fn is_code(region: Region) -> bool
         region,
         Region::Code | Region::Arguments | Region::Guard | Region::Body | Region::Value
     )
+}
+
+fn is_pattern_region(region: Region) -> bool
+    ensures { result ≡ spec.is_pattern_region region }
+{
+    matches!(
+        region,
+        Region::Arm | Region::Pattern | Region::FieldPatterns | Region::FieldPattern
+    )
+}
+
+/// Returns whether the scan is in a pattern.
+pub(crate) fn is_pattern(scan: ScanState) -> bool
+    ensures { result ≡ spec.is_pattern scan scan.part }
+{
+    match scan.part {
+        StatementPart::LetPattern | StatementPart::ForPattern | StatementPart::Parameters => true,
+        StatementPart::LetType | StatementPart::ParameterType => false,
+        StatementPart::Whole => is_pattern_region(scan.region),
+    }
+}
+
+// Returns whether a group is the argument of a macro. What it binds may be bound after it too.
+fn is_argument(before: PreviousToken) -> bool
+    ensures { result ≡ spec.is_argument before }
+{
+    matches!(
+        before,
+        PreviousToken::Bang | PreviousToken::TextBang | PreviousToken::Named
+    )
+}
+
+/// Returns whether what a group binds is bound up to its closing. A group in a pattern is no such
+/// group.
+pub(crate) fn is_scope(scan: ScanState, kind: DelimiterKind) -> bool
+    ensures { result ≡ spec.is_scope scan kind }
+{
+    !is_pattern(scan) && !is_argument(scan.before) && !matches!(kind, DelimiterKind::Invisible)
 }
 
 fn is_arm(scan: ScanState) -> bool
@@ -282,6 +331,41 @@ fn after_word_class<A: Allocator>(
     }
 }
 
+// Returns whether a word is the name of a macro that takes its argument as text.
+fn is_text_call<A: Allocator>(ident: &Ident<A>, rest: TokenTreesView<'_, A>) -> bool
+    ensures { result ≡ spec.is_text_call (ident_of ident.now) (trees rest.entry) }
+{
+    is_text_macro(ident.sym.as_str()) && bang_follows(rest)
+}
+
+fn after_segment<A: Allocator>(
+    scan: ScanState,
+    ident: &Ident<A>,
+    rest: TokenTreesView<'_, A>,
+) -> ScanState
+    ensures { result ≡ spec.after_segment scan (ident_of ident.now) (trees rest.entry) }
+{
+    if is_text_call(ident, rest) {
+        after_keyword(scan, PreviousToken::TextMacro, scan.is_head)
+    } else {
+        after_keyword(scan, PreviousToken::Name, scan.is_head)
+    }
+}
+
+fn after_front_word<A: Allocator>(
+    scan: ScanState,
+    ident: &Ident<A>,
+    rest: TokenTreesView<'_, A>,
+) -> ScanState
+    ensures { result ≡ spec.after_front_word scan (ident_of ident.now) (trees rest.entry) }
+{
+    if is_text_call(ident, rest) {
+        after_keyword(scan, PreviousToken::TextMacro, scan.is_head)
+    } else {
+        after_word_class(scan, word_class_of(ident), rest)
+    }
+}
+
 fn after_ident<A: Allocator>(
     scan: ScanState,
     ident: &Ident<A>,
@@ -290,7 +374,8 @@ fn after_ident<A: Allocator>(
     ensures { result ≡ spec.after_ident scan scan.before (ident_of ident.now) (trees rest.entry) }
 {
     match scan.before {
-        PreviousToken::Dot | PreviousToken::Colons | PreviousToken::Dollar => {
+        PreviousToken::Colons => after_segment(scan, ident, rest),
+        PreviousToken::Dot | PreviousToken::Dollar => {
             after_keyword(scan, PreviousToken::Name, scan.is_head)
         }
         PreviousToken::Quote | PreviousToken::JumpQuote => after_keyword(
@@ -299,7 +384,7 @@ fn after_ident<A: Allocator>(
             scan.is_head,
         ),
         PreviousToken::Bang => after_keyword(scan, PreviousToken::Named, scan.is_head),
-        _ => after_word_class(scan, word_class_of(ident), rest),
+        _ => after_front_word(scan, ident, rest),
     }
 }
 
@@ -337,6 +422,7 @@ fn after_bang(before: PreviousToken, next: Option<Sign>) -> PreviousToken
 {
     match before {
         PreviousToken::Hash => PreviousToken::Hash,
+        PreviousToken::TextMacro => PreviousToken::TextBang,
         PreviousToken::Name => {
             if is_equals(next) {
                 PreviousToken::Sign

@@ -67,6 +67,21 @@ const KEYWORDS: &[&str] = &[
     "return", "unsafe", "where", "yield",
 ];
 
+// The built-in macros that take their argument as text, or as names of other things than locals.
+const TEXT_MACROS: &[&str] = &[
+    "cfg",
+    "compile_error",
+    "concat",
+    "concat_bytes",
+    "env",
+    "include",
+    "include_bytes",
+    "include_str",
+    "offset_of",
+    "option_env",
+    "stringify",
+];
+
 const VALUES: &[&str] = &[
     "Self", "_", "bool", "char", "crate", "f32", "f64", "false", "i128", "i16", "i32", "i64", "i8",
     "isize", "self", "str", "super", "true", "u128", "u16", "u32", "u64", "u8", "usize",
@@ -76,6 +91,14 @@ pub(crate) fn is_text_of(text: &str, texts: &[&str]) -> bool
     ensures { result ≡ list_any (λ t. bytes_eq text.now t.now) texts.now }
 {
     texts.iter().any(|t| text == *t)
+}
+
+/// Returns whether a built-in macro of that name takes its argument as text, or as names of other
+/// things than locals.
+pub(crate) fn is_text_macro(name: &str) -> bool
+    ensures { result ≡ spec.is_one_of spec.text_macros name.now }
+{
+    is_text_of(name, TEXT_MACROS)
 }
 
 pub(crate) fn sign_of(char: char) -> Sign

@@ -6,7 +6,7 @@ ghost use Rattle.mbe_rewriter.specs.Hygiene.ScanState.{start};
 ghost use Rattle.mbe_rewriter.specs.Hygiene.EventViews.{event_of};
 ghost use Rattle.mbe_rewriter.specs.Hygiene.TreeEvents as spec;
 
-use crate::hygiene::roles::{group_role, punct_role, role_of};
+use crate::hygiene::roles::{close_role, group_role, punct_role, role_of};
 use crate::hygiene::scan_state::{
     PreviousToken, Region, ScanState, StatementPart, TokenRole, after_group, after_leaf,
     inside_group,
@@ -22,10 +22,10 @@ use std::alloc::{AllocError, Allocator};
 pub(crate) enum TreeEvent<'t, A: Allocator> {
     Leaf(&'t Leaf<A>, TokenRole),
     Open(DelimiterKind, Span, TokenRole),
-    Close(Span),
+    Close(Span, TokenRole),
 }
 
-fn start() -> ScanState
+pub(crate) fn start() -> ScanState
     ensures { result ≡ start }
 {
     ScanState {
@@ -62,25 +62,26 @@ fn leaf_role<A: Allocator>(
     match leaf {
         Leaf::Ident(ident) => role_of(scan, ident, rest),
         Leaf::Literal(literal) => literal_role(scan.region, literal.kind),
-        Leaf::Punct(punct) => punct_role(scan, sign_of(punct.char)),
+        Leaf::Punct(punct) => punct_role(scan, sign_of(punct.char), rest),
     }
 }
 
-// A group around the trees: its closing, and the state and trees after it.
-type OpenGroup<'t, A> = (Span, ScanState, TtIter<'t, A>);
+// A group around the trees: its closing with the role, and the state and trees after it.
+type OpenGroup<'t, A> = ((Span, TokenRole), ScanState, TtIter<'t, A>);
 
 // Pushes the `events` of these trees. The caller owns the vectors, so no early return drops them.
 fn walk<'t, A: Allocator>(
+    begin: ScanState,
     tokens: TokenTreesView<'t, A>,
     found: &mut Vec<TreeEvent<'t, A>, A>,
     open_groups: &mut Vec<OpenGroup<'t, A>, A>,
 ) -> Result<(), AllocError>
     requires found { found.old.items ≡ [] }
     requires open_groups { open_groups.old.items ≡ [] }
-    ensures { OnOk result (map event_of found.new.items ≡ spec.events start (trees tokens.entry)) }
+    ensures { OnOk result (map event_of found.new.items ≡ spec.events begin (trees tokens.entry)) }
 {
     let mut iter = tokens.iter();
-    let mut scan = start();
+    let mut scan = begin;
     'tokens: loop {
         match iter.next() {
             Some(TtElement::Leaf(leaf)) => {
@@ -92,21 +93,37 @@ fn walk<'t, A: Allocator>(
                 let delimiter = group.delimiter;
                 let after = after_group(scan, delimiter.kind, iter.remaining());
                 let role = group_role(scan, delimiter.kind);
+                let closing = (delimiter.close, close_role(scan, delimiter.kind));
                 found.push(TreeEvent::Open(delimiter.kind, delimiter.opening, role))?;
-                open_groups.push((delimiter.close, after, iter))?;
+                open_groups.push((closing, after, iter))?;
                 scan = inside_group(scan, delimiter.kind, inside.remaining());
                 iter = inside;
             }
             None => match open_groups.pop() {
                 None => return Ok(()),
                 Some((close, after, rest)) => {
-                    found.push(TreeEvent::Close(close))?;
+                    found.push(TreeEvent::Close(close.0, close.1))?;
                     scan = after;
                     iter = rest;
                 }
             },
         }
     }
+}
+
+/// Returns the `events` of these trees, from the state `begin` on. Returns `AllocError` if memory
+/// runs out.
+pub(crate) fn events_from<'t, A: Allocator + Copy>(
+    alloc: A,
+    begin: ScanState,
+    tokens: TokenTreesView<'t, A>,
+) -> Result<Vec<TreeEvent<'t, A>, A>, AllocError>
+    ensures { IfOk result (λ v. map event_of v.items ≡ spec.events begin (trees tokens.entry)) }
+{
+    let mut found = Vec::new(alloc);
+    let mut open_groups = Vec::new(alloc);
+    walk(begin, tokens, &mut found, &mut open_groups)?;
+    Ok(found)
 }
 
 /// Returns the `events` of these trees. Returns `AllocError` if memory runs out.
@@ -116,8 +133,5 @@ pub(crate) fn events_of<'t, A: Allocator + Copy>(
 ) -> Result<Vec<TreeEvent<'t, A>, A>, AllocError>
     ensures { IfOk result (λ v. map event_of v.items ≡ spec.events start (trees tokens.entry)) }
 {
-    let mut found = Vec::new(alloc);
-    let mut open_groups = Vec::new(alloc);
-    walk(tokens, &mut found, &mut open_groups)?;
-    Ok(found)
+    events_from(alloc, start(), tokens)
 }

@@ -4,8 +4,12 @@
 // - In `$x as $t << 1`, the `<` would begin generic arguments of the type. So `parenthesize_rules`
 //   writes
 //   `($t)` there.
-// - In `$x.pow(2)`, the `-` of `-2` would apply to the whole call. So `parenthesize_rules` writes a
-//   receiver's parentheses there. They are kept or removed once `$x` is known.
+// - In `$x.pow(2)`, the `-` of `-2` would apply to the whole call. So `parenthesize_rules` writes an
+//   operand's parentheses there. They are kept or removed once `$x` is known.
+// - In `&$p`, the `&` would apply to the first part of `1 | 2`. An operand's parentheses are there
+//   too.
+// - In `$s - 1`, the `-` would go on with the statement `let a = 3`. So `parenthesize_rules` writes
+//   a statement's parentheses there. Once `$s` is known, they are removed, or become a `;`.
 ghost use Rattle.std.specs.Prelude.{◌≡◌, ◌<◌, IfOk, OnOk, is_some, length, option_map};
 ghost use Rattle.mbe_tt.specs.Buffers.GroupStack.{put};
 ghost use Rattle.mbe_tt.specs.Views.Element.{element_tree};
@@ -16,7 +20,7 @@ ghost use Rattle.mbe_rewriter.specs.WholeFragments.VariableParentheses as spec;
 use crate::whole_fragments::front_tokens::{
     after_first, copy_of, is_char, is_char_leaf, is_single_dot, is_word,
 };
-use crate::whole_fragments::receivers::{around_fragment, around_receiver};
+use crate::whole_fragments::receivers::{around_fragment, around_receiver, around_statement};
 use mbe_tt::tt::{Delimiter, Leaf, TokenTreesView, TopSubtree, TopSubtreeBuilder, TtElement};
 use std::alloc::{AllocError, Allocator};
 
@@ -32,13 +36,31 @@ const PATTERN_LEVELS: u32 = 256;
 pub(crate) enum VariableRole {
     /// The second `$` of `$$`. No variable begins with it.
     Dollar,
-    /// The name of a type before a `<`.
+    /// The name of a type or a path before a `<`.
     Type,
-    /// The name of an expression or a literal before a `.`.
+    /// The name of an expression, a literal, a pattern or a type before a `.`.
     Receiver,
+    /// The name of a pattern or a type elsewhere.
+    Operand,
+    /// The name of a statement.
+    Statement,
 }
 
 // ---- variables of patterns
+
+// Returns whether the specifier of an expression or a literal is at the front.
+fn is_value_specifier<A: Allocator>(tokens: TokenTreesView<'_, A>) -> bool
+    ensures { result ≡ spec.is_value_specifier (trees tokens.entry) }
+{
+    is_word("expr", tokens) || is_word("expr_2021", tokens) || is_word("literal", tokens)
+}
+
+// Returns whether the specifier of a pattern or a type is at the front.
+fn is_operand_specifier<A: Allocator>(tokens: TokenTreesView<'_, A>) -> bool
+    ensures { result ≡ spec.is_operand_specifier (trees tokens.entry) }
+{
+    is_word("pat", tokens) || is_word("pat_param", tokens) || is_word("ty", tokens)
+}
 
 // Returns whether a fragment specifier for that role is at the front.
 fn is_specifier<A: Allocator>(role: VariableRole, tokens: TokenTreesView<'_, A>) -> bool
@@ -46,10 +68,10 @@ fn is_specifier<A: Allocator>(role: VariableRole, tokens: TokenTreesView<'_, A>)
 {
     match role {
         VariableRole::Dollar => false,
-        VariableRole::Type => is_word("ty", tokens),
-        VariableRole::Receiver => {
-            is_word("expr", tokens) || is_word("expr_2021", tokens) || is_word("literal", tokens)
-        }
+        VariableRole::Type => is_word("ty", tokens) || is_word("path", tokens),
+        VariableRole::Receiver => is_value_specifier(tokens) || is_operand_specifier(tokens),
+        VariableRole::Operand => is_operand_specifier(tokens),
+        VariableRole::Statement => is_word("stmt", tokens),
     }
 }
 
@@ -121,15 +143,15 @@ fn has_role<A: Allocator>(
 
 // Returns the role that the trees after a variable ask for. A `$` asks for the same as a `.`, since
 // the variable after it may begin with one.
-fn expected_role<A: Allocator>(rest: TokenTreesView<'_, A>) -> Option<VariableRole>
+fn expected_role<A: Allocator>(rest: TokenTreesView<'_, A>) -> VariableRole
     ensures { result ≡ spec.expected_role (trees rest.entry) }
 {
     if is_char('<', rest) {
-        Some(VariableRole::Type)
+        VariableRole::Type
     } else if is_char('$', rest) || is_single_dot(rest) {
-        Some(VariableRole::Receiver)
+        VariableRole::Receiver
     } else {
-        None
+        VariableRole::Operand
     }
 }
 
@@ -144,9 +166,14 @@ fn role_of<A: Allocator>(
     if is_char_leaf('$', leaf) {
         return Some(VariableRole::Dollar);
     }
-    match expected_role(rest) {
-        Some(role) if has_role(pattern, role, leaf) => Some(role),
-        Some(_) | None => None,
+    if has_role(pattern, VariableRole::Statement, leaf) {
+        return Some(VariableRole::Statement);
+    }
+    let role = expected_role(rest);
+    if has_role(pattern, role, leaf) {
+        Some(role)
+    } else {
+        None
     }
 }
 
@@ -231,7 +258,10 @@ fn write_pair<A: Allocator>(
     match role {
         VariableRole::Dollar => write_two(builder, dollar, name),
         VariableRole::Type => write_in_group(builder, around_fragment(span), dollar, name),
-        VariableRole::Receiver => write_in_group(builder, around_receiver(span), dollar, name),
+        VariableRole::Receiver | VariableRole::Operand => {
+            write_in_group(builder, around_receiver(span), dollar, name)
+        }
+        VariableRole::Statement => write_in_group(builder, around_statement(span), dollar, name),
     }
 }
 
@@ -343,8 +373,9 @@ fn write_rules<A: Allocator>(
 }
 
 /// Builds a buffer of the rules of a macro in a group of `delimiter`. A variable of a template gets
-/// parentheses if it is a type before a `<`. It gets a receiver's parentheses if it is an
-/// expression or a literal that may be before a `.`. Returns `AllocError` if memory runs out.
+/// parentheses if it is a type or a path before a `<`. It gets an operand's parentheses if it is
+/// another type, a pattern, or an expression or a literal that may be before a `.`. It gets a
+/// statement's parentheses if it is a statement. Returns `AllocError` if memory runs out.
 pub fn parenthesize_rules<A: Allocator + Copy>(
     alloc: A,
     delimiter: Delimiter,

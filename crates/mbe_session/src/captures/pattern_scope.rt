@@ -245,9 +245,9 @@ pub(crate) fn scope_at<A: Allocator>(tokens: &[Token<'_, A>], at: usize) -> Opti
     }
 }
 
-// Whether a name is alone: it is no part of a path, no lifetime, and no variable or call of a
-// macro.
-fn is_alone<A: Allocator>(tokens: &[Token<'_, A>], at: usize) -> bool {
+// Whether a name is no part of a path, no lifetime, and no variable or call of a macro.
+// `may_follow` says whether a `:` may follow the name.
+fn is_alone<A: Allocator>(tokens: &[Token<'_, A>], at: usize, may_follow: bool) -> bool {
     let next = at.saturating_add(1);
     let is_after = match tokens.get(at.saturating_sub(1)) {
         Some(Token::Punct(char)) if at > 0 => match *char {
@@ -258,11 +258,14 @@ fn is_alone<A: Allocator>(tokens: &[Token<'_, A>], at: usize) -> bool {
         _ => false,
     };
     let is_macro = is_char(tokens, next, '!') && !are_chars(tokens, next, '!', '=');
-    !is_after && !is_macro && !is_char(tokens, next, ':')
+    let is_colon = is_char(tokens, next, ':') && !(may_follow && is_single_colon(tokens, next));
+    !is_after && !is_macro && !is_colon
 }
 
-// Whether a pattern binds a name. A name in capitals may be a constant, so it doesn't count.
-pub(crate) fn is_bound<A: Allocator>(tokens: &[Token<'_, A>], at: usize) -> bool {
+// Whether a pattern binds a name. A name in capitals may be a constant, so it doesn't count. A type
+// may follow a name outside of any group of the pattern (`is_outside`); in a group, a name before a
+// `:` is a field's.
+pub(crate) fn is_bound<A: Allocator>(tokens: &[Token<'_, A>], at: usize, is_outside: bool) -> bool {
     let Some(Token::Name(name)) = tokens.get(at) else {
         return false;
     };
@@ -270,7 +273,7 @@ pub(crate) fn is_bound<A: Allocator>(tokens: &[Token<'_, A>], at: usize) -> bool
     let is_lowercase_name = word.starts_with(|char: char| char == '_' || char.is_ascii_lowercase());
     let next = at.saturating_add(1);
     is_lowercase_name
-        && is_alone(tokens, at)
+        && is_alone(tokens, at, is_outside)
         && !PATTERN_WORDS.contains(&word)
         && !is_open(tokens, next, DelimiterKind::Parenthesis)
         && !is_open(tokens, next, DelimiterKind::Brace)
@@ -281,7 +284,7 @@ pub(crate) fn is_used<A: Allocator>(tokens: &[Token<'_, A>], at: usize) -> bool 
     let is_field = at > 0
         && is_char(tokens, at - 1, '.')
         && (at == 1 || !is_char(tokens, at - 2, '.'));
-    is_alone(tokens, at) && !is_field
+    is_alone(tokens, at, false) && !is_field
 }
 
 // Whether a name is bound again, or names an item.

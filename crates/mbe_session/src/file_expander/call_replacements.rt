@@ -17,8 +17,9 @@ ghost use Rattle.mbe_session.specs.CallReplacements.{PartsOfFile, PartsOfTree, P
 ghost use Rattle.mbe_session.specs.CallReplacements.{ShowsItems, item_shown, rules_shown, shown};
 ghost use Rattle.mbe_session.specs.SessionViews.{setting_of, state_of};
 
-use crate::adjustment::{
-    Preceding, preceding_after_call, preceding_after_tree, preceding_in_group,
+use crate::adjustment::place::{
+    Place, Preceding, place_after_call, place_after_tree, place_in_arguments, place_in_file,
+    place_in_group,
 };
 use crate::file_expander::{FileExpander, LEVELS, text_of};
 use crate::notes::Level;
@@ -56,13 +57,7 @@ impl<A: Allocator + Copy> FileExpander<'_, A> {
     {
         let mut replacements = Vec::new(self.alloc);
         let mark = self.scope.enter();
-        self.replace_in(
-            &mut replacements,
-            texts,
-            tokens,
-            Preceding::Statement,
-            LEVELS,
-        )?;
+        self.replace_in(&mut replacements, texts, tokens, place_in_file(), LEVELS)?;
         self.scope.leave(mark);
         Ok(replacements)
     }
@@ -125,14 +120,14 @@ impl<A: Allocator + Copy> FileExpander<'_, A> {
         }
     }
 
-    // Adds the replacements for the calls of trees, where `last` precedes them.
+    // Adds the replacements for the calls of trees, the first of which is at `place`.
     #[cycle(replacing)]
     fn replace_in(
         &mut self,
         replacements: &mut Vec<Replacement<A>, A>,
         texts: &[&str],
         tokens: TokenTreesView<'_, A>,
-        last: Preceding,
+        place: Place,
         levels: u32,
     ) -> Result<(), AllocError>
         ensures adds { OnOk result (Adds
@@ -144,7 +139,7 @@ impl<A: Allocator + Copy> FileExpander<'_, A> {
     {
         self.make_items_visible(tokens)?;
         let mut rest = tokens;
-        let mut last = last;
+        let mut place = place;
         let mut is_used = false;
         'trees: loop {
             match front_item_with_attributes(rest) {
@@ -152,17 +147,17 @@ impl<A: Allocator + Copy> FileExpander<'_, A> {
                 FrontItem::Definition(defined) => {
                     self.make_rules_visible(defined)?;
                     rest = defined.rest;
-                    last = Preceding::Statement;
+                    place = place.after(Preceding::Statement);
                 }
                 FrontItem::MacroCall(call) => {
-                    rest = self.replace_call(replacements, texts, call, last, levels)?;
-                    last = preceding_after_call(call, rest);
+                    rest = self.replace_call(replacements, texts, call, place, levels)?;
+                    place = place_after_call(call, rest, place);
                 }
                 FrontItem::Tree(tree, after) => {
                     is_used |= attribute_at(rest) == Some("macro_use");
                     self.replace_tree(replacements, texts, tree, is_used, levels)?;
-                    last = preceding_after_tree(rest, last);
-                    is_used &= last != Preceding::Statement;
+                    place = place_after_tree(rest, place);
+                    is_used &= place.last != Preceding::Statement;
                     rest = after;
                 }
             }
@@ -190,8 +185,8 @@ impl<A: Allocator + Copy> FileExpander<'_, A> {
             return Ok(());
         };
         let mark = self.scope.enter();
-        let last = preceding_in_group(group.delimiter.kind);
-        self.replace_inside(replacements, texts, inside.remaining(), last, levels)?;
+        let place = place_in_group(group.delimiter.kind);
+        self.replace_inside(replacements, texts, inside.remaining(), place, levels)?;
         if !is_used {
             self.leave(group.delimiter.kind, mark);
         }
@@ -205,7 +200,7 @@ impl<A: Allocator + Copy> FileExpander<'_, A> {
         replacements: &mut Vec<Replacement<A>, A>,
         texts: &[&str],
         tokens: TokenTreesView<'_, A>,
-        last: Preceding,
+        place: Place,
         levels: u32,
     ) -> Result<(), AllocError>
         ensures adds { OnOk result (Adds
@@ -217,7 +212,7 @@ impl<A: Allocator + Copy> FileExpander<'_, A> {
         if levels == 0 {
             return Ok(());
         }
-        self.replace_in(replacements, texts, tokens, last, levels - 1)
+        self.replace_in(replacements, texts, tokens, place, levels - 1)
     }
 
     // Adds the replacement for a call, and returns the trees after it.
@@ -227,7 +222,7 @@ impl<A: Allocator + Copy> FileExpander<'_, A> {
         replacements: &mut Vec<Replacement<A>, A>,
         texts: &[&str],
         call: MacroCall<'t, A>,
-        last: Preceding,
+        place: Place,
         levels: u32,
     ) -> Result<TokenTreesView<'t, A>, AllocError>
         ensures adds { IfOk result (λ rest. Adds
@@ -246,7 +241,7 @@ impl<A: Allocator + Copy> FileExpander<'_, A> {
                     texts,
                     &tree,
                     call,
-                    last,
+                    place,
                     mark,
                     depth - 1,
                     levels,
@@ -283,7 +278,13 @@ impl<A: Allocator + Copy> FileExpander<'_, A> {
         if !is_standard_macro(call.name.sym.as_str()) {
             return Ok(());
         }
-        self.replace_inside(replacements, texts, call.argument, Preceding::Other, levels)
+        self.replace_inside(
+            replacements,
+            texts,
+            call.argument,
+            place_in_arguments(),
+            levels,
+        )
     }
 
     // Returns the replacement of a call by its expansion, and the trees after it. In the text,
@@ -294,7 +295,7 @@ impl<A: Allocator + Copy> FileExpander<'_, A> {
         texts: &[&str],
         tree: &TopSubtree<A>,
         call: MacroCall<'t, A>,
-        last: Preceding,
+        place: Place,
         mark: usize,
         depth: u32,
         levels: u32,
@@ -306,7 +307,7 @@ impl<A: Allocator + Copy> FileExpander<'_, A> {
     {
         let around = Delimiter::invisible_spanned(call.name.span);
         let mut builder = TopSubtreeBuilder::new(self.alloc, around)?;
-        let rest = self.write_expansion(&mut builder, tree, call, last, depth, levels)?;
+        let rest = self.write_expansion(&mut builder, tree, call, place, depth, levels)?;
         let written = builder.build();
         let apart = apply_hygiene(self.alloc, &written, rest, self.contexts.as_slice(), mark)?;
         self.note_doubts(texts, apart.undecided.as_slice())?;
@@ -314,8 +315,8 @@ impl<A: Allocator + Copy> FileExpander<'_, A> {
             text_of_file(texts, call.start.file),
             call.start.start as usize,
         );
-        let place = place_if_named(&apart.tree, around, start);
-        let text = self.text_at(&apart.tree, place, indentation(around, start))?;
+        let at = place_if_named(&apart.tree, around, start);
+        let text = self.text_at(&apart.tree, at, indentation(around, start))?;
         let replacement = Replacement {
             file: call.start.file,
             start,

@@ -2,25 +2,28 @@
 // name in any file, a path, or a path from another crate.
 ghost use Rattle.std.specs.Prelude.{◌≡◌, ◌&&◌, ◌++◌, suc, true, OnOk, length, map, drop};
 ghost use Rattle.mbe_tt.specs.Views.Element.{element_tree};
+ghost use Rattle.mbe_tt.specs.Views.LeafViews.{leaf_of};
 ghost use Rattle.mbe_tt.specs.Views.View.{trees};
 ghost use Rattle.mbe_rewriter.specs.MacroItemViews.{macro_definition_shown};
-ghost use Rattle.mbe_session.specs.Collector.{Defines, DefinesExternCrate, DefinesTree};
-ghost use Rattle.mbe_session.specs.Collector.{after_definition, after_group, after_tree};
-ghost use Rattle.mbe_session.specs.Collector.{is_offered, with_front_attribute, visibility_of};
-ghost use Rattle.mbe_session.specs.Collector.{no_attributes};
-ghost use Rattle.mbe_session.specs.Collector.{with_attribute};
+ghost use Rattle.mbe_session.specs.Collector.{Defines, DefinesExternCrate, DefinesIn};
+ghost use Rattle.mbe_session.specs.Collector.{DefinesModule, DefinesTree};
+ghost use Rattle.mbe_session.specs.Collector.{after_definition, after_group, after_leaf};
+ghost use Rattle.mbe_session.specs.Collector.{after_tree, exports, in_group, in_module, parent_of};
+ghost use Rattle.mbe_session.specs.Collector.{no_attributes, root_place, visibility_of};
+ghost use Rattle.mbe_session.specs.Collector.{with_attribute, with_front_attribute};
 ghost use Rattle.mbe_cfg.specs.CrateExports.ExportViews.{export_of};
 ghost use Rattle.mbe_session.specs.Explanation.{note_seen};
 ghost use Rattle.mbe_session.specs.Faults.{all_noted};
 ghost use Rattle.mbe_session.specs.Linker.{linked};
-ghost use Rattle.mbe_session.specs.SessionViews.{scope_of, setting_of, state_of};
+ghost use Rattle.mbe_session.specs.SessionViews.{module_shown, place_of, scope_of, setting_of};
+ghost use Rattle.mbe_session.specs.SessionViews.{state_of};
 
 use crate::file_expander::{FileExpander, LEVELS};
-use crate::imports::is_imported_in;
+use crate::imports::{ModuleItem, is_imported_in, module_at, names_of_use};
 use crate::scope::Visibility;
 use mbe_cfg::exports::export::Export;
 use mbe_rewriter::macro_items::{FrontItem, MacroDefinition, attribute_at, front_of};
-use mbe_tt::tt::{DelimiterKind, TokenTreesView, TtElement};
+use mbe_tt::tt::{DelimiterKind, Leaf, TokenTreesView, TtElement};
 use std::alloc::{AllocError, Allocator};
 
 // The attributes `#[macro_export]`, `#[macro_use]` and `#[rustc_builtin_macro]` before a tree,
@@ -81,7 +84,23 @@ impl MacroAttributes {
     {
         match tree {
             TtElement::Subtree(group, _) => self.after_group(group.delimiter.kind),
-            TtElement::Leaf(_) => self,
+            TtElement::Leaf(leaf) => self.after_leaf(leaf),
+        }
+    }
+
+    // Returns the attributes after a leaf. A `;` ends an item, too.
+    fn after_leaf<A: Allocator>(self, leaf: &Leaf<A>) -> MacroAttributes
+        ensures { result ≡ after_leaf (leaf_of leaf.now) self }
+    {
+        match leaf {
+            Leaf::Punct(punct) => {
+                if punct.char == ';' {
+                    MacroAttributes::none()
+                } else {
+                    self
+                }
+            }
+            Leaf::Ident(_) | Leaf::Literal(_) => self,
         }
     }
 
@@ -106,34 +125,95 @@ impl MacroAttributes {
         }
     }
 
-    // Whether other crates find a definition with these attributes.
-    fn is_offered<A: Allocator>(self, defined: MacroDefinition<'_, A>) -> bool
-        ensures { result ≡ is_offered self (macro_definition_shown defined.entry) }
+    // Whether the definition is exported by `#[macro_export]`, and not built into the compiler.
+    fn exports<A: Allocator>(self, defined: MacroDefinition<'_, A>) -> bool
+        ensures { result ≡ exports self (macro_definition_shown defined.entry) }
     {
-        (self.is_exported || defined.is_item()) && !self.is_builtin
+        self.is_exported && !self.is_builtin && !defined.is_item()
     }
 
-    // Returns by what a definition with these attributes is found.
-    fn visibility<A: Allocator>(self, is_top: bool, defined: MacroDefinition<'_, A>) -> Visibility
-        ensures { result ≡ visibility_of is_top self (macro_definition_shown defined.entry) }
+    // Returns by what a definition with these attributes at that place is found.
+    fn visibility<A: Allocator>(
+        self,
+        place: TreePlace<'_>,
+        defined: MacroDefinition<'_, A>,
+    ) -> Visibility
+        ensures { result ≡ visibility_of (place_of place.entry) self
+            (macro_definition_shown defined.entry) }
     {
         let name = defined.name.sym.as_str();
-        if self.is_offered(defined) {
+        if self.exports(defined) || (place.is_item && defined.is_item() && !self.is_builtin) {
             Visibility::Crates
-        } else if is_imported_in(name, defined.rest) {
+        } else if place.is_item && is_imported_in(name, defined.rest) {
             Visibility::Paths
-        } else if is_top {
+        } else if place.is_top {
             Visibility::Files
         } else {
             Visibility::Text
         }
     }
 
-    // Whether definitions in a group with these attributes are as visible as those around it.
-    fn is_open(self, is_top: bool) -> bool
-        ensures { result ≡ (is_top && self.is_used) }
+    // Returns the name of the module in which paths find the definition. `#[macro_export]` puts it
+    // at the root of its crate.
+    fn parent<'n, A: Allocator>(
+        self,
+        place: TreePlace<'n>,
+        defined: MacroDefinition<'_, A>,
+    ) -> &'n str
+        ensures { result.now ≡ parent_of (place_of place.entry) self
+            (macro_definition_shown defined.entry) }
     {
-        is_top && self.is_used
+        if self.exports(defined) {
+            ""
+        } else {
+            place.parent
+        }
+    }
+}
+
+// Where trees are.
+#[derive(Clone, Copy, Drop)]
+pub(crate) struct TreePlace<'n> {
+    // The name of the innermost module around them; empty at the root of a crate.
+    parent: &'n str,
+    // Whether the only groups around them are modules under `#[macro_use]`.
+    is_top: bool,
+    // Whether the only groups around them are modules.
+    is_item: bool,
+}
+
+impl<'n> TreePlace<'n> {
+    // Returns the place of the trees of a root.
+    fn root() -> TreePlace<'static>
+        ensures { place_of result ≡ root_place true }
+    {
+        TreePlace {
+            parent: "",
+            is_top: true,
+            is_item: true,
+        }
+    }
+
+    // Returns the place of what is in a group other than a module's.
+    fn in_group(self) -> TreePlace<'n>
+        ensures { place_of result ≡ in_group (place_of self.entry) }
+    {
+        TreePlace {
+            is_top: false,
+            is_item: false,
+            ..self
+        }
+    }
+
+    // Returns the place of what is in a module of that name.
+    fn in_module(self, name: &'n str, is_used: bool) -> TreePlace<'n>
+        ensures { place_of result ≡ in_module name.now is_used (place_of self.entry) }
+    {
+        TreePlace {
+            parent: name,
+            is_top: self.is_top && is_used,
+            is_item: self.is_item,
+        }
     }
 }
 
@@ -153,8 +233,8 @@ impl<A: Allocator + Copy> FileExpander<'_, A> {
             ++ all_noted (drop (length (state_of self.old).scope.definitions)
             (state_of self.new).scope.definitions)) }
     {
-        let (first, is_top) = (self.scope.count(), true);
-        self.define_in(tokens, is_top, LEVELS)?;
+        let first = self.scope.count();
+        self.define_root(tokens)?;
         self.note_definitions(first)
     }
 
@@ -190,7 +270,9 @@ impl<A: Allocator + Copy> FileExpander<'_, A> {
         ensures notes { OnOk result (self.new.notes.items ≡ self.old.notes.items) }
     {
         let first = self.scope.count();
-        self.define_in(tokens, true, LEVELS)?;
+        let declared = self.scope.declared_count();
+        self.define_root(tokens)?;
+        self.scope.forget_declared(declared);
         self.scope.close_crate(name, first)
     }
 
@@ -208,16 +290,29 @@ impl<A: Allocator + Copy> FileExpander<'_, A> {
         self.scope.link(exports, rounds)
     }
 
-    // Reads the definitions among trees. `is_top` says whether the trees are in no group.
+    // Reads the definitions among the trees of a root.
+    fn define_root(&mut self, tokens: TokenTreesView<'_, A>) -> Result<(), AllocError>
+        ensures defines { OnOk result (Defines (setting_of self.old).edition (suc LEVELS) true
+            (trees tokens.entry) (scope_of self.old.scope) (scope_of self.new.scope)) }
+        ensures fuel { OnOk result (self.new.fuel ≡ self.old.fuel) }
+        ensures contexts { OnOk result (self.new.contexts.items ≡ self.old.contexts.items) }
+        ensures setting { OnOk result (setting_of self.new ≡ setting_of self.old) }
+        ensures notes { OnOk result (self.new.notes.items ≡ self.old.notes.items) }
+    {
+        self.define_in(tokens, TreePlace::root(), LEVELS)
+    }
+
+    // Reads the definitions among trees at that place.
     #[cycle(defining)]
     fn define_in(
         &mut self,
         tokens: TokenTreesView<'_, A>,
-        is_top: bool,
+        place: TreePlace<'_>,
         levels: u32,
     ) -> Result<(), AllocError>
-        ensures defines { OnOk result (Defines (setting_of self.old).edition (suc levels) is_top
-            (trees tokens.entry) (scope_of self.old.scope) (scope_of self.new.scope)) }
+        ensures defines { OnOk result (DefinesIn (setting_of self.old).edition (suc levels)
+            (place_of place.entry) (trees tokens.entry)
+            (scope_of self.old.scope) (scope_of self.new.scope)) }
         ensures fuel { OnOk result (self.new.fuel ≡ self.old.fuel) }
         ensures contexts { OnOk result (self.new.contexts.items ≡ self.old.contexts.items) }
         ensures setting { OnOk result (setting_of self.new ≡ setting_of self.old) }
@@ -231,43 +326,73 @@ impl<A: Allocator + Copy> FileExpander<'_, A> {
                 FrontItem::Definition(defined) => {
                     let _number = self.read_silently(
                         defined,
-                        attributes.visibility(is_top, defined),
+                        attributes.visibility(place, defined),
+                        attributes.parent(place, defined),
                     )?;
                     attributes = attributes.after_definition();
                     rest = defined.rest;
                 }
                 FrontItem::MacroCall(call) => rest = call.rest,
-                FrontItem::Tree(tree, after) => {
-                    attributes = attributes.with_front_attribute(rest);
-                    let is_open = attributes.is_open(is_top);
-                    attributes = attributes.after(&tree);
-                    self.define_tree(tree, is_open, levels)?;
-                    rest = after;
-                }
+                FrontItem::Tree(tree, after) => match module_at(rest) {
+                    Some(item) => {
+                        self.define_module(item, place, attributes.is_used, levels)?;
+                        attributes = MacroAttributes::none();
+                        rest = item.rest;
+                    }
+                    None => {
+                        attributes = attributes.with_front_attribute(rest).after(&tree);
+                        self.define_tree(rest, tree, place, levels)?;
+                        rest = after;
+                    }
+                },
             }
         }
     }
 
-    // Reads the definitions in a tree.
+    // Reads the definitions in a module.
+    #[cycle(defining)]
+    fn define_module(
+        &mut self,
+        item: ModuleItem<'_, A>,
+        place: TreePlace<'_>,
+        is_used: bool,
+        levels: u32,
+    ) -> Result<(), AllocError>
+        ensures defines { OnOk result (DefinesModule
+            (DefinesIn (setting_of self.old).edition levels) (place_of place.entry) is_used
+            (module_shown item.entry) (scope_of self.old.scope) (scope_of self.new.scope)) }
+        ensures fuel { OnOk result (self.new.fuel ≡ self.old.fuel) }
+        ensures contexts { OnOk result (self.new.contexts.items ≡ self.old.contexts.items) }
+        ensures setting { OnOk result (setting_of self.new ≡ setting_of self.old) }
+        ensures notes { OnOk result (self.new.notes.items ≡ self.old.notes.items) }
+    {
+        let name = item.name.sym.as_str();
+        self.scope.declare_module(name)?;
+        self.define_inside(item.inside, place.in_module(name, is_used), levels)
+    }
+
+    // Reads the definitions in the tree at the front, and what a `use` there declares.
     #[cycle(defining)]
     fn define_tree(
         &mut self,
+        tokens: TokenTreesView<'_, A>,
         tree: TtElement<'_, A>,
-        is_top: bool,
+        place: TreePlace<'_>,
         levels: u32,
     ) -> Result<(), AllocError>
         ensures defines { OnOk result (DefinesTree
-            (Defines (setting_of self.old).edition levels) is_top (element_tree tree.entry)
-            (scope_of self.old.scope) (scope_of self.new.scope)) }
+            (DefinesIn (setting_of self.old).edition levels) (place_of place.entry)
+            (element_tree tree.entry) (scope_of self.old.scope) (scope_of self.new.scope)) }
         ensures fuel { OnOk result (self.new.fuel ≡ self.old.fuel) }
         ensures contexts { OnOk result (self.new.contexts.items ≡ self.old.contexts.items) }
         ensures setting { OnOk result (setting_of self.new ≡ setting_of self.old) }
         ensures notes { OnOk result (self.new.notes.items ≡ self.old.notes.items) }
     {
         let TtElement::Subtree(_group, inside) = tree else {
-            return Ok(());
+            let names = names_of_use(self.alloc, tokens)?;
+            return self.scope.declare_all(names);
         };
-        self.define_inside(inside.remaining(), is_top, levels)
+        self.define_inside(inside.remaining(), place.in_group(), levels)
     }
 
     // Reads the definitions in a group, unless it is nested too deep.
@@ -275,11 +400,12 @@ impl<A: Allocator + Copy> FileExpander<'_, A> {
     fn define_inside(
         &mut self,
         tokens: TokenTreesView<'_, A>,
-        is_top: bool,
+        place: TreePlace<'_>,
         levels: u32,
     ) -> Result<(), AllocError>
-        ensures defines { OnOk result (Defines (setting_of self.old).edition levels is_top
-            (trees tokens.entry) (scope_of self.old.scope) (scope_of self.new.scope)) }
+        ensures defines { OnOk result (DefinesIn (setting_of self.old).edition levels
+            (place_of place.entry) (trees tokens.entry)
+            (scope_of self.old.scope) (scope_of self.new.scope)) }
         ensures fuel { OnOk result (self.new.fuel ≡ self.old.fuel) }
         ensures contexts { OnOk result (self.new.contexts.items ≡ self.old.contexts.items) }
         ensures setting { OnOk result (setting_of self.new ≡ setting_of self.old) }
@@ -288,6 +414,6 @@ impl<A: Allocator + Copy> FileExpander<'_, A> {
         if levels == 0 {
             return Ok(());
         }
-        self.define_in(tokens, is_top, levels - 1)
+        self.define_in(tokens, place, levels - 1)
     }
 }

@@ -16,9 +16,11 @@ ghost use Rattle.mbe_session.specs.Adjustment as spec;
 ghost use Rattle.mbe_session.specs.CfgFront.{EndsIn, EndsInCall};
 ghost use Rattle.mbe_session.specs.SessionViews.{setting_of, state_of};
 
+use crate::adjustment::place::{
+    Place, Preceding, place_after_call, place_after_tree, place_in_arguments, place_in_group,
+};
 use crate::adjustment::{
-    Preceding, adjustment_of, from_last, preceding_after_call, preceding_after_tree,
-    preceding_expansion, preceding_in_group, rest_after, semicolon, trimmed, up_to,
+    adjustment_of, from_last, place_of_expansion, rest_after, semicolon, trimmed, up_to,
 };
 use crate::cfg_front::{CfgFront, cfg_front};
 use crate::file_expander::FileExpander;
@@ -31,13 +33,13 @@ use mbe_tt::tt::{
 use std::alloc::{AllocError, Allocator};
 
 impl<A: Allocator + Copy> FileExpander<'_, A> {
-    // Writes trees with their calls expanded, where `last` precedes them.
+    // Writes trees with their calls expanded. The first of them is at `place`.
     #[cycle(writing)]
     pub(crate) fn write(
         &mut self,
         builder: &mut TopSubtreeBuilder<A>,
         tokens: TokenTreesView<'_, A>,
-        last: Preceding,
+        place: Place,
         depth: u32,
         levels: u32,
     ) -> Result<(), AllocError>
@@ -49,7 +51,7 @@ impl<A: Allocator + Copy> FileExpander<'_, A> {
         ensures setting { OnOk result (setting_of self.new ≡ setting_of self.old) }
     {
         let mut rest = tokens;
-        let mut last = last;
+        let mut place = place;
         'trees: loop {
             let piece = cfg_front(&self.grammar, &self.conditions, rest)?;
             match piece {
@@ -61,16 +63,16 @@ impl<A: Allocator + Copy> FileExpander<'_, A> {
                 CfgFront::Definition(defined) => {
                     self.write_definition(builder, rest, defined)?;
                     rest = defined.rest;
-                    last = Preceding::Statement;
+                    place = place.after(Preceding::Statement);
                 }
                 CfgFront::MacroCall(call) => {
-                    rest = self.write_call(builder, rest, call, last, depth, levels)?;
-                    last = preceding_after_call(call, rest);
+                    rest = self.write_call(builder, rest, call, place, depth, levels)?;
+                    place = place_after_call(call, rest, place);
                 }
                 CfgFront::Tree(tree, after) => {
                     self.note_attribute(rest)?;
                     self.write_tree(builder, tree, depth, levels)?;
-                    last = preceding_after_tree(rest, last);
+                    place = place_after_tree(rest, place);
                     rest = after;
                 }
             }
@@ -116,7 +118,15 @@ impl<A: Allocator + Copy> FileExpander<'_, A> {
         match tree {
             TtElement::Leaf(leaf) => builder.push(leaf.clone()?),
             TtElement::Subtree(group, inside) => {
-                self.write_group(builder, group.delimiter, inside.remaining(), depth, levels)
+                let place = place_in_group(group.delimiter.kind);
+                self.write_group(
+                    builder,
+                    group.delimiter,
+                    inside.remaining(),
+                    place,
+                    depth,
+                    levels,
+                )
             }
         }
     }
@@ -128,6 +138,7 @@ impl<A: Allocator + Copy> FileExpander<'_, A> {
         builder: &mut TopSubtreeBuilder<A>,
         delimiter: Delimiter,
         inside: TokenTreesView<'_, A>,
+        place: Place,
         depth: u32,
         levels: u32,
     ) -> Result<(), AllocError>
@@ -140,13 +151,7 @@ impl<A: Allocator + Copy> FileExpander<'_, A> {
     {
         let mark = self.scope.enter();
         builder.open(delimiter.kind, delimiter.opening)?;
-        self.write_inside(
-            builder,
-            inside,
-            preceding_in_group(delimiter.kind),
-            depth,
-            levels,
-        )?;
+        self.write_inside(builder, inside, place, depth, levels)?;
         builder.close(delimiter.close);
         self.leave(delimiter.kind, mark);
         Ok(())
@@ -158,7 +163,7 @@ impl<A: Allocator + Copy> FileExpander<'_, A> {
         &mut self,
         builder: &mut TopSubtreeBuilder<A>,
         tokens: TokenTreesView<'_, A>,
-        last: Preceding,
+        place: Place,
         depth: u32,
         levels: u32,
     ) -> Result<(), AllocError>
@@ -172,7 +177,7 @@ impl<A: Allocator + Copy> FileExpander<'_, A> {
         if levels == 0 {
             return builder.extend_with_tt(tokens);
         }
-        self.write(builder, tokens, last, depth, levels - 1)
+        self.write(builder, tokens, place, depth, levels - 1)
     }
 
     // Writes what a call becomes, and returns what is left after it.
@@ -182,7 +187,7 @@ impl<A: Allocator + Copy> FileExpander<'_, A> {
         builder: &mut TopSubtreeBuilder<A>,
         tokens: TokenTreesView<'t, A>,
         call: MacroCall<'t, A>,
-        last: Preceding,
+        place: Place,
         depth: u32,
         levels: u32,
     ) -> Result<TokenTreesView<'t, A>, AllocError>
@@ -196,7 +201,7 @@ impl<A: Allocator + Copy> FileExpander<'_, A> {
         ensures setting { OnOk result (setting_of self.new ≡ setting_of self.old) }
     {
         match self.expansion(call, depth, levels)? {
-            Some(tree) => { self.write_expansion(builder, &tree, call, last, depth - 1, levels) }
+            Some(tree) => { self.write_expansion(builder, &tree, call, place, depth - 1, levels) }
             None => {
                 self.write_kept(builder, tokens, call, depth, levels)?;
                 Ok(call.rest)
@@ -228,7 +233,15 @@ impl<A: Allocator + Copy> FileExpander<'_, A> {
             return copy_call(builder, tokens, call);
         }
         copy_head(builder, tokens, call)?;
-        self.write_group(builder, call.group.delimiter, call.argument, depth, levels)
+        let place = place_in_arguments();
+        self.write_group(
+            builder,
+            call.group.delimiter,
+            call.argument,
+            place,
+            depth,
+            levels,
+        )
     }
 
     // Writes an expansion in place of its call, and returns what is left after that.
@@ -238,7 +251,7 @@ impl<A: Allocator + Copy> FileExpander<'_, A> {
         builder: &mut TopSubtreeBuilder<A>,
         tree: &TopSubtree<A>,
         call: MacroCall<'t, A>,
-        last: Preceding,
+        place: Place,
         depth: u32,
         levels: u32,
     ) -> Result<TokenTreesView<'t, A>, AllocError>
@@ -251,9 +264,10 @@ impl<A: Allocator + Copy> FileExpander<'_, A> {
         ensures setting { OnOk result (setting_of self.new ≡ setting_of self.old) }
     {
         let delimiter = call.group.delimiter;
-        let here = preceding_expansion(call, last);
-        let part = trimmed(tree.iter().remaining(), here);
-        let adjustment = adjustment_of(self.alloc, &self.grammar, part, call, last)?;
+        let whole = tree.iter().remaining();
+        let here = place_of_expansion(&self.grammar, whole, call, place)?;
+        let part = trimmed(whole, here.last);
+        let adjustment = adjustment_of(self.alloc, &self.grammar, part, call, place, here)?;
         self.write_wrapped(
             builder,
             delimiter,
@@ -275,7 +289,7 @@ impl<A: Allocator + Copy> FileExpander<'_, A> {
         delimiter: Delimiter,
         wrap: Option<DelimiterKind>,
         tokens: TokenTreesView<'_, A>,
-        last: Preceding,
+        place: Place,
         depth: u32,
         levels: u32,
     ) -> Result<(), AllocError>
@@ -288,10 +302,10 @@ impl<A: Allocator + Copy> FileExpander<'_, A> {
         ensures setting { OnOk result (setting_of self.new ≡ setting_of self.old) }
     {
         let Some(kind) = wrap else {
-            return self.write_inside(builder, tokens, last, depth, levels);
+            return self.write_inside(builder, tokens, place, depth, levels);
         };
         builder.open(kind, delimiter.opening)?;
-        self.write_inside(builder, tokens, preceding_in_group(kind), depth, levels)?;
+        self.write_inside(builder, tokens, place_in_group(kind), depth, levels)?;
         builder.close(delimiter.close);
         Ok(())
     }

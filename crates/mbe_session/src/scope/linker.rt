@@ -19,6 +19,7 @@ impl<A: Allocator + Copy> Definition<A> {
         let mut contexts = Vec::new(alloc);
         contexts.extend_from_slice(self.contexts.as_slice())?;
         Ok(Definition {
+            parent: String::from_str(alloc, self.parent.as_str())?,
             name: String::from_str(alloc, name)?,
             rules: self.rules.try_clone(alloc)?,
             contexts,
@@ -143,7 +144,8 @@ impl<A: Allocator + Copy> Scope<A> {
     // nothing.
     fn link_export(&mut self, is_all: bool, export: &Export<A>) -> Result<(), AllocError>
         ensures linked { OnOk result (let export = export_of export.now in scope_of self.new
-            ≡ spec.exported is_all export.by export.from export.exported_macros (scope_of self.old)) }
+            ≡ spec.exported is_all export.by export.from export.exported_macros
+            (scope_of self.old)) }
         ensures edition { OnOk result (self.new.edition ≡ self.old.edition) }
     {
         let (by, from) = (export.by.as_str(), export.from.as_str());

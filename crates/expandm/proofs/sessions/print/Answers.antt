@@ -11,7 +11,7 @@ returns-clause-printed g c some few =
     let session = c.in_ok-session.session in
     let n : c.len-root_count.result ≡ length c.args.options.now.names.items =
     omega (arith, c.len-root_count.ensures, c.args.options.now.names.ok.0) in
-    printed c.args.options.now.edition _ c.args.options.now.depth c.args.options.now.fuel c.args.options.now.call
+    printed c.args.options.now.edition _ _ c.args.options.now.depth c.args.options.now.fuel c.args.options.now.call
     c.print_request-request.result.call c.args.options.now.with_modules c.print_request-request.result.with_modules
     (length c.args.options.now.names.items) c.len-root_count.result (names_of c.args.options.now)
     (map text_of c.args.texts.now) (sources_of session)

@@ -1,14 +1,21 @@
-use Rattle.std.proofs.Common.{rules, ap, length, map, ◌∙◌, ◌+◌, ◌∷◌, []}
+use Rattle.std.proofs.Common.{rules, ap, length, map, ◌∙◌, ◌+◌, ◌∷◌, [], ℕ, List}
+use Rattle.expandm.specs.declared.arguments.RunOptions.{RunOptions}
+use Rattle.expandm.specs.declared.source_settings.SourceSettings.{SourceSettings}
 use Rattle.std.proofs.lemmas.List.{length-append}
 use Rattle.expandm.specs.FileViews.{source_of, text_of}
+use Rattle.expandm.specs.OptionViews.{conditions_of, own_of}
+use Rattle.expandm.specs.CrateSettings.{AreFileSettings}
 use Rattle.expandm.specs.Sources.{source_text}
 use Rattle.expandm.proofs.SessionLemmas.{no_source, one_more_source, one_more_text, same_text}
 use Rattle.expandm.proofs.sessions.sources.Goals as goal
 
+abbrev Reads : {A : Type 0} → RunOptions A → List ℕ → ℕ → SourceSettings → Type 0
+Reads options roots = AreFileSettings options.edition (conditions_of options) (own_of options roots)
+
 pub loop-number-init : goal.loop-number-init
 loop-number-init c = (
   ap (map (λ f. source_text (source_of f))) c.new-files.ensures.items,
-  no_source source_of c.args.source_settings.now c.new-files.result.items c.new-files.ensures.items,
+  no_source source_of (Reads c.args.options.now c.args.roots.now) c.new-files.result.items c.new-files.ensures.items,
   ap length c.new-files.ensures.items,
 )
 
@@ -22,9 +29,10 @@ loop-number-preserved c = (
       (same_text (source_text (source_of c.in_ok-file.file)) (text_of c.index-texts-number.result)
       (c.in_ok-file.ensures.name ∙ c.as_str-name.ensures.value)
       (c.in_ok-file.ensures.text ∙ c.as_str-text.ensures.value)),
-  one_more_source source_of c.args.source_settings.now c.loop-number.files.items c.push.new.self.items c.in_ok-file.file
+  one_more_source source_of (Reads c.args.options.now c.args.roots.now) c.file_settings-source_settings.result
+      c.loop-number.files.items c.push.new.self.items c.in_ok-file.file
       c.in-Ok.at c.loop-number.invariant.1
-      (search rules) c.in_ok-push.ensures.items (search rules),
+      (search rules) c.in_ok-push.ensures.items (search rules) (search rules),
   ap length c.in_ok-push.ensures.items ∙ length-append c.loop-number.files.items (c.in_ok-file.file ∷ [])
       ∙ ap (λ n. n + 1) c.loop-number.invariant.2,
 )

@@ -1,12 +1,11 @@
 use Rattle.std.proofs.Common.{◌≡◌, ◌∙◌, [], ap, sym, subst, arith, length, map}
 use Rattle.std.proofs.lemmas.Simd.{map-map}
-use Rattle.mbe_grammar.specs.Tables.Lawful.{grammar_of}
 use Rattle.mbe_session.specs.SessionViews.{setting_of, state_of}
 use Rattle.expandm.specs.Conditions.{IsUnder}
 use Rattle.expandm.specs.FileViews.{source_of}
 use Rattle.expandm.specs.OptionViews.{conditions_of, names_of}
 use Rattle.expandm.specs.Sources.{source_text}
-use Rattle.expandm.proofs.SessionLemmas.{crates_are, others_are, read_as_asked}
+use Rattle.expandm.proofs.SessionLemmas.{crates_are, others_are}
 use Rattle.expandm.proofs.sessions.Session.begin.Goals as goal
 
 pub load_externs-requires : goal.load_externs-requires
@@ -31,15 +30,14 @@ returns c =
     omega (arith, c.len-root_count.ensures, options.names.ok.0) in
     record {
       texts_are = map-map source_text source_of files ∙ c.in_ok-files.ensures.texts;
-      source_settings = c.source_settings-source_settings.result;
-      are_source_settings = read_as_asked options.edition (conditions_of options) c.rust_rules-grammar.result
-          c.source_settings-source_settings.result c.rust_rules-grammar.ensures.keywords
-          c.rust_rules-grammar.ensures.starts
-          c.rust_rules-grammar.ensures.edition c.source_settings-source_settings.ensures.edition
-          c.source_settings-source_settings.ensures.conditions
-          c.source_settings-source_settings.ensures.grammar;
+      table = c.rust_rules-grammar.result;
+      is_rust = record {
+        keywords = c.rust_rules-grammar.ensures.keywords;
+        starts = c.rust_rules-grammar.ensures.starts;
+        edition_is = c.rust_rules-grammar.ensures.edition;
+      };
       are_read = c.in_ok-files.ensures.read;
-      grammar = ap (λ e. e.grammar) setting ∙ ap grammar_of (sym c.source_settings-source_settings.ensures.grammar);
+      grammar = ap (λ e. e.grammar) setting;
       conditions = subst (IsUnder (conditions_of options)) (sym (ap (λ e. e.conditions) setting)) c.conditions.ensures;
       edition_is = ap (λ e. e.edition) setting ∙ c.settings-settings.ensures.edition;
       limit = c.first_limit.result;
@@ -48,7 +46,7 @@ returns c =
       outside = others_are (setting_of c.new-expander.result).edition options.edition options.with_modules
           (map source_of c.deref-2.result.now) (map source_of files) c.len-root_count.result
           (length options.names.items)
-          (state_of c.new-expander.result).scope (record { definitions = []; visible = []; crates = [] })
+          (state_of c.new-expander.result).scope (record { definitions = []; visible = []; crates = []; declared = [] })
           (state_of c.load_externs.new.expander).scope (map (λ x. x.name.now) c.as_slice-externs.result.now)
           (names_of options) (ap (λ e. e.edition) at_start ∙ c.settings-settings.ensures.edition)
           (ap (map source_of) c.deref-2.ensures.value) n (ap (λ s. s.scope) c.new-expander.ensures.state)

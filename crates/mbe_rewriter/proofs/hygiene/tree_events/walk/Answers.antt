@@ -9,7 +9,7 @@ use Rattle.mbe_rewriter.proofs.hygiene.tree_events.walk.Goals as goal
 
 pub tokens-init : goal.tokens-init
 tokens-init g c =
-    begins _ _ _ _ _ _ (ap (map event_of) c.requires.found) c.requires.open_groups c.start-scan.ensures
+    begins _ _ _ _ _ _ (ap (map event_of) c.requires.found) c.requires.open_groups refl
     c.iter-iter.ensures
 
 pub tokens-preserved-in-Some-Leaf : goal.tokens-preserved-in-Some-Leaf
@@ -39,10 +39,10 @@ tokens-preserved-in-Some-Subtree g c =
 pub tokens-preserved : goal.tokens-preserved
 tokens-preserved g c =
     pop_on (map event_of c.tokens.found.items) (map event_of c.push-in-Some.new.self.items) _ c.tokens.scan
-    c.in-Some.after c.tokens.iter c.in-Some.rest c.tokens.open_groups.items c.pop.new.self.items c.in-Some.close
-    (search rules)
-    (one_shown event_of c.tokens.found.items c.push-in-Some.new.self.items (code.Close c.in-Some.close) _ (search rules)
-    refl)
+    c.in-Some.after c.tokens.iter c.in-Some.rest c.tokens.open_groups.items c.pop.new.self.items c.in-Some.close.0
+    c.in-Some.close.1 (search rules)
+    (one_shown event_of c.tokens.found.items c.push-in-Some.new.self.items
+    (code.Close c.in-Some.close.0 c.in-Some.close.1) _ (search rules) refl)
     (search rules) c.tokens.invariant
 
 pub returns-in-None-pop : goal.returns-in-None-pop

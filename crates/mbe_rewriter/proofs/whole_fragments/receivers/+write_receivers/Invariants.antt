@@ -10,8 +10,8 @@ decreases-write_receivers g l = l.levels
 
 abbrev pub invariant-trees : goal.invariant-trees
 invariant-trees g l =
-    Left (parenthesize_receivers_in l.fn.levels (trees l.fn.tokens)) l.initial.builder (left_of l.fn.levels l.rest)
-    l.builder
+    Left (parenthesize_receivers_in l.fn.levels l.fn.surroundings (trees l.fn.tokens)) l.initial.builder
+    (left_of l.fn.levels l.fn.surroundings l.prefix l.rest) l.builder
 
 abbrev pub decreases-trees : goal.decreases-trees
 decreases-trees g l = flat_len l.rest

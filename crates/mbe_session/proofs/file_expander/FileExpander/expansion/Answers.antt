@@ -1,6 +1,6 @@
-use Rattle.std.proofs.Common.{rules}
+use Rattle.std.proofs.Common.{◌≡◌, rules, subst, sym}
 use Rattle.mbe_rewriter.specs.MacroItemViews.{call_shown}
-use Rattle.mbe_session.specs.CallExpansion.{not_found, limited}
+use Rattle.mbe_session.specs.CallExpansion.{StaysUnexpanded, not_found, limited}
 use Rattle.mbe_session.specs.SessionViews.{setting_of, state_of}
 use Rattle.mbe_session.proofs.CallLemmas.{not_there, stays_too_deep, tries_as}
 use Rattle.mbe_session.proofs.file_expander.FileExpander.expansion.Goals as goal
@@ -10,7 +10,10 @@ returns-then-levels-eq0-clause-tries g c = stays_too_deep _ _ c.args.depth c.arg
 
 pub returns-then-is_none-clause-tries : goal.returns-then-is_none-clause-tries
 returns-then-is_none-clause-tries g c =
-    not_found c.args.levels (not_there _ c.rules.result _ c.rules.ensures (search rules))
+    let same : state_of c.note_unresolved.new.self ≡ state_of c.args.self.now = search rules in
+    subst (StaysUnexpanded (setting_of c.args.self.now) (call_shown c.args.call) c.args.depth
+    (state_of c.args.self.now) c.args.levels) (sym same)
+    (not_found c.args.levels (not_there _ c.rules.result _ c.rules.ensures (search rules)))
 
 pub returns-then-not-branch-clause-tries : goal.returns-then-not-branch-clause-tries
 returns-then-not-branch-clause-tries g c = limited c.args.levels _ (search rules)

@@ -6,7 +6,7 @@ use Rattle.mbe_session.proofs.scope.Scope.last_found.Given as goal
 
 abbrev pub invariant-numbers : goal.invariant-numbers
 invariant-numbers g l =
-    last_below (λ n. is_admitted (scope_of l.self).crates (crate_filter_shown l.crate_filter) n
+    last_below (λ n. is_admitted (scope_of l.self) (crate_filter_shown l.crate_filter) n
     && is_found l.name l.asked (definition_at (scope_of l.self) n)) l.left
     ≡ last_found (crate_filter_shown l.crate_filter) (scope_of l.self) l.asked l.name
 

@@ -1,0 +1,5 @@
+use Rattle.std.proofs.Common.{arith}
+use Rattle.mbe_rewriter.proofs.hygiene.local_names.is_met.Goals as goal
+
+pub offset_bounds-words-word-index : goal.offset_bounds-words-word-index
+offset_bounds-words-word-index g c = let k = c.loop-word-test.true in omega (arith, k)

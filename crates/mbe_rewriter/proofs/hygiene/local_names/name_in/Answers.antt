@@ -1,5 +1,0 @@
-use Rattle.std.proofs.Common.{arith}
-use Rattle.mbe_rewriter.proofs.hygiene.local_names.name_in.Goals as goal
-
-pub offset_bounds-given-one-index : goal.offset_bounds-given-one-index
-offset_bounds-given-one-index g c = let k = c.loop-one-test.true in omega (arith, k)

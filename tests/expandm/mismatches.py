@@ -1,0 +1,72 @@
+"""Calls that no rule matches: the message and its place, which are those of rustc 1.95. `expandm` adds the name of the macro."""
+from expandm import defined, objects
+
+# Rules; an argument with `§` before the token at fault, or at the end where that is the closing; rustc's message.
+ROWS = (
+    # The furthest token that a rule reaches.
+    ("(a b c) => {}; (a d) => {}", "a b §e", "no rules expected `e`"),
+    ("(a d) => {}; (a b c) => {}", "a b §e", "no rules expected `e`"),
+    ("($x:ident $y:ident) => {}; ($x:ident) => {}", "a §1", "no rules expected `1`"),
+    ("($x:ident) => {}; (a b) => {}", "a b §c", "no rules expected `c`"),
+    ("(a) => {}", "a §a", "no rules expected `a`"),
+    ("($($x:ident),*) => {}", "a, b §c", "no rules expected `c`"),
+    ("($e:expr, b) => {}", "1 + 2§; b", "no rules expected `;`"),
+    ("($e:expr) => {}", "§+", "no rules expected `+`"),
+    ("($l:literal) => {}", "§x", "no rules expected `x`"),
+    ("(#[$m:meta]) => {}", "#[a] §b", "no rules expected `b`"),
+    # Tokens of each kind.
+    ("(a) => {}", '§"s"', 'no rules expected `"s"`'),
+    ("(a) => {}", "§1u8", "no rules expected `1u8`"),
+    ("(a) => {}", "§r#fn", "no rules expected `r#fn`"),
+    ("(a) => {}", "§'x", "no rules expected `'x`"),
+    ("(a => b) => {}", "a §-> b", "no rules expected `->`"),
+    ("(a..=b) => {}", "a§..b", "no rules expected `..`"),
+    ("(a) => {}", "§<<= b", "no rules expected `<<=`"),
+    # Groups: an opening, a closing, and a token inside.
+    ("(a) => {}", "§(a)", "no rules expected `(`"),
+    ("(a [b c]) => {}", "a [b§]", "no rules expected `]`"),
+    ("(a {b}) => {}", "a {§}", "no rules expected `}`"),
+    ("([a]) => {}", "[§b]", "no rules expected `b`"),
+    ("(a [b [c] d] e) => {}", "a [b [c] §f] e", "no rules expected `f`"),
+    # The end of the call.
+    ("(a b) => {}", "a§", "unexpected end of macro invocation"),
+    ("($i:ident, $($j:ident),+) => {}", "a,§", "unexpected end of macro invocation"),
+    # More than one way. A later rule doesn't count.
+    ("($(a)? $(a)?) => {}", "§a", "ambiguity: multiple successful parses"),
+    ("(a b) => {}; ($(a)? $(a)?) => {}", "§a", "ambiguity: multiple successful parses"),
+)
+
+# Rules, and an argument with `§` as above, on which rustc says "local ambiguity when calling macro `m`: multiple parsing options", and lists them.
+AMBIGUOUS = (
+    ("($($a:ident)* $b:ident) => {}", "§x y"),
+    ("(a $($x:ident)* as) => {}", "a b §as"),
+    ("(a b) => {}; ($($a:ident)* $b:ident) => {}", "§a"),
+)
+
+# Rules; without an argument, rustc marks the call from its name on.
+EMPTY = ("(a) => {}", "($t:tt) => {}", "(a) => {}; (b c) => {}")
+
+
+def place_and_message(program, rules, argument):
+    """Line, column and message of the one error of a call in the second line."""
+    err = program.run(["--json", "a.rs"], {"a.rs": defined(f"m {{ {rules} }}", f"m!({argument});")}).err
+    return [(it["spans"][0]["line_start"], it["spans"][0]["column_start"], it["level"], it["message"]) for it in objects(err)]
+
+
+def check_place(program, row, rules, argument, message):
+    column = len("m!(") + argument.index("§") + 1
+    found = place_and_message(program, rules, argument.replace("§", ""))
+    program.check("mismatches", row, found, [(2, column, "error", message)])
+
+
+def test(program):
+    for row in ROWS:
+        rules, argument, message = row
+        check_place(program, row, rules, argument, f"{message} in the call of `m!`")
+    for row in AMBIGUOUS:
+        rules, argument = row
+        check_place(program, row, rules, argument, "local ambiguity when calling macro `m`: multiple parsing options")
+    for rules in EMPTY:
+        found = place_and_message(program, rules, "")
+        message = "unexpected end of macro invocation in the call of `m!`"
+        program.check("mismatches.EMPTY", rules, found, [(2, 1, "error", message)])

@@ -1,0 +1,141 @@
+"""Which definition a call resolves to, and what is noted where that isn't certain. What a call becomes is what rustc 1.95 makes of it."""
+import re
+
+from expandm import files_of
+
+HERE = "`{}!` is defined here"
+UNSURE = "cannot tell which macro `{}` is"
+UNFOUND = "cannot find macro `{}` in this scope"
+
+ONE = "macro_rules! m { () => { 1 } }"
+TWO = "macro_rules! m { () => { 2 } }"
+IN_A = "mod a { macro_rules! m { () => { 1 } } pub(crate) use m; }"
+IN_B = "mod b { macro_rules! m { () => { 2 } } pub(crate) use m; }"
+
+# Words, of which the last is the first file; files, each `PATH: TEXT` with a `|` between them; what that file becomes, where `..` is its
+# text up to the last line; and the notes, each by its place and its message, and a name for the message's `{}`.
+ROWS = (
+    # A path of two names: the module that it names decides.
+    ("a.rs", f"a.rs: {IN_A}\n{IN_B}\nx = [a::m!(), b::m!()];", "..x = [1, 2];", ()),
+    ("a.rs", f"a.rs: {IN_A}\n#[macro_export] {TWO}\nx = [a::m!(), crate::m!()];", "..x = [1, 2];", ()),
+    ("a.rs", f"a.rs: {IN_A}\nmod b {{ #[macro_export] {TWO} }}\nx = [a::m!(), crate::m!()];", "..x = [1, 2];", ()),
+    (
+        "src/lib.rs",
+        f"src/lib.rs: mod a; mod b;\nx = [a::m!(), b::m!()];|src/a.rs: {ONE} pub(crate) use m;|src/b.rs: {TWO} pub(crate) use m;",
+        "..x = [1, 2];", (),
+    ),
+    # A path of more names, or by `self` or `super`: it must be the only definition of its name.
+    (
+        "a.rs", f"a.rs: {IN_A}\nx = [crate::a::m!(), self::a::m!(), a :: m!()]; mod b {{ x = super::a::m!(); }}",
+        "..x = [1, 1, 1]; mod b { x = 1; }", (),
+    ),
+    (
+        "a.rs", f"a.rs: {IN_A}\n{IN_B}\nx = crate::a::m!();", "..x = crate::a::m!();",
+        (("3:15", UNSURE, "m"), ("2:22", HERE, "m"), ("1:22", HERE, "m")),
+    ),
+    (
+        "a.rs", f"a.rs: {IN_A}\n{IN_B}\nx = self::b::m!();", "..x = self::b::m!();",
+        (("3:14", UNSURE, "m"), ("2:22", HERE, "m"), ("1:22", HERE, "m")),
+    ),
+    # Two modules of one name.
+    (
+        "a.rs", f"a.rs: {IN_A}\nmod c {{ {IN_A} }}\nx = a::m!();", "..x = a::m!();",
+        (("3:8", UNSURE, "m"), ("2:30", HERE, "m"), ("1:22", HERE, "m")),
+    ),
+    # The path of another crate is none of these files'.
+    ("a.rs", f"a.rs: #[macro_export] {ONE}\nx = log::m!();", "..x = log::m!();", ()),
+    ("a.rs", "a.rs: #[macro_export] macro_rules! vec { () => { 1 } }\nx = std::vec![];", "..x = std::vec![];", ()),
+    ("a.rs", f"a.rs: {IN_A}\nx = ::a::m!();", "..x = ::a::m!();", (("2:10", UNSURE, "m"), ("1:22", HERE, "m"))),
+    # A `use` that may name another crate's macro.
+    (
+        "a.rs", f"a.rs: {IN_A}\nuse log::m;\nx = m!();", "..x = m!();",
+        (("3:5", UNSURE, "m"), ("1:22", HERE, "m")),
+    ),
+    (
+        "a.rs", f"a.rs: {IN_A}\nuse log::{{n as m, o}};\nx = m!();", "..x = m!();",
+        (("3:5", UNSURE, "m"), ("1:22", HERE, "m")),
+    ),
+    ("a.rs", f"a.rs: {IN_A}\nuse a::m;\nx = m!();", "..x = 1;", ()),
+    ("a.rs", f"a.rs: {IN_A}\nuse crate::{{a::{{m}}, c}};\nx = m!();", "..x = 1;", ()),
+    (
+        "a.rs", f"a.rs: {IN_A}\n{IN_B}\nuse a::m; x = m!();", "..use a::m; x = m!();",
+        (("3:15", UNSURE, "m"), ("2:22", HERE, "m"), ("1:22", HERE, "m")),
+    ),
+    # A definition is imported by the `use` before the next one of its name.
+    ("a.rs", f"a.rs: mod a {{ {ONE} {TWO} pub(crate) use m; }}\nx = a::m!();", "..x = 2;", ()),
+    ("a.rs", f"a.rs: mod a {{ {ONE} pub(crate) use m; {TWO} }}\nx = a::m!();", "..x = 1;", ()),
+    # Names of the standard library.
+    (
+        "a.rs", "a.rs: fn f() { vec![1] }\nmacro_rules! vec { ($x:tt) => { 2 } } x = vec![1];",
+        "..macro_rules! vec { ($x:tt) => { 2 } } x = 2;", (),
+    ),
+    (
+        "a.rs", "a.rs: mod a { macro_rules! vec { () => { 2 } } pub(crate) use vec; }\nx = [vec![], a::vec![]];",
+        "..x = [vec![], 2];", (),
+    ),
+    (
+        "a.rs", "a.rs: mod a { macro_rules! println { ($e:expr) => { $e } } pub(crate) use println as q; }\nx = println!(1);",
+        "..x = println!(1);", (),
+    ),
+    (
+        "a.rs", "a.rs: mod a { macro_rules! vec { () => { 2 } } pub(crate) use vec; }\nuse a::vec; x = vec![];",
+        "..use a::vec; x = vec![];", (("2:17", UNSURE, "vec"), ("1:22", HERE, "vec")),
+    ),
+    # Out of textual scope.
+    ("a.rs", f"a.rs: x = m!();\n{ONE}", f"x = m!();\n{ONE}", (("1:5", UNFOUND, "m"), ("2:14", HERE, "m"))),
+    ("a.rs", f"a.rs: mod a {{ {ONE} }}\nx = m!();", "..x = m!();", (("2:5", UNFOUND, "m"), ("1:22", HERE, "m"))),
+    ("a.rs", f"a.rs: fn f() {{ {ONE} }}\nx = m!();", "..x = m!();", (("2:5", UNFOUND, "m"), ("1:23", HERE, "m"))),
+    (
+        "a.rs", f"a.rs: #[macro_use] extern crate core;\nmod a {{ {ONE} }}\nx = m!();", "..x = m!();",
+        (("3:5", UNFOUND, "m"), ("2:22", HERE, "m")),
+    ),
+    # A definition in a block has no path.
+    (
+        "a.rs", f"a.rs: fn f() {{ macro m() {{ 1 }} }}\n{IN_B}\nx = crate::b::m!();", "..x = 2;", (),
+    ),
+    ("a.rs", f"a.rs: {IN_B}\nfn f() {{ {ONE} use m; x = m!() + crate::b::m!(); }}", f"..fn f() {{ {ONE} use m; x = 1 + 2; }}", ()),
+    # A file that is given before another one offers what is in no group.
+    ("b.rs a.rs", f"a.rs: x = m!();|b.rs: {ONE}", "x = 1;", ()),
+    ("b.rs a.rs", f"a.rs: x = vec![];|b.rs: macro_rules! vec {{ () => {{ 1 }} }}", "x = vec![];", ()),
+)
+
+
+# What docs/EXPANDM.md shows: a file, its last line as it becomes, and the messages.
+DOCUMENTED = """\
+mod a { macro_rules! m { () => { 1 } } pub(crate) use m; }
+mod b { macro_rules! m { () => { 2 } } pub(crate) use m; }
+const A: [u8; 3] = [a::m!(), b::m!(), crate::a::m!()];
+"""
+DOCUMENTED_LINE = "const A: [u8; 3] = [1, 2, crate::a::m!()];\n"
+DOCUMENTED_NOTES = """\
+a.rs:3:49: note: cannot tell which macro `m` is
+a.rs:2:22: note: `m!` is defined here
+a.rs:1:22: note: `m!` is defined here
+"""
+
+
+def test_documented(program):
+    """The example of docs/EXPANDM.md."""
+    ran = program.run(["a.rs"], {"a.rs": DOCUMENTED})
+    notes = "".join(f"{line}\n" for line in ran.err.split("\n") if re.match(r"a\.rs:\d", line))
+    want = DOCUMENTED[: DOCUMENTED.index("const A")] + DOCUMENTED_LINE
+    program.check("resolved.DOCUMENTED", "a.rs", (ran.status, ran.out, notes), (0, want, DOCUMENTED_NOTES))
+
+
+def becomes(text, want):
+    """What a file becomes: what the row says, where `..` is the text up to the last line."""
+    if want.startswith(".."):
+        return text[: text.rindex("\n") + 1] + want[2:]
+    return want
+
+
+def test(program):
+    test_documented(program)
+    for row in ROWS:
+        words, texts, want, notes = row
+        files = files_of(texts)
+        first = words.split()[-1]
+        ran = program.run(words.split(), files)
+        said = re.findall(r"^\S+?:(\d+:\d+): (?:error|note): (.*)$", ran.err, re.M)
+        wanted = [(place, message.format(name)) for place, message, name in notes]
+        program.check("resolved.ROWS", row, (ran.status, ran.out, said), (0, becomes(files[first], want), wanted))
