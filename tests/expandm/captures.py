@@ -155,8 +155,8 @@ RENAMED = (
         "y = m!(a);",
         "y = match b {\n    Some(a_1) => a_1, _ => a\n};",
     ),
-    ("m { ($x:expr) => { for (a, b) in c { $x } } }", "m!(f(b));", "for (a, b_1) in c {\n    (f(b))\n};"),
-    ("m { ($x:expr) => { if let Some(a) = $x { a } } }", "m!(a.b);", "if let Some(a_1) = (a.b) {\n    a_1\n};"),
+    ("m { ($x:expr) => { for (a, b) in c { $x } } }", "m!(f(b));", "for (a, b_1) in c {\n    f(b)\n};"),
+    ("m { ($x:expr) => { if let Some(a) = $x { a } } }", "m!(a.b);", "if let Some(a_1) = a.b {\n    a_1\n};"),
     (
         "m { ($n:ident) => { macro_rules! $n { ($x:expr) => {{ let a = $x; a }} } } }",
         "m!(n); y = n!(a);",
@@ -233,8 +233,8 @@ RENAMED = (
     (
         "m { ($x:expr) => {{ macro_rules! n { () => { $x } } let a = 1; n!() + a }} }",
         "y = m!((|a: u8| a)(a));",
-        "y = {\n    macro_rules! n {\n        () => {\n            ((|a: u8| a)(a))\n        }\n    }\n"
-        "    let a_1 = 1;\n    ((|a: u8| a)(a)) + a_1\n};",
+        "y = {\n    macro_rules! n {\n        () => {\n            (|a: u8| a)(a)\n        }\n    }\n"
+        "    let a_1 = 1;\n    (|a: u8| a)(a) + a_1\n};",
     ),
     # A local that a `match` in its own value binds too.
     (

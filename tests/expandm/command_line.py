@@ -13,6 +13,8 @@ RUNS = (
     "--call 3:7 a.rs",
     "--edition 2018 a.rs",
     "--edition=2018 a.rs",
+    "--dialect rustc a.rs",
+    "--dialect=rust-analyzer a.rs",
     "--write out a.rs",
     "--no-modules a.rs",
     "--origin a.rs",
@@ -34,6 +36,7 @@ RUNS = (
 
 NO_FILE = "no FILE.rs is named, and there is no Cargo.toml in this folder or above it"
 YEARS = "[possible values: 2015, 2018, 2021, 2024]"
+DIALECTS = "[possible values: rust-analyzer, rustc]"
 TARGETS = (
     "[possible values: x86_64-unknown-linux-gnu, x86_64-pc-windows-msvc, x86_64-apple-darwin, "
     "aarch64-apple-darwin, wasm32-unknown-unknown]"
@@ -62,6 +65,7 @@ ERRORS = (
     ("--explain=x a.rs", f"invalid value 'x' for '--explain[=<LINE[:COL]>]': {POSITION}"),
     ("--edition 19 a.rs", f"invalid value '19' for '--edition <YEAR>' {YEARS}"),
     ("--edition 2019 a.rs", f"invalid value '2019' for '--edition <YEAR>' {YEARS}; tip: a similar value exists: '2021'"),
+    ("--dialect x a.rs", f"invalid value 'x' for '--dialect <DIALECT>' {DIALECTS}"),
     ("--target foo a.rs", f"invalid value 'foo' for '--target <TRIPLE>' {TARGETS}"),
     ("--cfg a=b a.rs", f"invalid value 'a=b' for '--cfg <NAME[=\"VALUE\"]>': {CFG}"),
     ('--cfg ="b" a.rs', f"invalid value '=\"b\"' for '--cfg <NAME[=\"VALUE\"]>': {CFG}"),
@@ -92,7 +96,7 @@ def test(program):
     helps = {program.run(words).out for words in (["--help"], ["-h"], ["a.rs", "--help"])}
     (text,) = helps if len(helps) == 1 else ("",)
     names = re.findall(r"^  (?:-\w, |    )--([a-z-]+)", text, re.M)
-    program.check("command_line.help", text, ("Usage: " in text, len(names)), (True, 26))
+    program.check("command_line.help", text, ("Usage: " in text, len(names)), (True, 27))
     for words in (["-V"], ["--version"], ["a.rs", "--version"]):
         ran = program.run(words)
         program.check("command_line.version", words, (ran.status, ran.out, ran.err), (0, "expandm 0.1.0\n", ""))

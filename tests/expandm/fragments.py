@@ -39,7 +39,7 @@ RECEIVERS = (
     (
         "m { ($e:expr) => { $e.f() } }",
         "x = m!(a::b); x = m!(a.b); x = m!(f(1)); x = m!(-a);",
-        "x = (a::b).f(); x = (a.b).f(); x = (f(1)).f(); x = (-a).f();",
+        "x = a::b.f(); x = a.b.f(); x = f(1).f(); x = (-a).f();",
     ),
     (
         "m { ($e:expr) => { $e.f() } }",
@@ -95,13 +95,25 @@ RECEIVERS = (
     ),
 )
 
+# rustc takes a macro call in place of a literal, but not one in parentheses. A single operand needs none: no operator beside it takes a
+# part of it. A field before arguments would become a method, and a macro call that is a statement may become several.
+SINGLE_OPERANDS = (
+    ('m { ($e:expr) => { println!($e) } }', 'm!(concat!("a", "b"));', 'println!(concat!("a", "b"));'),
+    ('m { ($c:expr, $e:expr) => { assert!($c, $e) } }', 'm!(a.b(), concat!("x"));', 'assert!(a.b(), concat!("x"));'),
+    ('m { ($e:expr) => { f!(include_str!($e), [env!($e)]) } }', 'x = m!(concat!("a"));', 'x = f!(include_str!(concat!("a")), [env!(concat!("a"))]);'),
+    ("m { ($e:expr) => { $e(1) } }", "x = m!(a.b); x = m!(a::b); x = m!(a.b(2));", "x = (a.b)(1); x = a::b(1); x = a.b(2)(1);"),
+    ("m { ($e:expr) => { -$e[0]? } }", "x = m!(a?.b); x = m!(a + b);", "x = -a?.b[0]?; x = -(a + b)[0]?;"),
+    ("m { ($e:expr) => { f(&$e) } }", "x = m!(v![1]); x = m!(return (a)); x = m!(a..b);", "x = f(&v![1]); x = f(&(return (a))); x = f(&(a..b));"),
+    ("m { ($e:expr) => { $e; } }", "m!(n!(2));", "(n!(2));"),
+)
+
 # Patterns and types after a sign that would apply to a part of them, and paths before a `<`. rustc accepts `&(3 | 4)`, refuses `&1..=5`
 # and `&dyn A + B`, and reads `&mut x` as a reference to what is mutable.
 OPERANDS = (
     ("m { ($p:pat) => { match x { &$p => 1, z @ $p => 2, $p => 3 } } }", "m!(3 | 4);", "match x {\n    &(3 | 4) => 1, z @ (3 | 4) => 2, 3 | 4 => 3\n};"),
     ("m { ($p:pat) => { match x { &$p => 1, z @ $p => 2 } } }", "m!(1..=5);", "match x {\n    &(1..=5) => 1, z @ (1..=5) => 2\n};"),
     ("m { ($p:pat) => { match x { Some(&$p) => 1, $p => 2 } } }", "m!(mut x);", "match x {\n    Some(&(mut x)) => 1, mut x => 2\n};"),
-    ("m { ($p:pat) => { |$p: i32| 3 } }", "x = m!(5 | 6 | _); x = m!(a);", "x = |(5 | 6 | _) : i32| 3; x = | a: i32| 3;"),
+    ("m { ($p:pat) => { |$p: i32| 3 } }", "x = m!(5 | 6 | _); x = m!(a);", "x = |(5 | 6 | _): i32| 3; x = | a: i32| 3;"),
     ("m { ($p:pat_param) => { match x { &$p => 1, [z @ $p] => 2 } } }", "m!(..);", "match x {\n    & .. => 1, [z @ ..] => 2\n};"),
     ("m { ($t:ty) => { f::<&$t, &mut $t, *const $t, Box<$t>>() } }", "x = m!(dyn A + B);", "x = f::<&(dyn A + B), &mut (dyn A + B), *const (dyn A + B), Box<dyn A + B >>();"),
     ("m { ($t:ty) => { f::<&$t, *mut $t>() } }", "x = m!(V<u8>);", "x = f::<&V<u8> , *mut V<u8> >();"),
@@ -126,7 +138,7 @@ BUILTINS = (
         "x = m!(1 + 2); x = m!((1));",
         "x = stringify!(a(1 + 2 + 1), 1 + 2); x = stringify!(a((1) + 1), (1));",
     ),
-    ('m { ($x:expr) => { concat!("a", $x, f!($x)) } }', "x = m!(n!(b));", 'x = concat!("a", n!(b), f!((n!(b))));'),
+    ('m { ($x:expr) => { concat!("a", $x, f!($x)) } }', "x = m!(n!(b));", 'x = concat!("a", n!(b), f!(n!(b)));'),
     (
         "m { () => { (line!(), column! [], std::line!(), line!(1), f!(column! {})) } }",
         "x = m!();",
@@ -146,6 +158,7 @@ BUILTINS = (
 def test(program):
     check_like(program, "fragments.TYPES", TYPES)
     check_like(program, "fragments.RECEIVERS", RECEIVERS)
+    check_like(program, "fragments.SINGLE_OPERANDS", SINGLE_OPERANDS)
     check_like(program, "fragments.OPERANDS", OPERANDS)
     check_like(program, "fragments.STATEMENTS", STATEMENTS)
     check_like(program, "fragments.BUILTINS", BUILTINS)

@@ -141,7 +141,7 @@ const A: [u32; 2] = [::maths::square(3), ::maths::square(4)];""",
         "b.rs: #[macro_export] macro_rules! m { () => { 1 } }|"
         "c.rs: #[macro_export] macro_rules! m { () => { 2 } }",
         "x = 1 + 2 + m!();",
-        0,
+        2,
     ),
     (
         "--extern b=b.rs --extern c=c.rs a.rs",
@@ -150,7 +150,7 @@ const A: [u32; 2] = [::maths::square(3), ::maths::square(4)];""",
         "}|"
         "c.rs: #[macro_export] macro_rules! n { () => { 2 } }",
         "x = [1, n!()];",
-        0,
+        2,
     ),
     (
         "--extern b=b.rs a.rs",

@@ -1,6 +1,6 @@
 """What each kind of fragment takes of texts of Rust, as rustc 1.95 says, and the Rust Reference. A text is read by
 `$x:SPECIFIER $($t:tt)*`. What the fragment takes ends before `§`, which is no part of the text; a text without it has
-no such fragment at its front, and another rule reads it.
+no such fragment at its front, and in the dialect of rust-analyzer another rule reads it.
 """
 from expandm import defined
 
@@ -239,7 +239,7 @@ def is_taken(program, edition, specifier, text):
     _, mark, left = text.partition("§")
     whole = text.replace("§", "")
     ran = program.run(
-        ["--once", "--edition", str(edition), "a.rs"], {"a.rs": defined(rules, f"fn f() {{ m! {{ {whole} }} }}")},
+        ["--once", "--dialect", "rust-analyzer", "--edition", str(edition), "a.rs"], {"a.rs": defined(rules, f"fn f() {{ m! {{ {whole} }} }}")},
     )
     want = defined(rules, f"fn f() {{ left({left}) }}" if mark else "fn f() { none }")
     got = ran.status, squeezed(ran.out), ran.err

@@ -21,7 +21,7 @@ ROW = re.compile(
     r'\s*help: "((?:[^"\\]|\\.)*)",?\s*\}'
 )
 SHORT = {"package": "p"}
-CHOICES = {"edition": "EDITIONS", "target": "TARGETS"}
+CHOICES = {"edition": "EDITIONS", "dialect": "DIALECTS", "target": "TARGETS"}
 WITHOUT_WORDS = "--depth | --fuel | --call | --cfg | --features | --extern | --package | -p | --bin"
 
 

@@ -1,26 +1,34 @@
 // A run of the program: it parses the arguments, reads the files, and writes to standard output, to
 // standard error, and into the folder of `--write`.
-use crate::arguments::RunOptions;
-use crate::command_line::{Invocation, parse_arguments};
-use crate::emitter::{MessageFormat, add_diagnostics, add_lints, choose_format, error_text};
-use crate::file_writer::{write_conflict, write_text};
-use crate::input_files::{InputFiles, file_text};
-use crate::lint_run::lint;
-use crate::locations::NOWHERE;
-use crate::note_lines::message;
-use crate::output_paths::relative;
-use crate::package::{edition_notes, plan_package};
+ghost use Rattle.std.specs.Prelude.{◌≡◌, ◌||◌, length};
+ghost use Rattle.std.specs.List.{list_any};
+ghost use Rattle.mbe_session.specs.NoteLevels.{is_error};
+ghost use Rattle.expandm.specs.MessageFormats.{format_for};
+ghost use Rattle.expandm.specs.Statuses.{lint_status, status_of};
+
+use crate::command_line::{Invocation, RunOptions, RunOutput, parse_arguments};
 use crate::progress::ProgressLine;
-use crate::sessions::{EXIT_FAILED, EXIT_OK, NamedText, Session, print, write};
-use crate::source_files::SourceFile;
-use mbe_cfg::files::paths::folder_of;
-use mbe_diagnostics::diagnostic::Level;
-use mbe_diagnostics::json::plain_line;
-use mbe_session::notes::Note;
-use std::alloc::{AllocError, Global};
+use mbe_files::file_reader::{MAX_FILES, add_extern_root, add_modules, file_text};
+use mbe_files::file_writer::{safe_targets, write_texts};
+use mbe_files::output_paths::file_name;
+use mbe_files::package::{PackagePlan, edition_notes, plan_package};
+use mbe_session::emitter::{MessageFormat, error_text, note_text};
+use mbe_session::file_set::FileSet;
+use mbe_session::linted_files::{LintedFiles, lint};
+use mbe_session::session::{Session, expand_files, write_expansion};
+use mbe_session::session_options::SessionOptions;
 use std::env;
 use std::io::{self, Read};
 use std::rt::{Env, Files};
+
+// Exit status: all is done, without an error.
+const EXIT_OK: u8 = 0;
+
+// Exit status: some call isn't expanded, or some definition or file is refused.
+const EXIT_ERRORS: u8 = 1;
+
+// Exit status: the command line is invalid, or a file can't be read or written.
+const EXIT_FAILED: u8 = 2;
 
 /// Runs on the arguments of the program, and returns the exit status. `is_terminal` says whether
 /// standard error is a terminal.
@@ -61,14 +69,15 @@ fn run<R: Env + Files + Input + Print + Eprint + AllocGlobal + Clone + Drop>(
     let argv = arguments(rt)?;
     match parse_arguments(rt.alloc(), argv.as_slice())? {
         Invocation::Run(options) => {
-            let is_explained = options.explain.is_some() || options.is_lint;
+            let output = options.output;
+            let is_explained = options.session.explain.is_some() || output.is_lint;
             let is_colourless = is_colourless(rt);
-            let form = choose_format(options.is_json, is_explained, is_terminal, is_colourless);
-            let progress = ProgressLine::new(&options, is_terminal);
-            if options.names.is_empty() {
+            let form = choose_format(output.is_json, is_explained, is_terminal, is_colourless);
+            let progress = ProgressLine::new(output, is_terminal);
+            if options.session.names.is_empty() {
                 return run_package(rt, options, form, progress);
             }
-            run_files(rt, &options, form, progress)
+            run_files(rt, &options.session, output, form, progress)
         }
         Invocation::Text(text) => {
             print!(rt; "{text}")?;
@@ -89,62 +98,113 @@ fn is_colourless<R: Env + AllocGlobal>(rt: &R) -> bool {
     }
 }
 
-// Writes an error that belongs to no file.
-fn emit_error<R: Eprint + AllocGlobal>(
+// Chooses the form of a run's diagnostics. It is JSON if that is asked for; else rustc's style in
+// a terminal, and where calls are explained or definitions are linted. `None` is the short form:
+// `FILE:LINE:COL: LEVEL: MESSAGE`, the line and a caret.
+fn choose_format(
+    is_json: bool,
+    is_explained: bool,
+    is_terminal: bool,
+    is_colourless: bool,
+) -> Option<MessageFormat>
+    ensures { result ≡ format_for is_json is_explained is_terminal is_colourless }
+{
+    match (is_json, is_terminal) {
+        (true, _) => Some(MessageFormat::Json),
+        (false, true) if is_colourless => Some(MessageFormat::Text),
+        (false, true) => Some(MessageFormat::Colours),
+        (false, false) if is_explained => Some(MessageFormat::Text),
+        (false, false) => None,
+    }
+}
+
+// Returns the exit status of a run that expands. `is_written` says whether the run wrote all of its
+// output.
+fn exit_status(session: &Session<'_>, is_written: bool) -> u8
+    ensures { result ≡ status_of is_written (list_any is_error session.now.notes.items
+        || list_any is_error session.now.expander.notes.items) }
+{
+    match is_written {
+        false => EXIT_FAILED,
+        true if session.has_errors() => EXIT_ERRORS,
+        true => EXIT_OK,
+    }
+}
+
+// Returns the exit status of a run with `--lint`: 0 without notes and lints, else 1.
+fn lint_exit_status(linted: &LintedFiles<'_>) -> u8
+    ensures { result ≡ lint_status (length linted.now.notes.items) (length linted.now.lints.items) }
+{
+    if linted.notes.is_empty() && linted.lints.is_empty() {
+        EXIT_OK
+    } else {
+        EXIT_ERRORS
+    }
+}
+
+// Writes an error that belongs to no file, and returns the exit status.
+fn fail<R: Eprint + AllocGlobal>(
     rt: &R,
     form: Option<MessageFormat>,
     message: &str,
-) -> io::Result<()> {
+) -> io::Result<u8> {
     let text = error_text(rt.alloc(), form, message)?;
-    eprint!(rt; "{text}")
+    eprint!(rt; "{text}")?;
+    Ok(EXIT_FAILED)
 }
 
-// Writes notes on what a package's plan leaves out.
-fn emit_package_notes<R: Eprint + AllocGlobal>(
+// Writes notes that belong to no file: on what the plan of a package leaves out.
+fn emit_notes<R: Eprint + AllocGlobal>(
     rt: &R,
     form: Option<MessageFormat>,
     notes: &[String],
 ) -> io::Result<()> {
     for note in notes {
-        let text = match form {
-            Some(MessageFormat::Json) => {
-                let object = plain_line(rt.alloc(), Level::Note, note.as_str())?;
-                format!(in rt.alloc(); "{object}\n")?
-            }
-            _ => format!(in rt.alloc(); "note: {note}\n")?,
-        };
+        let text = note_text(rt.alloc(), form, note.as_str())?;
         eprint!(rt; "{text}")?;
     }
     Ok(())
 }
 
-// Plans the package of the run, and expands its crate.
-fn run_package<'w, R: Env + Files + Input + Print + Eprint + AllocGlobal + Clone + Drop>(
+// Plans the package of the run, and runs the plan.
+fn run_package<R: Env + Files + Input + Print + Eprint + AllocGlobal + Clone + Drop>(
     rt: &R,
-    options: RunOptions<'w>,
+    options: RunOptions<'_>,
     form: Option<MessageFormat>,
     progress: ProgressLine,
 ) -> io::Result<u8> {
-    let package = match plan_package(rt, &options)? {
-        Ok(package) => package,
-        Err(message) => {
-            emit_error(rt, form, message.as_str())?;
-            return Ok(EXIT_FAILED);
-        }
-    };
-    if options.package.is_plan {
-        emit_package_notes(rt, form, &package.notes)?;
-        let text = package.text(rt.alloc())?;
+    let RunOptions {
+        session,
+        package,
+        output,
+    } = options;
+    match plan_package(rt, &session, &package)? {
+        Ok(plan) => run_plan(rt, &plan, session, output, form, progress),
+        Err(message) => fail(rt, form, message.as_str()),
+    }
+}
+
+// Expands the crate of a planned package, or prints the plan.
+fn run_plan<'w, R: Files + Input + Print + Eprint + AllocGlobal>(
+    rt: &R,
+    plan: &'w PackagePlan,
+    options: SessionOptions<'w>,
+    output: RunOutput<'_>,
+    form: Option<MessageFormat>,
+    progress: ProgressLine,
+) -> io::Result<u8> {
+    if output.is_plan {
+        emit_notes(rt, form, &plan.notes)?;
+        let text = plan.text(rt.alloc())?;
         print!(rt; "{text}")?;
         return Ok(EXIT_OK);
     }
-    let Some((options, notes)) = package.set(rt.alloc(), options)? else {
-        emit_error(rt, form, "the edition of the package isn't known")?;
-        return Ok(EXIT_FAILED);
+    let Some((options, notes)) = plan.set(rt.alloc(), options)? else {
+        return fail(rt, form, "the edition of the package isn't known");
     };
-    emit_package_notes(rt, form, &package.notes)?;
-    emit_package_notes(rt, form, &notes)?;
-    run_files(rt, &options, form, progress)
+    emit_notes(rt, form, &plan.notes)?;
+    emit_notes(rt, form, &notes)?;
+    run_files(rt, &options, output, form, progress)
 }
 
 // Reads the file of that name, or standard input for `-`. A text of 2^32 bytes or more is an error.
@@ -159,257 +219,161 @@ fn read_input<R: Files + Input + AllocGlobal>(rt: &R, name: &str) -> io::Result<
     Ok(text)
 }
 
-// Reads the files that the arguments name, and the files of their modules. `None`, with an error
-// written, if a file that is named can't be read.
-fn input_files<R: Files + Input + Eprint + AllocGlobal>(
+// Reads the files that the arguments name. Returns the message of one that can't be read.
+fn read_roots<R: Files + Input + AllocGlobal>(
     rt: &R,
-    options: &RunOptions<'_>,
-    form: Option<MessageFormat>,
-    progress: ProgressLine,
-) -> io::Result<Option<InputFiles>> {
-    let mut input_files = InputFiles::new(rt.alloc());
+    options: &SessionOptions<'_>,
+    files: &mut FileSet,
+) -> io::Result<Option<String>> {
     for name in &options.names {
         match read_input(rt, *name) {
-            Ok(text) => input_files.add_root(rt.alloc(), options, *name, text)?,
+            Ok(text) => files.add_root(rt.alloc(), options, *name, text)?,
             Err(error) => {
-                let message = format!(in rt.alloc(); "couldn't read `{name}`: {error}")?;
-                emit_error(rt, form, message.as_str())?;
-                return Ok(None);
+                return Ok(Some(format!(in rt.alloc(); "couldn't read `{name}`: {error}")?));
             }
         }
     }
-    if !add_externs(rt, options, form, &mut input_files)? {
-        return Ok(None);
-    }
-    input_files.load_modules(rt, options, progress)?;
-    progress.clear(rt)?;
-    Ok(Some(input_files))
+    Ok(None)
 }
 
-// Adds the roots of the external crates, which a run with `--lint` doesn't need. Returns whether
-// all can be read; else it has written an error.
-fn add_externs<R: Files + Eprint + AllocGlobal>(
+// Reads the roots of the external crates. Returns the message of one that can't be read.
+fn read_externs<R: Files + AllocGlobal>(
     rt: &R,
-    options: &RunOptions<'_>,
-    form: Option<MessageFormat>,
-    input_files: &mut InputFiles,
-) -> io::Result<bool> {
-    if options.is_lint {
-        return Ok(true);
-    }
+    options: &SessionOptions<'_>,
+    files: &mut FileSet,
+) -> io::Result<Option<String>> {
     for one in &options.externs {
-        if let Err(error) = input_files.add_extern_root(rt, options, one.path) {
+        if let Err(error) = add_extern_root(rt, files, options, one.path) {
             let (name, path) = (one.name, one.path);
-            let message = format!(in rt.alloc(); "couldn't read `{path}` for `{name}`: {error}")?;
-            emit_error(rt, form, message.as_str())?;
-            return Ok(false);
+            return Ok(Some(format!(in rt.alloc();
+                "couldn't read `{path}` for `{name}`: {error}"
+            )?));
         }
     }
-    Ok(true)
+    Ok(None)
 }
 
+// Reads the files of modules, and of their modules in turn.
+fn read_modules<R: Files + Eprint + AllocGlobal>(
+    rt: &R,
+    options: &SessionOptions<'_>,
+    progress: ProgressLine,
+    files: &mut FileSet,
+) -> io::Result<()> {
+    for number in 0..MAX_FILES {
+        if number >= files.texts.len() {
+            break;
+        }
+        add_modules(rt, files, options, number)?;
+        progress.show(rt, "files read", files.texts.len())?;
+    }
+    progress.clear(rt)
+}
+
+// Reads the files that the arguments name, the roots of external crates, which a run with `--lint`
+// doesn't need, and the files of modules. Returns the message of a root that can't be read.
+fn read_files<R: Files + Input + Eprint + AllocGlobal>(
+    rt: &R,
+    options: &SessionOptions<'_>,
+    output: RunOutput<'_>,
+    progress: ProgressLine,
+    files: &mut FileSet,
+) -> io::Result<Option<String>> {
+    let mut message = read_roots(rt, options, files)?;
+    if message.is_none() && !output.is_lint {
+        message = read_externs(rt, options, files)?;
+    }
+    if message.is_none() {
+        read_modules(rt, options, progress, files)?;
+    }
+    Ok(message)
+}
+
+// Reads the files, and expands them or lints their definitions.
 fn run_files<R: Files + Input + Print + Eprint + AllocGlobal>(
     rt: &R,
-    options: &RunOptions<'_>,
+    options: &SessionOptions<'_>,
+    output: RunOutput<'_>,
     form: Option<MessageFormat>,
     progress: ProgressLine,
 ) -> io::Result<u8> {
-    let Some(input_files) = input_files(rt, options, form, progress)? else {
-        return Ok(EXIT_FAILED);
-    };
-    let notes = edition_notes(rt.alloc(), options, &input_files)?;
-    emit_package_notes(rt, form, &notes)?;
-    let texts = input_files.texts.as_slice();
-    if options.is_lint {
-        return lint_files(rt, options, form, texts);
+    let mut files = FileSet::new(rt.alloc());
+    if let Some(message) = read_files(rt, options, output, progress, &mut files)? {
+        return fail(rt, form, message.as_str());
     }
-    match options.write {
-        None => {
-            let out = &mut io::writer(rt);
-            let (session, written) = print(rt.alloc(), options, &input_files.roots, texts, out)?;
-            written?;
-            finish(rt, form, &session, true)
-        }
-        Some(folder) => write_files(rt, options, form, progress, &input_files, folder),
+    let notes = edition_notes(rt.alloc(), options, &files)?;
+    emit_notes(rt, form, &notes)?;
+    if output.is_lint {
+        return lint_files(rt, options, form, &files);
+    }
+    match output.folder {
+        None => print_file(rt, options, form, &files),
+        Some(folder) => write_files(rt, options, form, progress, &files, folder),
     }
 }
 
-// Reports the notes of a run, and returns its exit status. `is_written` says whether the run wrote
-// all of its output.
+// Writes the notes of a session, and returns the exit status. `is_written` says whether the run
+// wrote all of its output.
 fn finish<R: Eprint + AllocGlobal>(
     rt: &R,
     form: Option<MessageFormat>,
     session: &Session<'_>,
     is_written: bool,
 ) -> io::Result<u8> {
-    emit_notes(rt, form, &session.files, &session.notes)?;
-    emit_notes(rt, form, &session.files, &session.expander.notes)?;
-    Ok(session.status(is_written))
+    let text = session.notes_text(rt.alloc(), form)?;
+    eprint!(rt; "{text}")?;
+    Ok(exit_status(session, is_written))
 }
 
-// Reports the lints of the files' definitions, and returns the exit status.
+// Writes the lints of the files' definitions, and returns the exit status.
 fn lint_files<R: Eprint + AllocGlobal>(
     rt: &R,
-    options: &RunOptions<'_>,
+    options: &SessionOptions<'_>,
     form: Option<MessageFormat>,
-    texts: &[NamedText],
+    files: &FileSet,
 ) -> io::Result<u8> {
-    let linted = lint(rt.alloc(), options, texts)?;
-    emit_notes(rt, form, &linted.files, &linted.notes)?;
-    let form = form.unwrap_or(MessageFormat::Text);
-    let mut text = String::new(rt.alloc());
-    add_lints(rt.alloc(), form, &linted.files, &linted.lints, &mut text)?;
+    let linted = lint(rt.alloc(), options, files.texts.as_slice())?;
+    let text = linted.notes_text(rt.alloc(), form)?;
     eprint!(rt; "{text}")?;
-    Ok(linted.status())
+    Ok(lint_exit_status(&linted))
 }
 
-// Returns the last component of a path.
-fn file_name(name: &str) -> &str {
-    name.rsplit_once('/').map_or(name, |(_, last)| last)
-}
-
-// Returns where a file is written, relative to the folder of `--write`. A file that the arguments
-// name, whose `root` is `None`, goes to its own name. A module's file keeps its path relative to
-// the folder of its root. The inner error is the text of a message: the module's file isn't below
-// that folder.
-fn target(
-    alloc: Global,
-    path: &str,
-    root: Option<&str>,
-) -> Result<Result<String, String>, AllocError> {
-    let Some(root) = root else {
-        return Ok(Ok(String::from_str(alloc, file_name(path))?));
-    };
-    match relative(alloc, folder_of(root), path)? {
-        Some(target) => Ok(Ok(target)),
-        None => Ok(Err(format!(in alloc;
-            "`{path}`, of a module, isn't below the folder of `{root}`"
-        )?)),
-    }
-}
-
-fn is_among(targets: &[Option<String>], target: &str) -> bool {
-    targets.iter().any(|other| match other {
-        Some(other) => other.as_str() == target,
-        None => false,
-    })
-}
-
-// Returns where each file is written, relative to the folder; `None` for the files of external
-// crates. The inner error is the text of a message: a file has no such path, or two files have the
-// same.
-fn targets(
-    alloc: Global,
-    input_files: &InputFiles,
-    folder: &str,
-    root_count: usize,
-) -> Result<Result<Vec<Option<String>>, String>, AllocError> {
-    let mut found: Vec<Option<String>> = Vec::new(alloc);
-    for number in 0..input_files.texts.len() {
-        if !input_files.is_local(number, root_count) {
-            found.push(None)?;
-            continue;
-        }
-        let (path, root) = input_files.path(number).unwrap_or(("", None));
-        match target(alloc, path, root)? {
-            Err(message) => return Ok(Err(message)),
-            Ok(target) => {
-                if is_among(found.as_slice(), target.as_str()) {
-                    return Ok(Err(format!(in alloc;
-                        "two files would be written as `{folder}/{target}`"
-                    )?));
-                }
-                found.push(Some(target))?;
-            }
-        }
-    }
-    Ok(Ok(found))
-}
-
-// Returns what `targets` returns. The inner error may also say that a file there can't be
-// overwritten.
-fn safe_targets<R: Files + AllocGlobal>(
+// Writes the expansion of the last file that the arguments name to standard output.
+fn print_file<R: Print + Eprint + AllocGlobal>(
     rt: &R,
-    input_files: &InputFiles,
-    folder: &str,
-    root_count: usize,
-) -> io::Result<Result<Vec<Option<String>>, String>> {
-    let targets = match targets(rt.alloc(), input_files, folder, root_count)? {
-        Ok(targets) => targets,
-        Err(message) => return Ok(Err(message)),
-    };
-    match write_conflict(rt, folder, targets.as_slice(), input_files.texts.as_slice()) {
-        Ok(None) => Ok(Ok(targets)),
-        Ok(Some(message)) => Ok(Err(message)),
-        Err(error) => Ok(Err(format!(in rt.alloc(); "couldn't write into `{folder}`: {error}")?)),
-    }
+    options: &SessionOptions<'_>,
+    form: Option<MessageFormat>,
+    files: &FileSet,
+) -> io::Result<u8> {
+    let out = &mut io::writer(rt);
+    let texts = files.texts.as_slice();
+    let (session, written) = write_expansion(rt.alloc(), options, &files.roots, texts, out)?;
+    written?;
+    finish(rt, form, &session, true)
 }
 
 // Writes the expansion of each file into the folder.
 fn write_files<R: Files + Eprint + AllocGlobal>(
     rt: &R,
-    options: &RunOptions<'_>,
+    options: &SessionOptions<'_>,
     form: Option<MessageFormat>,
     progress: ProgressLine,
-    input_files: &InputFiles,
+    files: &FileSet,
     folder: &str,
 ) -> io::Result<u8> {
-    let targets = match safe_targets(rt, input_files, folder, options.names.len())? {
+    let targets = match safe_targets(rt, files, folder, options.names.len())? {
         Ok(targets) => targets,
-        Err(message) => {
-            emit_error(rt, form, message.as_str())?;
-            return Ok(EXIT_FAILED);
-        }
+        Err(message) => return fail(rt, form, message.as_str()),
     };
-    progress.show(rt, "files to expand", input_files.texts.len())?;
-    let (session, written) = write(
-        rt.alloc(),
-        options,
-        &input_files.roots,
-        input_files.texts.as_slice(),
-    )?;
+    progress.show(rt, "files to expand", files.texts.len())?;
+    let texts = files.texts.as_slice();
+    let (session, written) = expand_files(rt.alloc(), options, &files.roots, texts)?;
     progress.clear(rt)?;
-    for (target, text) in targets.iter().zip(written.iter()) {
-        let Some(target) = target else {
-            continue;
-        };
-        if let Err(error) = write_text(rt, folder, target.as_str(), text.as_str()) {
-            let message = format!(in rt.alloc(); "couldn't write `{folder}/{target}`: {error}")?;
-            emit_error(rt, form, message.as_str())?;
-            return finish(rt, form, &session, false);
+    match write_texts(rt, folder, targets.as_slice(), written.as_slice())? {
+        Some(message) => {
+            fail(rt, form, message.as_str())?;
+            finish(rt, form, &session, false)
         }
+        None => finish(rt, form, &session, true),
     }
-    finish(rt, form, &session, true)
-}
-
-// Writes the notes to standard error, in the form that is given.
-fn emit_notes<R: Eprint + AllocGlobal>(
-    rt: &R,
-    form: Option<MessageFormat>,
-    files: &[SourceFile<'_>],
-    notes: &[Note],
-) -> io::Result<()> {
-    let Some(form) = form else {
-        return emit_note_lines(rt, files, notes);
-    };
-    let mut text = String::new(rt.alloc());
-    add_diagnostics(rt.alloc(), form, files, notes, &mut text)?;
-    eprint!(rt; "{text}")
-}
-
-// Writes the notes to standard error in the short form: position, message, line and caret.
-fn emit_note_lines<R: Eprint + AllocGlobal>(
-    rt: &R,
-    files: &[SourceFile<'_>],
-    notes: &[Note],
-) -> io::Result<()> {
-    for note in notes {
-        let (name, place) = match files.get(note.span.file as usize) {
-            Some(file) => (file.name, file.lines.location_of(note.span.start as usize)),
-            None => ("", NOWHERE),
-        };
-        let text = message(rt.alloc(), note, name, place)?;
-        eprint!(rt; "{text}")?;
-    }
-    Ok(())
 }

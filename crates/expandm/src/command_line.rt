@@ -3,12 +3,14 @@
 // `OPTIONS` has a row for each option. `command` makes a clap command of the rows, which parses the
 // arguments and writes the help. `checked_invocation` then checks the values that clap takes as
 // texts, and collects all values in `RunOptions`.
-use crate::arguments::{ExternCrate, PackageOptions, RunOptions, edition, target};
-use crate::locations::CallPosition;
 use clap::builder::ValueRange;
 use clap::error::ErrorKind;
 use clap::{Arg, ArgAction, ArgMatches, Command, Error, value_parser};
-use mbe_cfg::cfg_options::CfgOption;
+use mbe_files::package::PackageOptions;
+use mbe_session::locations::CallPosition;
+use mbe_session::session_options::{
+    SessionOptions, dialect, edition, parse_cfg, parse_extern, target,
+};
 use std::alloc::{AllocError, Global};
 
 const VERSION: &str = "0.1.0";
@@ -29,6 +31,9 @@ static TARGETS: [&str; 5] = [
     "aarch64-apple-darwin",
     "wasm32-unknown-unknown",
 ];
+
+// The values of `--dialect`.
+static DIALECTS: [&str; 2] = ["rust-analyzer", "rustc"];
 
 // What an option takes. The texts are the names of values in the help.
 #[derive(Drop)]
@@ -65,7 +70,7 @@ static PACKAGE_OPTIONS: [&str; 7] = [
     "plan",
 ];
 
-static OPTIONS: [OptionRow; 24] = [
+static OPTIONS: [OptionRow; 25] = [
     OptionRow {
         name: "manifest-path",
         value: OptionValue::Text("PATH"),
@@ -142,6 +147,11 @@ static OPTIONS: [OptionRow; 24] = [
         help: "Set the edition (2021)",
     },
     OptionRow {
+        name: "dialect",
+        value: OptionValue::Choice("DIALECT"),
+        help: "Match and write fragments as rustc or rust-analyzer (rustc)",
+    },
+    OptionRow {
         name: "cfg",
         value: OptionValue::List("NAME[=\"VALUE\"]"),
         help: "Set an option for `cfg`",
@@ -188,6 +198,28 @@ static OPTIONS: [OptionRow; 24] = [
     },
 ];
 
+/// The options of a run.
+#[derive(Drop)]
+pub struct RunOptions<'w> {
+    pub session: SessionOptions<'w>,
+    /// The package that is expanded if no file is named.
+    pub package: PackageOptions<'w>,
+    pub output: RunOutput<'w>,
+}
+
+/// What a run writes.
+#[derive(Clone, Copy, Drop)]
+pub struct RunOutput<'w> {
+    /// Whether the plan of the package is printed, and nothing is expanded.
+    pub is_plan: bool,
+    /// Whether definitions are linted, and no call is expanded.
+    pub is_lint: bool,
+    /// Whether diagnostics are written in JSON.
+    pub is_json: bool,
+    /// The folder that each file is written into. `None` prints the last file.
+    pub folder: Option<&'w str>,
+}
+
 /// What the command line asks for.
 #[derive(Drop)]
 pub enum Invocation<'w> {
@@ -203,6 +235,7 @@ pub enum Invocation<'w> {
 fn choices_of<'w>(name: &str) -> &'w [&'w str] {
     match name {
         "edition" => EDITIONS.as_slice(),
+        "dialect" => DIALECTS.as_slice(),
         _ => TARGETS.as_slice(),
     }
 }
@@ -299,46 +332,13 @@ fn invalid(
 
 // ---- values
 
-// Parses the value of `--cfg`: `name` or `name="value"`.
-fn parse_cfg(text: &str) -> Option<CfgOption<'_>> {
-    let (name, value) = match text.split_once('=') {
-        Some((name, value)) => (name.trim(), Some(unquote(value.trim())?)),
-        None => (text.trim(), None),
-    };
-    if name.is_empty() {
-        return None;
-    }
-    Some(CfgOption { name, value })
-}
-
-// Returns the text between the quotes.
-fn unquote(text: &str) -> Option<&str> {
-    text.strip_prefix('"')?.strip_suffix('"')
-}
-
-// Parses the value of `--extern`: `name=path`.
-fn parse_extern(text: &str) -> Option<ExternCrate<'_>> {
-    let (name, path) = text.split_once('=')?;
-    if name.is_empty() || path.is_empty() {
-        return None;
-    }
-    Some(ExternCrate {
-        name,
-        path,
-        settings: None,
-    })
-}
-
-// Returns the options that clap has checked, and the defaults of the others.
-fn checked_options<'w>(alloc: Global, matches: &ArgMatches<'w>) -> RunOptions<'w> {
-    let mut options = RunOptions::new(alloc);
+// Returns the options of the session that clap has checked, and the defaults of the others.
+fn session_options<'w>(alloc: Global, matches: &ArgMatches<'w>) -> SessionOptions<'w> {
+    let mut options = SessionOptions::new(alloc);
     options.is_test = matches.get_flag("test");
     options.is_traced = matches.get_flag("trace");
     options.is_origin_noted = matches.get_flag("origin");
-    options.is_lint = matches.get_flag("lint");
-    options.is_json = matches.get_flag("json");
     options.with_modules = !matches.get_flag("no-modules");
-    options.write = matches.get_str("write");
     options.depth = matches.get_one::<u32>("depth");
     if matches.get_flag("once") {
         options.depth = Some(1);
@@ -349,22 +349,38 @@ fn checked_options<'w>(alloc: Global, matches: &ArgMatches<'w>) -> RunOptions<'w
     if let Some(edition) = matches.get_str("edition").and_then(edition) {
         options.edition = edition;
     }
+    if let Some(dialect) = matches.get_str("dialect").and_then(dialect) {
+        options.dialect = dialect;
+    }
     if let Some(target) = matches.get_str("target").and_then(target) {
         options.target = target;
     }
-    if let Some(triple) = matches.get_str("target") {
-        options.triple = triple;
-    }
-    options.package = PackageOptions {
+    options
+}
+
+// Returns the options of the package.
+fn package_options<'w>(matches: &ArgMatches<'w>) -> PackageOptions<'w> {
+    PackageOptions {
         manifest: matches.get_str("manifest-path"),
         name: matches.get_str("package"),
         is_lib: matches.get_flag("lib"),
         program: matches.get_str("bin"),
         all_features: matches.get_flag("all-features"),
         no_default_features: matches.get_flag("no-default-features"),
+        triple: matches
+            .get_str("target")
+            .unwrap_or("x86_64-unknown-linux-gnu"),
+    }
+}
+
+// Returns what is written.
+fn run_output<'w>(matches: &ArgMatches<'w>) -> RunOutput<'w> {
+    RunOutput {
         is_plan: matches.get_flag("plan"),
-    };
-    options
+        is_lint: matches.get_flag("lint"),
+        is_json: matches.get_flag("json"),
+        folder: matches.get_str("write"),
+    }
 }
 
 // Whether an option is given.
@@ -379,7 +395,7 @@ fn is_given(matches: &ArgMatches<'_>, name: &str) -> bool {
 fn misplaced(
     alloc: Global,
     matches: &ArgMatches<'_>,
-    options: &RunOptions<'_>,
+    options: &SessionOptions<'_>,
 ) -> Result<Option<String>, AllocError> {
     if options.names.is_empty() {
         if is_given(matches, "edition") {
@@ -404,7 +420,7 @@ fn misplaced(
 fn add_cfgs<'w>(
     alloc: Global,
     matches: &ArgMatches<'w>,
-    options: &mut RunOptions<'w>,
+    options: &mut SessionOptions<'w>,
 ) -> Result<Option<String>, AllocError> {
     let Some(texts) = matches.get_strs("cfg") else {
         return Ok(None);
@@ -424,7 +440,10 @@ fn add_cfgs<'w>(
 }
 
 // Adds the features, and the names of files.
-fn add_names<'w>(matches: &ArgMatches<'w>, options: &mut RunOptions<'w>) -> Result<(), AllocError> {
+fn add_names<'w>(
+    matches: &ArgMatches<'w>,
+    options: &mut SessionOptions<'w>,
+) -> Result<(), AllocError> {
     if let Some(features) = matches.get_strs("features") {
         for feature in features {
             options.features.push(*feature)?;
@@ -443,7 +462,7 @@ fn add_names<'w>(matches: &ArgMatches<'w>, options: &mut RunOptions<'w>) -> Resu
 fn add_externs<'w>(
     alloc: Global,
     matches: &ArgMatches<'w>,
-    options: &mut RunOptions<'w>,
+    options: &mut SessionOptions<'w>,
 ) -> Result<Option<String>, AllocError> {
     let Some(texts) = matches.get_strs("extern") else {
         return Ok(None);
@@ -469,7 +488,7 @@ fn add_externs<'w>(
 fn set_positions<'w>(
     alloc: Global,
     matches: &ArgMatches<'w>,
-    options: &mut RunOptions<'w>,
+    options: &mut SessionOptions<'w>,
 ) -> Result<Option<String>, AllocError> {
     if let Some(text) = matches.get_str("call") {
         options.call = CallPosition::read(text);
@@ -504,7 +523,7 @@ fn checked_invocation<'w>(
     alloc: Global,
     matches: &ArgMatches<'w>,
 ) -> Result<Invocation<'w>, AllocError> {
-    let mut options = checked_options(alloc, matches);
+    let mut options = session_options(alloc, matches);
     if let Some(message) = add_cfgs(alloc, matches, &mut options)? {
         return Ok(Invocation::Refused(message));
     }
@@ -518,7 +537,11 @@ fn checked_invocation<'w>(
     if let Some(message) = misplaced(alloc, matches, &options)? {
         return Ok(Invocation::Refused(message));
     }
-    Ok(Invocation::Run(options))
+    Ok(Invocation::Run(RunOptions {
+        session: options,
+        package: package_options(matches),
+        output: run_output(matches),
+    }))
 }
 
 /// Parses the arguments, of which the first is the program's name. `AllocError` if out of memory.

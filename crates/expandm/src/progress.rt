@@ -1,6 +1,6 @@
 // The progress line on standard error. Each text overwrites the last, and the line is cleared at
 // the end.
-use crate::arguments::RunOptions;
+use crate::command_line::RunOutput;
 use std::io;
 
 /// Whether a run shows its progress.
@@ -12,9 +12,9 @@ pub struct ProgressLine {
 impl ProgressLine {
     /// Progress is shown if `--write` is given, standard error is a terminal, and diagnostics are
     /// not in JSON. Nothing else is then on the line.
-    pub fn new(options: &RunOptions<'_>, is_terminal: bool) -> ProgressLine {
+    pub fn new(output: RunOutput<'_>, is_terminal: bool) -> ProgressLine {
         ProgressLine {
-            is_shown: is_terminal && options.write.is_some() && !options.is_json,
+            is_shown: is_terminal && output.folder.is_some() && !output.is_json,
         }
     }
 

@@ -16,7 +16,7 @@ use Rattle.mbe_semantics.specs.Readings.Verdict.{Verdict, stop_of, unmatched}
 use Rattle.mbe_semantics.specs.Bindings.Account.{Commands, run}
 use Rattle.mbe_semantics.specs.Bindings.Environment.{Environment, environment_of, binding_total}
 use Rattle.mbe_semantics.specs.Expansion.Error.{ExpandError}
-use Rattle.mbe_semantics.specs.Expansion.Expansion.{Applies, IsExpansion}
+use Rattle.mbe_semantics.specs.Expansion.Expansion.{Applies, IsExpansion, NoneEnds}
 use Rattle.mbe_semantics.specs.Expansion.Macro.{arm_of}
 use Rattle.mbe_semantics.specs.Expansion.Recovery.{HasStyle, IsCloser}
 use Rattle.mbe_semantics.specs.Laws.Laws.{HasOneAnswer}
@@ -27,9 +27,9 @@ use Rattle.mbe_matcher.specs.Failures.{Notes, AreNotes, Reports, error_of_notes,
 use Rattle.mbe_transcriber.specs.TemplateFaults.{first_fault}
 use Rattle.mbe_transcriber.specs.PartialExpansion.{IsPartialExpansion}
 use Rattle.mbe.specs.ClosestRule.{spans_of, IsMatchFailed, IsFaulty, FailsWith, ComesNear, IsNearest, IsRecovered}
-use Rattle.mbe.specs.ClosestRule.{IsRecovery}
+use Rattle.mbe.specs.ClosestRule.{IsRecovery, IsAnswering}
 use Rattle.mbe.specs.OneAnswer.{OneAnswer}
-use Rattle.mbe.proofs.ChoiceLemmas.{contains_first}
+use Rattle.mbe.proofs.ChoiceLemmas.{contains_first, applies_first, same_end}
 use Rattle.mbe.proofs.TriedLemmas.{fits_alone}
 use Rattle.mbe.proofs.NotesOnce.{notes_once}
 use Rattle.mbe.proofs.LeftOnce.{left_same}
@@ -154,6 +154,13 @@ module _ (g : Grammar) (lawful : IsLawful g) (call_site : Span) (input : Top) wh
       (k.first n r h.styled) in
       (same, same_Some r s (sym h.styled.0 ∙ ap (slice_get rs) same ∙ k.styled.0))
 
+  answering_same : (style : MacroCallStyle) (rs : List Rule) (n m : ℕ) (r s : Rule)
+      → IsAnswering g call_site input style rs n r → IsAnswering g call_site input style rs m s → (n ≡ m) × (r ≡ s)
+  answering_same style rs n m r s (inl h) (inl k) = same_end g style input.1 h m s k
+  answering_same style rs n m r s (inl h) (inr (quiet, k)) = absurd (quiet n r h)
+  answering_same style rs n m r s (inr (quiet, h)) (inl k) = absurd (quiet m s k)
+  answering_same style rs n m r s (inr (_, h)) (inr (_, k)) = nearest_same style rs n m r s h k
+
   module _ (Marks : Span → Span → Type 0) (fn : HasOneAnswer Marks) where
     recovered_same : (r : Rule) (out other : Forest) (err reported : Option ExpandError)
         → IsRecovered g call_site input Marks r out err
@@ -171,18 +178,20 @@ module _ (g : Grammar) (lawful : IsLawful g) (call_site : Span) (input : Top) wh
         → IsRecovery g call_site input Marks rs style other rule_index reported
         → (out ≡ other) × (index ≡ rule_index) × (err ≡ reported)
     recovery_same rs style out other index rule_index err reported a b =
-        let same = nearest_same style rs a.rule_index b.rule_index a.rule b.rule a.nearest b.nearest in
+        let same = answering_same style rs a.rule_index b.rule_index a.rule b.rule a.answering b.answering in
         let whole = recovered_same b.rule out other err reported
         (subst (λ r. IsRecovered g call_site input Marks r out err) same.1 a.recovered) b.recovered in
         (whole.0, a.named ∙ ap arm_of same.0 ∙ sym b.named, whole.1)
 
 -- ---- all answers
 
--- some rule applies, of which there is an expansion
+-- some rule applies, of which there is an expansion, and no rule ends the call
 applying : (g : Grammar) (style : MacroCallStyle) (argument : Forest) (Marks : Span → Span → Type 0) (call_site : Span)
     (rs : List Rule) (n : ℕ) (out : Forest)
     → IsExpansion g style argument Marks call_site rs n out → (r : Rule) × Contains rs r × Applies g style argument r
-applying g style argument Marks call_site rs n out (r, a, first, w) = (r, contains_first g style argument first, a)
+    × NoneEnds g style argument rs
+applying g style argument Marks call_site rs n out (r, a, first, w) =
+    (r, contains_first g style argument first, a, applies_first g style argument first)
 
 pub one_answer : (Marks : Span → Span → Type 0) → OneAnswer Marks
 one_answer Marks fn g rs style input call_site out other index rule_index None None lawful a b =
@@ -192,12 +201,12 @@ one_answer Marks fn g rs style input call_site out other index rule_index None N
     (same.1, i ∙ ap arm_of same.0 ∙ sym j, refl)
 one_answer Marks fn g rs style input call_site out other index rule_index None (Some e) lawful a b =
     let (n, x, i) = a.expands.sound refl in
-    let (r, c, y) = applying g style input.1 Marks call_site rs n out x in
-    absurd (true≢false (b.expands.complete r c y))
+    let (r, c, y, quiet) = applying g style input.1 Marks call_site rs n out x in
+    absurd (true≢false (b.expands.complete quiet r c y))
 one_answer Marks fn g rs style input call_site out other index rule_index (Some e) None lawful a b =
     let (n, x, i) = b.expands.sound refl in
-    let (r, c, y) = applying g style input.1 Marks call_site rs n other x in
-    absurd (true≢false (a.expands.complete r c y))
+    let (r, c, y, quiet) = applying g style input.1 Marks call_site rs n other x in
+    absurd (true≢false (a.expands.complete quiet r c y))
 one_answer Marks fn g rs style input call_site out other index rule_index (Some e) (Some f) lawful a b =
     go (has_style rs style)
   where

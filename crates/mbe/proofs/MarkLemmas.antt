@@ -9,7 +9,7 @@ use Rattle.mbe_semantics.specs.Syntax.Op as ops
 use Rattle.mbe_semantics.specs.Syntax.Op.{Name, Token, Expression, ignore, count, index, len, concat, Op, Ops, no_ops}
 use Rattle.mbe_semantics.specs.Syntax.Op.{op}
 use Rattle.mbe_semantics.specs.Syntax.Definition.{Rule}
-use Rattle.mbe_semantics.specs.Fragments.Kinds.{Style, plain, stripped, as_expression, as_path}
+use Rattle.mbe_semantics.specs.Fragments.Kinds.{Style, plain, stripped, as_expression, as_path, whole}
 use Rattle.mbe_semantics.specs.Bindings.Environment.{Value, fragment, missing, Environment, environment_of, value_of}
 use Rattle.mbe_semantics.specs.Transcription.Rounds.{Path, followed, Extent, finite, endless, kept_rounds, level}
 use Rattle.mbe_semantics.specs.Transcription.Concat.{concat_text}
@@ -54,6 +54,7 @@ module _ (g : Grammar) {A B : Span → Span → Type 0} (more : (s t : Span) →
   fragment_written plain span f out h = h
   fragment_written stripped span f out h = h
   fragment_written as_path span f out h = h
+  fragment_written (whole kind) span f out h = h
   fragment_written as_expression span f out h = parenthesized _ span _ out h
 
   module _ (env : Environment) where
@@ -124,6 +125,7 @@ module _ (g : Grammar) {A B : Span → Span → Type 0} (more : (s t : Span) →
     sound = λ none. (let (n, made, arm) = h.sound none in (n, expansion_written rules style argument n out made, arm));
     complete = h.complete;
     recovers = h.recovers;
+    ended = h.ended;
     no_rule = h.no_rule;
   }
 
@@ -203,7 +205,7 @@ module _ (g : Grammar) {A B : Span → Span → Type 0} (more : (s t : Span) →
       record {
         rule_index = r.rule_index;
         rule = r.rule;
-        nearest = r.nearest;
+        answering = r.answering;
         named = r.named;
         recovered = record {
           error = r.recovered.error;

@@ -15,14 +15,15 @@ use Rattle.mbe_semantics.specs.declared.fragment_kinds.RepeatKind.TheVariants.{Z
 use Rattle.mbe_semantics.specs.Syntax.Op as ops
 use Rattle.mbe_semantics.specs.Syntax.Op.{Name, Token, Expression, ignore, count, index, len, concat, Op, Ops, no_ops}
 use Rattle.mbe_semantics.specs.Syntax.Op.{op}
-use Rattle.mbe_semantics.specs.Fragments.Kinds.{Style, plain, stripped, as_expression, as_path}
+use Rattle.mbe_semantics.specs.Fragments.Kinds.{Style, plain, stripped, as_expression, as_path, whole}
 use Rattle.mbe_semantics.specs.Bindings.Missing.{default_trees}
 use Rattle.mbe_semantics.specs.Bindings.Environment.{Value, fragment, list, empty, missing, Environment, value_of}
 use Rattle.mbe_semantics.specs.Transcription.Rounds.{Path, Extent, finite, endless, kept, rounds_of, kept_rounds}
 use Rattle.mbe_semantics.specs.Transcription.Rounds.{followed, level, level_at}
 use Rattle.mbe_semantics.specs.Transcription.Concat.{concat_text}
 use Rattle.mbe_semantics.specs.Transcription.FragmentTrees.{path_trees, needs_parentheses, in_parentheses}
-use Rattle.mbe_semantics.specs.Transcription.FragmentTrees.{IsParenthesized, IsFragmentOutput}
+use Rattle.mbe_semantics.specs.Transcription.FragmentTrees.{IsParenthesized, IsFragmentOutput, whole_fragment}
+use Rattle.mbe_semantics.specs.Transcription.FragmentTrees.{group_for}
 use Rattle.mbe_semantics.specs.Transcription.Substitution.{is_simple, expression_faults, extent_faults, any_below}
 use Rattle.mbe_semantics.specs.Transcription.Substitution.{any_round, op_faults, faults, rawness, separator_trees}
 use Rattle.mbe_semantics.specs.Transcription.Substitution.{unbound_variable, integer, index_of, rounds_in, total_of}
@@ -96,6 +97,7 @@ module _ (g : Grammar) (Marks : Span → Span → Type 0) (call_site : Span) (so
   written plain span f = (alone f, refl)
   written stripped span f = (alone (strip_invisible f), refl)
   written as_path span f = (path_trees call_site f, refl)
+  written (whole kind) span f = (whole_fragment (group_for kind f) span f, refl)
   written as_expression span f = parenthesized (needs_parentheses (strip_invisible f)) span (alone (strip_invisible f))
 
   module _ (env : Environment) where

@@ -104,7 +104,8 @@ module _ (g : Grammar) (call_site : Span) (input : Top) (r : Rule) where
   )
 
   -- a rule that begins otherwise than the argument comes to nothing: no tree is matched, and nothing is bound
-  module _ (law : IsLawful g) (checked : Checked r.reads) (other : starts_with_wrong_token r.reads input.1 ≡ true) where
+  module _ (law : IsLawful g) (checked : Checked r.reads)
+      (other : starts_with_wrong_token g.dialect r.reads input.1 ≡ true) where
     pub recover_other_start : (err : ExpandError) (env : Environment) →
         Reports g r.reads input.1 (spans_of input.0) (stuck 0) err no_commands → env ≡ []
         → IsMatchFailed g call_site input r err env

@@ -15,6 +15,7 @@ use Rattle.mbe_semantics.specs.Readings.Verdict.{Verdict, one_reading, IsVerdict
 use Rattle.mbe_semantics.specs.Bindings.Account.{Commands, run}
 use Rattle.mbe_semantics.specs.Bindings.Environment.{Environment, environment_of, binding_total}
 use Rattle.mbe_semantics.specs.Expansion.Error.{ExpandError}
+use Rattle.mbe_semantics.specs.Expansion.Expansion.{FirstThatEnds, NoneEnds}
 use Rattle.mbe_semantics.specs.Expansion.Macro.{arm_of}
 use Rattle.mbe_semantics.specs.Expansion.Recovery.{HasStyle, IsStyledAt, IsCloser}
 use Rattle.mbe_matcher.specs.Failures.{Reports}
@@ -72,16 +73,22 @@ module _ (g : Grammar) (call_site : Span) (input : Top) where
     pub fails : FailsWith r error env
     pub left : IsPartialExpansion g Marks call_site env r.writes out
 
+  -- The rule whose answer a call with an error has: in rustc's dialect, the rule that ends the
+  -- call. If none does, it is the closest.
+  abbrev pub IsAnswering : MacroCallStyle → List Rule → ℕ → Rule → Type 0
+  IsAnswering style rs n rule = FirstThatEnds g style input.1 rs n rule
+      ⊎ (NoneEnds g style input.1 rs × IsNearest style rs n rule)
+
   -- the answer of a call if some rule has the style and none applies
   pub record IsRecovery (Marks : Span → Span → Type 0) (rs : List Rule) (style : MacroCallStyle)
       (out : Forest) (index : Option ℕ) (err : Option ExpandError) : Type 0 where
     pub rule_index : ℕ
     pub rule : Rule
-    pub nearest : IsNearest style rs rule_index rule
+    pub answering : IsAnswering style rs rule_index rule
     pub named : index ≡ arm_of rule_index
     pub recovered : IsRecovered Marks rule out err
 
-  -- An answer with an error is that of the closest rule.
+  -- An answer with an error is that of the rule that ends the call, or of the closest rule.
   abbrev pub Recovers : (Span → Span → Type 0) → List Rule → MacroCallStyle → Forest → Option ℕ
       → Option ExpandError
       → Type 0

@@ -1,5 +1,6 @@
 -- A call has exactly one answer.
 use Rattle.std.specs.Prelude.{◌≡◌, ℕ, List, Option, is_some}
+use Rattle.mbe_tt.specs.declared.grammar.Dialect.TheVariants.{RustAnalyzer}
 use Rattle.mbe_tt.specs.declared.span.Span.{Span}
 use Rattle.mbe_tt.specs.Trees.Tree.{Forest}
 use Rattle.mbe_tt.specs.Trees.Top.{Top}
@@ -7,6 +8,7 @@ use Rattle.mbe_tt.specs.Grammars.Grammar.{Grammar, IsLawful}
 use Rattle.mbe_semantics.specs.declared.macro_call_style.MacroCallStyle.{MacroCallStyle}
 use Rattle.mbe_semantics.specs.Syntax.Definition.{Rule}
 use Rattle.mbe_semantics.specs.Expansion.Error.{ExpandError}
+use Rattle.mbe_semantics.specs.Expansion.Expansion.{NoneEnds}
 use Rattle.mbe_semantics.specs.Expansion.Macro.{Expands}
 use Rattle.mbe_semantics.specs.Syntax.Op.{Ops}
 use Rattle.mbe_semantics.specs.Bindings.Environment.{Environment}
@@ -36,6 +38,11 @@ OneAnswer Marks = HasOneAnswer Marks
     IsAnswer g Marks rs style input call_site out index err
     → IsAnswer g Marks rs style input call_site other rule_index reported →
     (out ≡ other) × (index ≡ rule_index) × (err ≡ reported)
+
+-- in rust-analyzer's dialect, no rule ends a call
+abbrev pub NoRuleEnds : Type 0
+NoRuleEnds = (g : Grammar) → g.dialect ≡ RustAnalyzer → (style : MacroCallStyle)
+    (argument : Forest) (rs : List Rule) → NoneEnds g style argument rs
 
 -- A template has a fault in the rounds of a path exactly if it has a first fault there.
 abbrev pub FaultsAgree : Type 0

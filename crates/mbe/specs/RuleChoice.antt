@@ -7,9 +7,11 @@ use Rattle.mbe_tt.specs.Grammars.Grammar.{Grammar}
 use Rattle.mbe_semantics.specs.declared.macro_call_style.MacroCallStyle.{MacroCallStyle}
 use Rattle.mbe_semantics.specs.Syntax.Definition.{Rule}
 use Rattle.mbe_semantics.specs.Syntax.Nullable.{Checked}
+use Rattle.mbe_semantics.specs.Readings.Item.{Items}
+use Rattle.mbe_semantics.specs.Readings.Ambiguity.{Fits}
 use Rattle.mbe_semantics.specs.Bindings.Environment.{environment_of}
 use Rattle.mbe_semantics.specs.Transcription.Substitution.{IsSubstitution}
-use Rattle.mbe_semantics.specs.Expansion.Expansion.{Applies, IsExpansion}
+use Rattle.mbe_semantics.specs.Expansion.Expansion.{Applies, IsExpansion, FirstThatEnds, NoneEnds}
 use Rattle.mbe_semantics.specs.Expansion.Recovery.{HasStyle, IsStyledAt}
 use Rattle.mbe_semantics.specs.Expansion.Macro.{arm_of}
 use Rattle.mbe_ops.specs.Errors.ErrorViews.{error_of}
@@ -56,8 +58,9 @@ IsRuleFailure g Marks call_site input r (failure.MatchFailed bindings err) =
     IsMatchFailed g call_site input r (error_of err) (env_of bindings)
 IsRuleFailure g Marks call_site input r (failure.Faulty tree err) =
     IsRecovered g call_site input Marks r (top_group tree) (Some (error_of err))
+    × ((is : Items) × Fits g r.reads input.1 is)
 IsRuleFailure g Marks call_site input r failure.OtherStart =
-    Checked r.reads × (starts_with_wrong_token r.reads input.1 ≡ true)
+    Checked r.reads × (starts_with_wrong_token g.dialect r.reads input.1 ≡ true)
 
 -- a candidate is the rule at its index, with the reason why it doesn't apply
 pub record IsCandidate {A : Type 0} (g : Grammar) (Marks : Span → Span
@@ -78,14 +81,18 @@ IsRuleOutcome g Marks call_site input r (outcome.Fails n failure) =
     (Applies g r.style input.1 r → ⊥) × IsNearness g call_site input r n
     × IsRuleFailure g Marks call_site input r failure
 
--- the outcome of all rules: the first that applies, or else the closest one of the style
+-- the outcome of all rules: the first that applies, the first that ends the call, or else the
+-- closest one of the style
 abbrev pub IsChosen : {A : Type 0} → Grammar → (Span → Span → Type 0) → MacroCallStyle → Span → Top
     → List Rule
     → RuleChoice A → Type 0
 IsChosen g Marks style call_site input rs chosen.NoRule = HasStyle rs style → ⊥
 IsChosen g Marks style call_site input rs (chosen.Expanded tree index) =
     (n : ℕ) × IsExpansion g style input.1 Marks call_site rs n (top_group tree) × (index ≡ arm_of n)
+IsChosen g Marks style call_site input rs (chosen.Ended c) =
+    FirstThatEnds g style input.1 rs c.idx (rule_of c.rule.now)
+    × IsRuleFailure g Marks call_site input (rule_of c.rule.now) c.failure
 IsChosen g Marks style call_site input rs (chosen.Closest c) =
-    ((r : Rule) → Contains rs r → Applies g style input.1 r → ⊥)
+    ((r : Rule) → Contains rs r → Applies g style input.1 r → ⊥) × NoneEnds g style input.1 rs
     × IsNearest g call_site input style rs c.idx (rule_of c.rule.now)
     × IsRuleFailure g Marks call_site input (rule_of c.rule.now) c.failure

@@ -1,5 +1,5 @@
 -- What the calls that explain return about one rule of a definition.
-use Rattle.std.specs.Prelude.{◌≡◌, ℕ, List, slice_get, Option, Some, None}
+use Rattle.std.specs.Prelude.{◌≡◌, ◌↔◌, ℕ, Bool, IsTrue, List, slice_get, Option, Some, None}
 use Rattle.mbe_tt.specs.Trees.Tree.{Forest}
 use Rattle.mbe_tt.specs.Grammars.Grammar.{Grammar}
 use Rattle.mbe_semantics.specs.Syntax.Op.{Ops}
@@ -8,12 +8,18 @@ use Rattle.mbe_semantics.specs.Readings.Item.{Items}
 use Rattle.mbe_semantics.specs.Readings.Ambiguity.{Fits}
 use Rattle.mbe_semantics.specs.Readings.Verdict.{Verdict, IsVerdict}
 use Rattle.mbe_semantics.specs.Bindings.Environment.{Environment, environment_of}
+use Rattle.mbe_semantics.specs.Expansion.Commitment.{Commits}
 use Rattle.mbe_matcher.specs.Expected.{Expected, AreExpected, HasAmbiguousPair}
 
 -- the verdict of the rule with this index on the argument
 abbrev pub Explains : Grammar → List Rule → Forest → ℕ → Verdict → Type 0
 Explains g rules argument index v =
     (r : Rule) × (slice_get rules index ≡ Some r) × IsVerdict g r.reads argument v
+
+-- whether no later rule is tried after the rule with this index, even if it doesn't apply
+abbrev pub CommitsThere : Grammar → List Rule → Forest → ℕ → Bool → Type 0
+CommitsThere g rules argument index ends = (r : Rule) × (slice_get rules index ≡ Some r)
+    × (IsTrue ends ↔ Commits g r.reads argument)
 
 -- what the rule with this index expects where its match stops with that verdict
 abbrev pub ExpectedThere : Grammar → List Rule → Forest → ℕ → Verdict → List Expected → Type 0

@@ -17,7 +17,7 @@ use Rattle.mbe_semantics.specs.Transcription.Substitution.{faults, separator_tre
 use Rattle.mbe_semantics.specs.Transcription.Substitution.{Writes, Substitutes, IsSubstitution}
 use Rattle.mbe_semantics.specs.Expansion.Expansion.{Applies, FirstThatApplies}
 use Rattle.mbe_semantics.specs.Expansion.Macro.{Macro, Expands, arm_of}
-use Rattle.mbe_semantics.specs.Laws.Laws.{IsSpanIn, marked_spans, kept_spans}
+use Rattle.mbe_semantics.specs.Laws.Laws.{IsSpanIn, IsGroupSpan, marked_spans, kept_spans}
 
 -- These trees are a fragment of the argument, or the content of its one invisible group, with the
 -- spans that they have there. Only the spacing of a last punct is changed.
@@ -30,14 +30,15 @@ pub record IsOfArgument (argument : Forest) (x : Fragment) (part : Forest) : Typ
 
 module _ (g : Grammar) (Marks : Span → Span → Type 0) (argument : Forest) (call_site : Span) where
   -- the marker's result for a span of the template, the call site, the span of a separator or of an
-  -- unbound name, or a span of the argument
+  -- unbound name, a span of the argument, or the span of a fragment's group
   abbrev pub HasSource : Environment → Ops → Span → Type 0
   HasSource env template span = ((s : Span) × IsSpanIn s (marked_spans template) × Marks s span)
       ⊎ ((span ≡ call_site)
-      ⊎ (IsSpanIn span (kept_spans env template) ⊎ IsSpanIn span (spans_of argument)))
+      ⊎ (IsSpanIn span (kept_spans env template)
+      ⊎ (IsSpanIn span (spans_of argument) ⊎ IsGroupSpan g (marked_spans template) span)))
 
-  -- The expansion of a rule under a reading. A variable of kind `tt`, `ident`, `literal` or
-  -- `lifetime` emits trees of the argument. Each span has a source. A star with fewer than 65536
+  -- The expansion of a rule under a reading. In rust-analyzer's dialect, a variable of kind `tt`,
+  -- `ident`, `literal` or `lifetime` emits trees of the argument. Each span has a source. A star with fewer than 65536
   -- rounds, none of which has a fault, emits them all.
   pub record Traced (r : Rule) (is : Items) (out : Forest) : Type 0 where
     pub written : IsSubstitution g Marks call_site (environment_of is) r.writes out

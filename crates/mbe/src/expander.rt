@@ -1,6 +1,9 @@
 // The choice of the rule. The rules of the call's style are tried in order, and the first one that
 // applies expands the call. If none applies, the closest one gives the error and a tree beside it.
-ghost use Rattle.std.specs.Prelude.{◌≡◌, ◌-◌, ◌^◌, min, IfOk, Some, None, IsSome, true};
+// In rustc's dialect, a rule may end the call: then it gives the error, and no later one is tried.
+ghost use Rattle.std.specs.Prelude.{◌≡◌, ◌-◌, ◌^◌, ◌↔◌, min, IfOk, Some, None, IsSome, true};
+ghost use Rattle.std.specs.Prelude.{IsTrue};
+ghost use Rattle.mbe_semantics.specs.Expansion.Commitment.{Commits};
 ghost use Rattle.mbe_tt.specs.Trees.Top.{top_group};
 ghost use Rattle.mbe_tt.specs.Views.View.{group_of};
 ghost use Rattle.mbe_tt.specs.Trees.Tree.{tree_count};
@@ -21,6 +24,7 @@ ghost use Rattle.mbe.specs.ClosestRule.{IsRecovered, Recovers};
 
 use mbe_bindings::bindings::Bindings;
 use mbe_log::log::BindingLog;
+use mbe_matcher::commitment::commits;
 use mbe_matcher::matcher::{Match, match_argument};
 use mbe_matcher::prefilter::{error_at_start, starts_with_wrong_token};
 use mbe_ops::errors::error::{ExpandError, ExpandErrorKind};
@@ -28,7 +32,7 @@ use mbe_ops::errors::value_result::{ExpandResult, MatchedArmIndex, ValueResult};
 use mbe_parser::rules::Rule;
 use mbe_semantics::macro_call_style::MacroCallStyle;
 use mbe_transcriber::transcriber::transcribe;
-use mbe_tt::grammar::FragmentGrammar;
+use mbe_tt::grammar::{Dialect, FragmentGrammar};
 use mbe_tt::span::{DelimSpan, Span};
 use mbe_tt::tt::{SubtreeView, TopSubtree};
 use std::alloc::{AllocError, Allocator};
@@ -94,6 +98,8 @@ enum RuleOutcome<'a, A: Allocator> {
 enum RuleChoice<'a, A: Allocator> {
     NoRule,
     Expanded(TopSubtree<A>, MatchedArmIndex),
+    // A rule of rustc's dialect ends the call.
+    Ended(Candidate<'a, A>),
     Closest(Candidate<'a, A>),
 }
 
@@ -131,6 +137,7 @@ pub(crate) fn expand_rules<A: Allocator + Copy, G: FragmentGrammar, M: Fn(Span) 
             value: (tree, index),
             err: None,
         }),
+        RuleChoice::Ended(candidate) => recovered(&call, candidate),
         RuleChoice::Closest(candidate) => recovered(&call, candidate),
         RuleChoice::NoRule => no_rule(alloc, site),
     }
@@ -159,12 +166,16 @@ fn choose<'a, A: Allocator + Copy, G: FragmentGrammar, M: Fn(Span) -> Span + Cop
                 return Ok(RuleChoice::Expanded(tree, index));
             }
             RuleOutcome::Fails(nearness, failure) => {
+                let is_last = ends_call(call, rule, &failure)?;
                 let next = Candidate {
                     idx,
                     rule,
                     nearness,
                     failure,
                 };
+                if is_last {
+                    return Ok(RuleChoice::Ended(next));
+                }
                 keep_nearer(&mut nearest, next);
             }
         }
@@ -172,6 +183,28 @@ fn choose<'a, A: Allocator + Copy, G: FragmentGrammar, M: Fn(Span) -> Span + Cop
     match nearest {
         Some(candidate) => Ok(RuleChoice::Closest(candidate)),
         None => Ok(RuleChoice::NoRule),
+    }
+}
+
+// Whether no rule after this one is tried. It fails for that reason.
+fn ends_call<'a, A: Allocator + Copy, G: FragmentGrammar, M: Fn(Span) -> Span + Copy>(
+    call: &CallContext<'a, A, G, M>,
+    rule: &'a Rule<A>,
+    failure: &RuleFailure<'a, A>,
+) -> Result<bool, AllocError>
+    requires checked { Checked (template_of rule.now.lhs) }
+    requires failure { IsRuleFailure (G.grammar call.now.grammar.now) (M.post call.now.marker)
+        call.now.site (group_of call.now.input) (rule_of rule.now) failure.now }
+    ensures { IfOk result (λ ends. IsTrue ends ↔ Commits (G.grammar call.now.grammar.now)
+        (template_of rule.now.lhs) (group_of call.now.input).1) }
+{
+    match failure {
+        RuleFailure::OtherStart => Ok(false),
+        RuleFailure::Faulty(_, _) => Ok(call.grammar.dialect() == Dialect::Rustc),
+        RuleFailure::MatchFailed(_, _) => {
+            let argument = call.input.iter().remaining();
+            commits(call.alloc, call.grammar, &rule.lhs, argument)
+        }
     }
 }
 
@@ -206,7 +239,8 @@ fn try_rule<'a, A: Allocator + Copy, G: FragmentGrammar, M: Fn(Span) -> Span + C
     ensures { IfOk result (IsRuleOutcome (G.grammar call.now.grammar.now) (M.post call.now.marker)
         call.now.site (group_of call.now.input) (rule_of rule.now)) }
 {
-    if starts_with_wrong_token(&rule.lhs, call.input.iter().remaining()) {
+    let dialect = call.grammar.dialect();
+    if starts_with_wrong_token(dialect, &rule.lhs, call.input.iter().remaining()) {
         let nearness = Nearness {
             unmatched: trees,
             bound: 0,
@@ -312,8 +346,8 @@ fn recover_other_start<A: Allocator + Copy, G: FragmentGrammar, M: Fn(Span) -> S
 ) -> Result<ExpandResult<(TopSubtree<A>, MatchedArmIndex), A>, AllocError>
     requires may_mark { MayMark (M.pre call.now.marker) }
     requires checked { Checked (template_of rule.now.lhs) }
-    requires otherwise { starts_with_wrong_token (template_of rule.now.lhs)
-        (group_of call.now.input).1
+    requires otherwise { starts_with_wrong_token (G.grammar call.now.grammar.now).dialect
+        (template_of rule.now.lhs) (group_of call.now.input).1
         ≡ true }
     ensures index { IfOk result (λ r. r.value.1 ≡ index) }
     ensures recovered { IfOk result (λ r. IsRecovered (G.grammar call.now.grammar.now)

@@ -1,14 +1,15 @@
 // Macro definitions: `DeclarativeMacro` is parsed from trees, and expands calls or explains how a
 // rule matches. `expander` chooses the rule. Other crates parse, match and write.
-ghost use Rattle.std.specs.Prelude.{◌≡◌, ◌<◌, [], length, option_map, Some, IfOk};
+ghost use Rattle.std.specs.Prelude.{◌≡◌, ◌<◌, [], length, option_map, Option, Some, IfOk};
+ghost use Rattle.mbe_semantics.specs.Syntax.Template.{Fault};
 ghost use Rattle.mbe_semantics.specs.Syntax.Definition.{with_refusal};
-ghost use Rattle.mbe_ops.specs.Errors.ErrorViews.{fault_of};
 ghost use Rattle.mbe_parser.specs.RuleViews.{rules_seen};
+ghost use Rattle.mbe_parser.specs.Refusals.{refusal_of};
 ghost use Rattle.mbe_ops.specs.Errors.ErrorViews.{parse_error_of, errors_of};
 ghost use Rattle.mbe_semantics.specs.Expansion.Macro.{style_bits, ReportsRefusal, IsChecked};
 ghost use Rattle.mbe_semantics.specs.Expansion.Macro.{Expands};
 ghost use Rattle.mbe_matcher.specs.MatchResults.{verdict_seen};
-ghost use Rattle.mbe.specs.RuleExplanation.{Explains};
+ghost use Rattle.mbe.specs.RuleExplanation.{Explains, CommitsThere};
 ghost use Rattle.mbe.specs.ClosestRule.{Recovers};
 ghost use Rattle.mbe.specs.Styles.{bits_of};
 ghost use Rattle.mbe_tt.specs.Trees.Top.{top_group};
@@ -22,16 +23,30 @@ mod rule_expectations;
 use crate::macro_call_style::MacroCallStyles;
 use crate::macros::argument_view::whole_view;
 use bitflags::Flags;
+use mbe_matcher::commitment::commits;
 use mbe_matcher::matcher::Verdict;
 use mbe_ops::errors::error::{ParseError, SyntaxFault};
 use mbe_ops::errors::value_result::{ExpandResult, MatchedArmIndex};
-use mbe_parser::repetition_check::has_empty_repetition;
+use mbe_parser::refusal::{DefinitionRefusal, why_one_refused, why_refused};
 use mbe_parser::rules::{Rule, parse_one_rule, parse_rules};
 use mbe_semantics::macro_call_style::MacroCallStyle;
 use mbe_tt::grammar::FragmentGrammar;
 use mbe_tt::span::{Edition, Span, SyntaxContext};
 use mbe_tt::tt::TopSubtree;
 use std::alloc::{AllocError, Allocator, Global};
+
+// Returns the error that reports a refusal.
+fn refusal_error<A: Allocator + Copy>(
+    alloc: A,
+    why: Option<DefinitionRefusal>,
+) -> Result<Option<ParseError<A>>, AllocError>
+    ensures { IfOk result (λ err. option_map parse_error_of err ≡ option_map refusal_of why) }
+{
+    match why {
+        Some(why) => Ok(Some(why.error(alloc)?)),
+        None => Ok(None),
+    }
+}
 
 /// A parsed macro definition: its rules up to the first fault, and that fault (as in
 /// rust-analyzer).
@@ -88,14 +103,14 @@ impl<A: Allocator + Copy> DeclarativeMacro<A> {
         requires { MayAsk (E.pre ctx_edition) }
         ensures { IfOk result (λ m. IsParsedRules (E.post ctx_edition) tt.now.1 (macro_of m)) }
     {
-        let (rules, fault) = parse_rules(
+        let (rules, found) = parse_rules(
             alloc,
             ctx_edition,
             tt.iter(),
             &[';'],
             SyntaxFault::ExpectedSemicolon,
         )?;
-        DeclarativeMacro::from_rules(alloc, rules, fault)
+        DeclarativeMacro::from_rules(alloc, rules, why_refused(found))
     }
 
     /// Parses a `macro` definition.
@@ -116,44 +131,36 @@ impl<A: Allocator + Copy> DeclarativeMacro<A> {
     {
         match args {
             Some(args) => {
-                let (rules, fault) = parse_one_rule(alloc, ctx_edition, args.iter(), body.iter())?;
-                DeclarativeMacro::from_rules(alloc, rules, fault)
+                let (rules, found) = parse_one_rule(alloc, ctx_edition, args.iter(), body.iter())?;
+                DeclarativeMacro::from_rules(alloc, rules, why_one_refused(found))
             }
             None => {
-                let (rules, fault) = parse_rules(
+                let (rules, found) = parse_rules(
                     alloc,
                     ctx_edition,
                     body.iter(),
                     &[';', ','],
                     SyntaxFault::ExpectedSeparator,
                 )?;
-                DeclarativeMacro::from_rules(alloc, rules, fault)
+                DeclarativeMacro::from_rules(alloc, rules, why_refused(found))
             }
         }
     }
 
-    // Makes the macro of these rules and the first fault. If a pattern is refused, this replaces
-    // the fault.
+    // Makes the macro of these rules, and of why they are refused, if they are.
     fn from_rules(
         alloc: A,
         rules: Vec<Rule<A>, A>,
-        fault: Option<SyntaxFault>,
+        why: Option<DefinitionRefusal>,
     ) -> Result<DeclarativeMacro<A>, AllocError>
+        requires { (first : Option Fault)
+            × (option_map refusal_of why ≡ with_refusal (rules_seen rules.items) first) }
         ensures { IfOk result (λ m. macro_of m ≡ record {
           rules = rules_seen rules.items;
-          err = with_refusal (rules_seen rules.items) (option_map fault_of fault);
+          err = option_map refusal_of why;
         }) }
     {
-        if has_empty_repetition(&rules) {
-            return Ok(DeclarativeMacro {
-                rules,
-                err: Some(ParseError::RepetitionEmptyTokenTree),
-            });
-        }
-        let err = match fault {
-            None => None,
-            Some(fault) => Some(ParseError::from_fault(alloc, fault)?),
-        };
+        let err = refusal_error(alloc, why)?;
         Ok(DeclarativeMacro { rules, err })
     }
 
@@ -246,6 +253,31 @@ impl<A: Allocator + Copy> DeclarativeMacro<A> {
             (macro_of self.now).rules tt.now.1 rule (verdict_seen verdict)) }
     {
         self.explain_view(alloc, grammar, whole_view(tt), rule)
+    }
+
+    /// Returns whether a call with this argument ends at the rule with this index, even if the rule
+    /// doesn't apply. Then `expand` tries no later rule. It returns `false` in rust-analyzer's
+    /// dialect.
+    ///
+    /// It requires what `explain` requires. In rustc's dialect, a call ends after a local
+    /// ambiguity, after several readings, at a rule whose substitution has a fault, and where a
+    /// fragment begins and has a fault inside. The only failure is `AllocError`, if out of memory
+    /// here or in the grammar.
+    pub fn commits<G: FragmentGrammar>(
+        &self,
+        alloc: A,
+        grammar: &G,
+        tt: &TopSubtree<A>,
+        rule: usize,
+    ) -> Result<bool, AllocError>
+        requires checked { IsChecked (macro_of self.now) }
+        requires rule { rule < length (macro_of self.now).rules }
+        ensures { IfOk result (CommitsThere (G.grammar grammar.now)
+            (macro_of self.now).rules tt.now.1 rule) }
+    {
+        let rule = &self.rules[rule];
+        let argument = tt.iter().remaining();
+        commits(alloc, grammar, &rule.lhs, argument)
     }
 }
 

@@ -5,6 +5,7 @@ pub mod PatternChains
 pub mod RuleLemmas
 pub mod TypeChains
 pub mod FlatTreeLemmas
+pub mod GroupLemmas
 pub mod TakesLemmas
 pub mod WordLemmas
 pub mod ReadText

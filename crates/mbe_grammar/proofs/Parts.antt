@@ -5,7 +5,6 @@ use Rattle.mbe_grammar.specs.declared.tables.parse_result.ParseFailure.TheVarian
 use Rattle.mbe_grammar.specs.declared.sample_types.PathStyle.{PathStyle}
 use Rattle.mbe_grammar.specs.declared.sample_types.PathStyle.TheVariants.{Plain, Expression}
 use Rattle.mbe_grammar.specs.Rule.{meaning, in_turn}
-use Rattle.mbe_grammar.specs.Tables.Rule.{◌>>=◌}
 use Rattle.mbe_grammar.specs.SampleGrammar.{Nonterminal, Lifetime, Angle, Turbofish, Colons, Segment, NextSegment, Path}
 use Rattle.mbe_grammar.specs.SampleGrammar.{Indirection, Pointee, Ty, Block, Assignment, Meta, SignedLiteral}
 use Rattle.mbe_grammar.specs.SampleGrammar.{BindingMode, BoundPat, PathPat, Pat, Alternative, PatTop, Operator}

@@ -5,6 +5,7 @@ use Prim.Native.String.{String}
 use Rattle.std.specs.Prelude.{ℕ, Bool, true, false, ◌||◌, ◌&&◌, List, [], ◌∷◌, map, codes, Ok, Err}
 use Rattle.std.specs.List.{list_any}
 use Rattle.std.specs.Str.{bytes_eq}
+use Rattle.mbe_tt.specs.declared.grammar.Dialect.TheVariants.{RustAnalyzer}
 use Rattle.mbe_tt.specs.Grammars.Grammar.{Grammar}
 use Rattle.mbe_tt.specs.Trees.Tree.{Forest, Tree, passed}
 use Rattle.mbe_tt.specs.declared.tt.DelimiterKind.{DelimiterKind}
@@ -269,4 +270,5 @@ sample = record {
   parse = λ entry tokens. answer entry (trees_of_flat tokens);
   is_keyword =
       is_keyword;
+  dialect = RustAnalyzer;
 }

@@ -36,7 +36,7 @@ use crate::sample_patterns::{pat, pat_top};
 use crate::sample_types::{PathStyle, path, ty};
 use crate::tables::parse_result::ParseResult;
 use crate::tables::terminals::is_text_of;
-use mbe_tt::grammar::{FragmentGrammar, Front, PrefixEntryPoint};
+use mbe_tt::grammar::{Dialect, FragmentGrammar, Front, PrefixEntryPoint};
 use mbe_tt::tt::TokenTreesView;
 use std::alloc::{AllocError, Allocator};
 
@@ -109,6 +109,10 @@ impl FragmentGrammar for SampleGrammar {
 
     fn is_keyword(&self, text: &str) -> bool {
         is_text_of(text, KEYWORDS)
+    }
+
+    fn dialect(&self) -> Dialect {
+        Dialect::RustAnalyzer
     }
 
     ghost lawful = { λ _. sample_lawful };

@@ -15,6 +15,7 @@ use Rattle.mbe_semantics.specs.Syntax.Definition.{Rule}
 use Rattle.mbe_semantics.specs.Bindings.Environment.{environment_of}
 use Rattle.mbe_semantics.specs.Transcription.Substitution.{faults, rawness}
 use Rattle.mbe_semantics.specs.Expansion.Expansion.{Applies, FirstThatApplies, this_one, a_later_one}
+use Rattle.mbe_semantics.specs.Examples.Sample.{open_grammar}
 use Rattle.mbe_semantics.specs.Examples.Sample.{at, ident_of, taken}
 use Rattle.mbe_semantics.specs.Examples.Examples.{ConcatExample, concat_rule, concat_of, foo}
 use Rattle.mbe_laws.proofs.RuleLemmas.{applies_once, faulty_once, parts, defines_one}
@@ -26,7 +27,7 @@ use Rattle.mbe_semantics.specs.Readings.Ambiguity.{IsReading}
 abbrev foo_items : Items
 foo_items = item no_items (taken (codes "x") styles.stripped foo)
 
-foo_read : (g : Grammar) (e : ops.Element) → IsReading g (concat_of e).reads foo foo_items
+foo_read : (g : Grammar) (e : ops.Element) → IsReading (open_grammar g) (concat_of e).reads foo foo_items
 foo_read g e = ((_, refl, (refl, refl)), refl)
 
 foo_faultless : IsFalse (faults (environment_of foo_items) [] concat_rule.writes)
@@ -40,8 +41,8 @@ minus_faults : faults (environment_of foo_items) [] (concat_of minus).writes ≡
 unfolding unicode_ident chars
 minus_faults = refl
 
-minus_refused : (g : Grammar) → Applies g FnLike foo (concat_of minus) → ⊥
-minus_refused g = faulty_once g FnLike foo (concat_of minus) foo_items refl (foo_read g minus)
+minus_refused : (g : Grammar) → Applies (open_grammar g) FnLike foo (concat_of minus) → ⊥
+minus_refused g = faulty_once (open_grammar g) FnLike foo (concat_of minus) foo_items refl (foo_read g minus)
     (λ e. false≢true (sym e ∙ minus_faults))
 
 pub concat_example : ConcatExample
@@ -52,7 +53,7 @@ concat_example = record {
       (token _ _ _ _ refl (nothing _ refl))) refl refl;
   expands = λ g e. (
     concat_rule,
-    applies_once g FnLike foo concat_rule foo_items refl refl
+    applies_once (open_grammar g) FnLike foo concat_rule foo_items refl refl
         (foo_read g (ops.ident_element (ident_of (codes "_bar") (at 0 28 32)))) foo_faultless,
     this_one _ _ _,
     (
@@ -75,7 +76,7 @@ concat_example = record {
   refused = λ g inside e. none_first g 0 e.0 e.1 e.2;
 }
   where
-    none_first : (g : Grammar) (n : _) (r : Rule) (a : Applies g FnLike foo r)
-        → FirstThatApplies g FnLike foo (concat_of minus ∷ []) n r a → ⊥
+    none_first : (g : Grammar) (n : _) (r : Rule) (a : Applies (open_grammar g) FnLike foo r)
+        → FirstThatApplies (open_grammar g) FnLike foo (concat_of minus ∷ []) n r a → ⊥
     none_first g _ _ a (this_one _ _ _) = minus_refused g a
-    none_first g _ _ a (a_later_one _ _ _ _ _ _ _ t _) = elim t [ ]
+    none_first g _ _ a (a_later_one _ _ _ _ _ _ _ _ t _) = elim t [ ]

@@ -13,6 +13,7 @@ use Rattle.mbe_semantics.specs.Syntax.Template.{nothing, token, variable, repeat
 use Rattle.mbe_semantics.specs.Syntax.Definition.{separated, unseparated, no_rule}
 use Rattle.mbe_semantics.specs.Bindings.Environment.{environment_of, binding_total}
 use Rattle.mbe_semantics.specs.Expansion.Expansion.{Applies, FirstThatApplies, this_one, a_later_one}
+use Rattle.mbe_semantics.specs.Examples.Sample.{open_grammar}
 use Rattle.mbe_semantics.specs.Examples.Sample.{taken, at, text_at, joint_at, alone_at}
 use Rattle.mbe_semantics.specs.Examples.Examples.{EndlessExample, endless_rule, simple_rule, one_a, StyledExample}
 use Rattle.mbe_semantics.specs.Examples.Examples.{attr_rule, plain_rule, PathExample, path_rule, path_argument}
@@ -21,6 +22,7 @@ use Rattle.mbe_semantics.specs.Examples.Examples.{RefusedExample, TwiceExample, 
 use Rattle.mbe_semantics.specs.Examples.Examples.{DoubleExample, double_rule, sum_argument, LetExample, FrontExample}
 use Rattle.mbe_semantics.specs.Examples.Examples.{front_argument, NoRuleExample, let_rule, let_argument}
 use Rattle.mbe_laws.proofs.RuleLemmas.{answer_cut, answer_fragment, by_run, fits_once, applies_once, faulty_once}
+use Rattle.mbe_laws.proofs.RuleLemmas.{never_final}
 use Rattle.mbe_laws.proofs.RuleLemmas.{closest_alone, parts, defines_one, defines_two}
 use Rattle.mbe_semantics.specs.Fragments.Kinds as styles
 use Rattle.mbe_semantics.specs.Readings.Item.{Fragment, Item, matched, bound, skipped, rounds, Items, no_items, item}
@@ -39,14 +41,15 @@ use Rattle.mbe_semantics.proofs.PlainLemmas.{one_reading}
 abbrev a_items : Items
 a_items = item no_items (taken (codes "x") styles.stripped one_a)
 
-endless_read : (g : Grammar) → IsReading g endless_rule.reads one_a a_items
+endless_read : (g : Grammar) → IsReading (open_grammar g) endless_rule.reads one_a a_items
 endless_read g = ((_, refl, (refl, refl)), refl)
 
-simple_read : (g : Grammar) → IsReading g simple_rule.reads one_a a_items
+simple_read : (g : Grammar) → IsReading (open_grammar g) simple_rule.reads one_a a_items
 simple_read g = ((_, refl, (refl, refl)), refl)
 
-endless_refused : (g : Grammar) → Applies g FnLike one_a endless_rule → ⊥
-endless_refused g = faulty_once g FnLike one_a endless_rule a_items refl (endless_read g) (λ e. false≢true (sym e))
+endless_refused : (g : Grammar) → Applies (open_grammar g) FnLike one_a endless_rule → ⊥
+endless_refused g = faulty_once (open_grammar g) FnLike one_a endless_rule a_items refl (endless_read g)
+    (λ e. false≢true (sym e))
 
 pub endless_example : EndlessExample
 endless_example = record {
@@ -57,23 +60,23 @@ endless_example = record {
       (token _ _ _ _ refl (nothing _ refl))) refl refl;
   expands = λ g. (
     simple_rule,
-    applies_once g FnLike one_a simple_rule a_items refl refl (simple_read g) refl,
-    a_later_one _ _ _ 0 1 _ (endless_refused g) (this_one _ _ _) refl,
+    applies_once (open_grammar g) FnLike one_a simple_rule a_items refl refl (simple_read g) refl,
+    a_later_one _ _ _ 0 1 _ (endless_refused g) (never_final g FnLike one_a endless_rule) (this_one _ _ _) refl,
     (_, (_, _, refl, refl, refl), refl),
   );
-  alone = λ g. closest_alone g FnLike one_a endless_rule verdicts.one_reading 1 refl (
-    (fits_once g endless_rule.reads one_a a_items refl (endless_read g)).0,
-    (a_items, (fits_once g endless_rule.reads one_a a_items refl (endless_read g)).1),
+  alone = λ g. closest_alone (open_grammar g) FnLike one_a endless_rule verdicts.one_reading 1 refl (
+    (fits_once (open_grammar g) endless_rule.reads one_a a_items refl (endless_read g)).0,
+    (a_items, (fits_once (open_grammar g) endless_rule.reads one_a a_items refl (endless_read g)).1),
   )
       (λ is f. ap (λ x. min (binding_total (environment_of x)) (2 ^ 64 - 1))
-      (one_reading g endless_rule.reads one_a a_items is refl (endless_read g) f.1.0));
+      (one_reading (open_grammar g) endless_rule.reads one_a a_items is refl (endless_read g) f.1.0));
   refused = λ g inside e. none_first g 0 e.0 e.1 e.2;
 }
   where
-    none_first : (g : Grammar) (n : ℕ) (r : _) (a : Applies g FnLike one_a r)
-        → FirstThatApplies g FnLike one_a (endless_rule ∷ []) n r a → ⊥
+    none_first : (g : Grammar) (n : ℕ) (r : _) (a : Applies (open_grammar g) FnLike one_a r)
+        → FirstThatApplies (open_grammar g) FnLike one_a (endless_rule ∷ []) n r a → ⊥
     none_first g _ _ a (this_one _ _ _) = endless_refused g a
-    none_first g _ _ a (a_later_one _ _ _ _ _ _ _ t _) = elim t [ ]
+    none_first g _ _ a (a_later_one _ _ _ _ _ _ _ _ t _) = elim t [ ]
 
 -- ---- rules of another style
 
@@ -85,8 +88,8 @@ styled_example = record {
   styles = refl;
   expands = λ g. (
     plain_rule,
-    applies_once g FnLike none plain_rule no_items refl refl (refl, refl) refl,
-    a_later_one _ _ _ 0 1 _ (λ a. attr_is_other a.styled) (this_one _ _ _) refl,
+    applies_once (open_grammar g) FnLike none plain_rule no_items refl refl (refl, refl) refl,
+    a_later_one _ _ _ 0 1 _ (λ a. attr_is_other a.styled) (never_final g FnLike none attr_rule) (this_one _ _ _) refl,
     (_, (_, _, (_, refl, refl), refl, refl), refl),
   );
 }
@@ -107,7 +110,8 @@ path_example = record {
       (token _ _ _ _ refl (nothing _ refl))) refl refl;
   expands = λ g e. (
     path_rule,
-    applies_once g FnLike path_argument path_rule (item no_items (taken (codes "p") styles.as_path path_argument)) refl
+    applies_once (open_grammar g) FnLike path_argument path_rule
+        (item no_items (taken (codes "p") styles.as_path path_argument)) refl
         refl
         (((_, refl, (refl, ap (answer_fragment (Some kinds.Path) path_argument) e)), refl)) refl,
     this_one _ _ _,
@@ -123,7 +127,7 @@ text_example = record {
       (parts refl (token _ _ _ _ refl (nothing _ refl)) (nothing _ refl)) refl refl;
   expands_literal = λ g. (
     literal_rule,
-    applies_once g FnLike _ literal_rule (item no_items (matched 1)) refl refl
+    applies_once (open_grammar g) FnLike _ literal_rule (item no_items (matched 1)) refl refl
         (((_, refl, refl), refl)) refl,
     this_one _ _ _,
     (_, refl, refl),
@@ -132,7 +136,7 @@ text_example = record {
       (parts refl (token _ _ _ _ refl (nothing _ refl)) (nothing _ refl)) refl refl;
   expands_raw = λ g. (
     raw_rule,
-    applies_once g FnLike _ raw_rule (item no_items (matched 1)) refl refl
+    applies_once (open_grammar g) FnLike _ raw_rule (item no_items (matched 1)) refl refl
         (((_, refl, refl), refl)) refl,
     this_one _ _ _,
     (_, refl, refl),
@@ -145,7 +149,7 @@ unbound_example = record {
       (parts refl (nothing _ refl) (token _ _ _ _ refl (nothing _ refl))) refl refl;
   expands = λ g. (
     unbound_rule,
-    applies_once g FnLike none unbound_rule no_items refl refl (refl, refl) refl,
+    applies_once (open_grammar g) FnLike none unbound_rule no_items refl refl (refl, refl) refl,
     this_one _ _ _,
     (_, (_, _, refl, refl, refl), refl),
   );
@@ -188,7 +192,7 @@ twice_example = record {
       (token _ _ _ _ refl (nothing _ refl))) refl refl;
   expands = λ g. (
     twice_rule,
-    applies_once g FnLike _ twice_rule (item
+    applies_once (open_grammar g) FnLike _ twice_rule (item
         (item no_items (taken (codes "x") styles.stripped (text_at 1 0 (codes "a") none)))
         (taken (codes "x") styles.stripped (text_at 1 2 (codes "b") none))) refl refl
         (((_, (_, refl, (refl, refl)), (refl, refl)), refl)) refl,
@@ -205,7 +209,8 @@ puncts_example = record {
       (token _ _ _ _ refl (token _ _ _ _ refl (nothing _ refl)))) refl refl;
   expands = λ g. (
     puncts_rule,
-    applies_once g FnLike _ puncts_rule (item (item no_items (taken (codes "a") styles.stripped (joint_at 1 0 59 none)))
+    applies_once (open_grammar g) FnLike _ puncts_rule
+        (item (item no_items (taken (codes "a") styles.stripped (joint_at 1 0 59 none)))
         (taken (codes "b") styles.stripped (alone_at 1 1 43 none))) refl refl
         (((_, (_, refl, (refl, refl)), (refl, refl)), refl)) refl,
     this_one _ _ _,
@@ -222,7 +227,8 @@ double_example = record {
       (token _ _ _ _ refl (token _ _ _ _ refl (token _ _ _ _ refl (nothing _ refl))))) refl refl;
   expands = λ g e. (
     double_rule,
-    applies_once g FnLike sum_argument double_rule (item no_items (taken (codes "e") styles.as_expression sum_argument))
+    applies_once (open_grammar g) FnLike sum_argument double_rule
+        (item no_items (taken (codes "e") styles.as_expression sum_argument))
         refl refl
         (((_, refl, (refl, ap (answer_fragment (Some (kinds.Expr exprs.Expr)) sum_argument) e)), refl)) refl,
     this_one _ _ _,
@@ -234,9 +240,10 @@ double_example = record {
   );
 }
 
-let_verdict : (g : Grammar) → IsLawful g → IsVerdict g let_rule.reads let_argument (stuck 0)
+let_verdict : (g : Grammar) → IsLawful (open_grammar g)
+    → IsVerdict (open_grammar g) let_rule.reads let_argument (stuck 0)
 unfolding verdict run tree
-let_verdict g w = by_run g let_rule.reads let_argument (stuck 0) w refl refl
+let_verdict g w = by_run (open_grammar g) let_rule.reads let_argument (stuck 0) w refl refl
 
 pub let_example : LetExample
 let_example = record {
@@ -244,7 +251,7 @@ let_example = record {
       (parts refl (variable _ _ _ _ _ _ _ refl (dated_expr _ refl refl) (nothing _ refl))
       (nothing _ refl)) refl refl;
   verdict = let_verdict;
-  closest = λ g w. closest_alone g FnLike let_argument let_rule (stuck 0) 0 refl (let_verdict g w)
+  closest = λ g w. closest_alone (open_grammar g) FnLike let_argument let_rule (stuck 0) 0 refl (let_verdict g w)
       (λ is f. absurd ((let_verdict g w).1 is f.1.0));
 }
 

@@ -18,6 +18,7 @@ use Rattle.mbe_semantics.specs.Readings.Verdict as verdicts
 use Rattle.mbe_semantics.specs.Readings.Verdict.{Verdict, IsVerdict, unmatched}
 use Rattle.mbe_semantics.specs.Matching.Run.{run, verdict}
 use Rattle.mbe_semantics.specs.Readings.Steps.{tree}
+use Rattle.mbe_semantics.specs.Examples.Sample.{open_grammar}
 use Rattle.mbe_semantics.specs.Examples.Sample.{taken, text_at, number_at, alone_at, delimiter_of, at}
 use Rattle.std.specs.Fmt.{digits}
 use Rattle.mbe_tt.specs.declared.tt.DelimiterKind.TheVariants.{Parenthesis}
@@ -30,25 +31,30 @@ use Rattle.mbe_semantics.specs.Examples.FurtherExamples.{one_binding, two_bindin
 use Rattle.mbe_semantics.specs.Examples.FurtherExamples.{EarliestExample, earlier_rule, later_rule, p_argument}
 use Rattle.mbe_semantics.specs.Examples.FurtherExamples.{MarkedExample}
 use Rattle.mbe_laws.proofs.RuleLemmas.{by_run, fits_once, applies_once, applies_by_run, parts, defines_one}
+use Rattle.mbe_laws.proofs.RuleLemmas.{never_final}
 use Rattle.mbe_laws.proofs.Matching.RunLemmas.{one_verdict}
 
 -- ---- a literal and its sign
 
-never_at : (g : Grammar) → IsLawful g → (r : Rule) (argument : Forest) → IsVerdict g r.reads argument (verdicts.stuck 0)
-    → Applies g FnLike argument r → ⊥
+never_at : (g : Grammar) → IsLawful (open_grammar g) → (r : Rule) (argument : Forest)
+    → IsVerdict (open_grammar g) r.reads argument (verdicts.stuck 0)
+    → Applies (open_grammar g) FnLike argument r → ⊥
 never_at g w r argument v a = v.1 a.items (a.fits).1.0
 
-no_one : (g : Grammar) → IsLawful g → IsVerdict g one_rule.reads signed_argument (verdicts.stuck 0)
+no_one : (g : Grammar) → IsLawful (open_grammar g)
+    → IsVerdict (open_grammar g) one_rule.reads signed_argument (verdicts.stuck 0)
 unfolding verdict run tree
-no_one g w = by_run g one_rule.reads signed_argument (verdicts.stuck 0) w refl refl
+no_one g w = by_run (open_grammar g) one_rule.reads signed_argument (verdicts.stuck 0) w refl refl
 
-no_two : (g : Grammar) → IsLawful g → IsVerdict g two_rule.reads signed_argument (verdicts.stuck 0)
+no_two : (g : Grammar) → IsLawful (open_grammar g)
+    → IsVerdict (open_grammar g) two_rule.reads signed_argument (verdicts.stuck 0)
 unfolding verdict run tree
-no_two g w = by_run g two_rule.reads signed_argument (verdicts.stuck 0) w refl refl
+no_two g w = by_run (open_grammar g) two_rule.reads signed_argument (verdicts.stuck 0) w refl refl
 
-no_three : (g : Grammar) → IsLawful g → IsVerdict g three_rule.reads signed_argument (verdicts.stuck 0)
+no_three : (g : Grammar) → IsLawful (open_grammar g)
+    → IsVerdict (open_grammar g) three_rule.reads signed_argument (verdicts.stuck 0)
 unfolding verdict run tree
-no_three g w = by_run g three_rule.reads signed_argument (verdicts.stuck 0) w refl refl
+no_three g w = by_run (open_grammar g) three_rule.reads signed_argument (verdicts.stuck 0) w refl refl
 
 pub sign_example : SignExample
 sign_example = record {
@@ -71,19 +77,21 @@ sign_example = record {
   );
   taken = λ g w. (
     any_literal_rule,
-    applies_once g FnLike signed_argument any_literal_rule
+    applies_once (open_grammar g) FnLike signed_argument any_literal_rule
         (item (item no_items (matched 1)) (taken (codes "lit") styles.stripped
         (alone_at 1 1 45 (number_at 1 2 (codes "1") none)))) refl refl
         ((_, (_, refl, refl), (refl, refl)), refl) refl,
-    a_later_one _ _ _ 2 3 _ (never_at g w one_rule signed_argument (no_one g w))
-        (a_later_one _ _ _ 1 2 _ (never_at g w two_rule signed_argument (no_two g w))
-        (a_later_one _ _ _ 0 1 _ (never_at g w three_rule signed_argument (no_three g w)) (this_one _ _ _) refl) refl)
+    a_later_one _ _ _ 2 3 _ (never_at g w one_rule signed_argument (no_one g w)) (never_final g FnLike signed_argument one_rule)
+        (a_later_one _ _ _ 1 2 _ (never_at g w two_rule signed_argument (no_two g w)) (never_final g FnLike signed_argument two_rule)
+        (a_later_one _ _ _ 0 1 _ (never_at g w three_rule signed_argument (no_three g w)) (never_final g FnLike signed_argument three_rule)
+        (this_one _ _ _) refl) refl)
         refl,
     (_, (_, _, refl, refl, refl), refl),
   );
   spaced = λ g. (
     one_rule,
-    applies_once g FnLike spaced_argument one_rule (item (item no_items (matched 1)) (matched 1)) refl refl
+    applies_once (open_grammar g) FnLike spaced_argument one_rule (item (item no_items (matched 1)) (matched 1)) refl
+        refl
         ((_, (_, refl, refl), refl), refl) refl,
     this_one _ _ _,
     (_, (_, _, (_, _, refl, refl, refl), (_, _, (_, refl, refl), refl, refl), refl), refl),
@@ -96,12 +104,13 @@ abbrev plus_items : Items
 plus_items =
     item (item no_items (rounds no_rounds (item no_items (matched 1)))) (matched 1)
 
-plus_read : (g : Grammar) → IsReading g plus_rule.reads star_argument plus_items
+plus_read : (g : Grammar) → IsReading (open_grammar g) plus_rule.reads star_argument plus_items
 plus_read g = ((_, (_, refl, (tt, (_, refl, refl))), refl), refl)
 
-plus_applies : (g : Grammar) → IsLawful g → Applies g FnLike star_argument plus_rule
+plus_applies : (g : Grammar) → IsLawful (open_grammar g) → Applies (open_grammar g) FnLike star_argument plus_rule
 unfolding verdict run tree
-plus_applies g w = applies_by_run g FnLike star_argument plus_rule plus_items w refl refl refl (plus_read g)
+plus_applies g w = applies_by_run (open_grammar g) FnLike star_argument plus_rule plus_items w refl refl refl
+    (plus_read g)
     refl
 
 pub plus_example : PlusExample
@@ -116,15 +125,17 @@ plus_example = record {
 
 -- ---- invisible groups
 
-closed_verdict : (g : Grammar) → IsLawful g → IsVerdict g ident_rule.reads hidden_a (verdicts.stuck 0)
+closed_verdict : (g : Grammar) → IsLawful (open_grammar g)
+    → IsVerdict (open_grammar g) ident_rule.reads hidden_a (verdicts.stuck 0)
 unfolding verdict run tree
-closed_verdict g w = by_run g ident_rule.reads hidden_a (verdicts.stuck 0) w refl refl
+closed_verdict g w = by_run (open_grammar g) ident_rule.reads hidden_a (verdicts.stuck 0) w refl refl
 
 pub invisible_example : InvisibleExample
 invisible_example = record {
   opened = λ g. (
     tree_rule,
-    applies_once g FnLike hidden_a tree_rule (item no_items (taken (codes "x") styles.stripped hidden_a)) refl refl
+    applies_once (open_grammar g) FnLike hidden_a tree_rule
+        (item no_items (taken (codes "x") styles.stripped hidden_a)) refl refl
         ((_, refl, (refl, refl)), refl) refl,
     this_one _ _ _,
     (_, (_, _, refl, refl, refl), refl),
@@ -132,7 +143,7 @@ invisible_example = record {
   closed = closed_verdict;
   entered = λ g. (
     hidden_rule,
-    applies_once g FnLike hidden_a hidden_rule
+    applies_once (open_grammar g) FnLike hidden_a hidden_rule
         (item no_items (grouped (item no_items (taken (codes "x") styles.stripped (text_at 1 0 (codes "a") none)))))
         refl refl
         ((_, refl, (refl, (_, refl, (refl, refl)), refl)), refl) refl,
@@ -154,7 +165,7 @@ stays_items =
     item (item no_items (word_item 0 (codes "a")))
     (rounds (round no_rounds (item no_items (word_item 2 (codes "b"))) 0) (item no_items (word_item 4 (codes "c"))))
 
-stays_read : (g : Grammar) → IsReading g one_then_list.reads stays_argument stays_items
+stays_read : (g : Grammar) → IsReading (open_grammar g) one_then_list.reads stays_argument stays_items
 stays_read g = (
   (
     _,
@@ -171,9 +182,9 @@ stays_read g = (
   refl,
 )
 
-stays_applies : (g : Grammar) → IsLawful g → Applies g FnLike stays_argument one_then_list
+stays_applies : (g : Grammar) → IsLawful (open_grammar g) → Applies (open_grammar g) FnLike stays_argument one_then_list
 unfolding verdict run tree
-stays_applies g w = applies_by_run g FnLike stays_argument one_then_list stays_items w refl refl refl
+stays_applies g w = applies_by_run (open_grammar g) FnLike stays_argument one_then_list stays_items w refl refl refl
     (stays_read g) refl
 
 abbrev replaces_argument : Forest
@@ -184,7 +195,7 @@ replaces_items =
     item (item (item no_items (rounds (round no_rounds (item no_items (word_item 0 (codes "a"))) 0)
     (item no_items (word_item 2 (codes "b"))))) (matched 1)) (word_item 6 (codes "c"))
 
-replaces_read : (g : Grammar) → IsReading g list_then_one.reads replaces_argument replaces_items
+replaces_read : (g : Grammar) → IsReading (open_grammar g) list_then_one.reads replaces_argument replaces_items
 replaces_read g = (
   (
     _,
@@ -194,9 +205,11 @@ replaces_read g = (
   refl,
 )
 
-replaces_applies : (g : Grammar) → IsLawful g → Applies g FnLike replaces_argument list_then_one
+replaces_applies : (g : Grammar) → IsLawful (open_grammar g)
+    → Applies (open_grammar g) FnLike replaces_argument list_then_one
 unfolding verdict run tree
-replaces_applies g w = applies_by_run g FnLike replaces_argument list_then_one replaces_items w refl refl refl
+replaces_applies g w = applies_by_run (open_grammar g) FnLike replaces_argument list_then_one replaces_items w refl
+    refl refl
     (replaces_read g) refl
 
 abbrev appended_argument : Forest
@@ -207,7 +220,7 @@ appended_items =
     item (item (item no_items (rounds no_rounds (item no_items (word_item 0 (codes "a"))))) (matched 1))
     (rounds (round no_rounds (item no_items (word_item 4 (codes "b"))) 1) (item no_items (word_item 7 (codes "c"))))
 
-appended_read : (g : Grammar) → IsReading g two_lists.reads appended_argument appended_items
+appended_read : (g : Grammar) → IsReading (open_grammar g) two_lists.reads appended_argument appended_items
 appended_read g = (
   (
     _,
@@ -217,9 +230,11 @@ appended_read g = (
   refl,
 )
 
-appended_applies : (g : Grammar) → IsLawful g → Applies g FnLike appended_argument two_lists
+appended_applies : (g : Grammar) → IsLawful (open_grammar g)
+    → Applies (open_grammar g) FnLike appended_argument two_lists
 unfolding verdict run tree
-appended_applies g w = applies_by_run g FnLike appended_argument two_lists appended_items w refl refl refl
+appended_applies g w = applies_by_run (open_grammar g) FnLike appended_argument two_lists appended_items w refl refl
+    refl
     (appended_read g) refl
 
 abbrev skipped_argument : Forest
@@ -230,12 +245,12 @@ skipped_items =
     item (item (item no_items (skipped (codes "x" ∷ []))) (matched 1))
     (rounds no_rounds (item no_items (word_item 2 (codes "b"))))
 
-skipped_read : (g : Grammar) → IsReading g two_lists.reads skipped_argument skipped_items
+skipped_read : (g : Grammar) → IsReading (open_grammar g) two_lists.reads skipped_argument skipped_items
 skipped_read g = ((_, (_, (_, refl, (tt, refl)), refl), (tt, (_, refl, (refl, refl)))), refl)
 
-skipped_applies : (g : Grammar) → IsLawful g → Applies g FnLike skipped_argument two_lists
+skipped_applies : (g : Grammar) → IsLawful (open_grammar g) → Applies (open_grammar g) FnLike skipped_argument two_lists
 unfolding verdict run tree
-skipped_applies g w = applies_by_run g FnLike skipped_argument two_lists skipped_items w refl refl refl
+skipped_applies g w = applies_by_run (open_grammar g) FnLike skipped_argument two_lists skipped_items w refl refl refl
     (skipped_read g) refl
 
 pub names_example : NamesExample
@@ -261,7 +276,8 @@ names_example = record {
   );
   beside = λ g. (
     beside_rule,
-    applies_once g FnLike (a_at 0 (group (delimiter_of Parenthesis (at 1 2 3) (at 1 4 5)) (text_at 1 3 (codes "b") none)
+    applies_once (open_grammar g) FnLike
+        (a_at 0 (group (delimiter_of Parenthesis (at 1 2 3) (at 1 4 5)) (text_at 1 3 (codes "b") none)
         none)) beside_rule
         (item (item no_items (word_item 0 (codes "a")))
         (grouped (item no_items (taken (codes "y") styles.stripped (text_at 1 3 (codes "b") none))))) refl refl
@@ -390,26 +406,29 @@ abbrev second_items : Items
 second_items = item (item no_items (taken (codes "x") styles.stripped (text_at 1 0 (codes "p") none)))
     (taken (codes "y") styles.stripped (text_at 1 2 (codes "q") none))
 
-first_fits : (g : Grammar) → Fits g one_binding.reads pq_argument first_items
-first_fits g = fits_once g one_binding.reads pq_argument first_items refl ((_, (_, refl, refl), (refl, refl)), refl)
+first_fits : (g : Grammar) → Fits (open_grammar g) one_binding.reads pq_argument first_items
+first_fits g = fits_once (open_grammar g) one_binding.reads pq_argument first_items refl
+    ((_, (_, refl, refl), (refl, refl)), refl)
 
-second_fits : (g : Grammar) → Fits g two_bindings.reads pq_argument second_items
-second_fits g = fits_once g two_bindings.reads pq_argument second_items refl
+second_fits : (g : Grammar) → Fits (open_grammar g) two_bindings.reads pq_argument second_items
+second_fits g = fits_once (open_grammar g) two_bindings.reads pq_argument second_items refl
     ((_, (_, refl, (refl, refl)), (refl, refl)), refl)
 
 pub most_bindings_example : MostBindingsExample
 most_bindings_example = record {
-  closest = λ g. second_closest g pq_argument one_binding two_bindings first_items second_items (first_fits g)
+  closest = λ g. second_closest (open_grammar g) pq_argument one_binding two_bindings first_items second_items
+      (first_fits g)
       (second_fits g) refl refl (omega arith);
-  only = λ g. first_not g pq_argument one_binding two_bindings first_items second_items (first_fits g) (second_fits g)
+  only = λ g. first_not (open_grammar g) pq_argument one_binding two_bindings first_items second_items (first_fits g)
+      (second_fits g)
       refl refl (omega arith);
 }
 
 abbrev p_items : List ℕ → Items
 p_items name = item no_items (taken name styles.stripped p_argument)
 
-earlier_fits : (g : Grammar) → Fits g earlier_rule.reads p_argument (p_items (codes "x"))
-earlier_fits g = fits_once g earlier_rule.reads p_argument (p_items (codes "x")) refl (
+earlier_fits : (g : Grammar) → Fits (open_grammar g) earlier_rule.reads p_argument (p_items (codes "x"))
+earlier_fits g = fits_once (open_grammar g) earlier_rule.reads p_argument (p_items (codes "x")) refl (
   (
     _,
     refl,
@@ -418,14 +437,16 @@ earlier_fits g = fits_once g earlier_rule.reads p_argument (p_items (codes "x"))
   refl,
 )
 
-later_fits : (g : Grammar) → Fits g later_rule.reads p_argument (p_items (codes "y"))
-later_fits g = fits_once g later_rule.reads p_argument (p_items (codes "y")) refl ((_, refl, (refl, refl)), refl)
+later_fits : (g : Grammar) → Fits (open_grammar g) later_rule.reads p_argument (p_items (codes "y"))
+later_fits g = fits_once (open_grammar g) later_rule.reads p_argument (p_items (codes "y")) refl
+    ((_, refl, (refl, refl)), refl)
 
 pub earliest_example : EarliestExample
 earliest_example = record {
-  closest = λ g. first_closest g p_argument earlier_rule later_rule (p_items (codes "x")) (p_items (codes "y"))
+  closest = λ g. first_closest (open_grammar g) p_argument earlier_rule later_rule (p_items (codes "x"))
+      (p_items (codes "y"))
       (earlier_fits g) (later_fits g) refl refl (omega arith);
-  only = λ g. second_not g p_argument earlier_rule later_rule (p_items (codes "x")) (p_items (codes "y"))
+  only = λ g. second_not (open_grammar g) p_argument earlier_rule later_rule (p_items (codes "x")) (p_items (codes "y"))
       (earlier_fits g) (later_fits g) refl refl (omega arith);
 }
 

@@ -10,12 +10,14 @@ use Rattle.mbe_semantics.specs.declared.fragment_kinds.MetaVarKind.TheVariants a
 use Rattle.mbe_semantics.specs.Syntax.Template.{nothing, token, variable, repeated, undated}
 use Rattle.mbe_tt.specs.declared.grammar.PrefixEntryPoint.TheVariants.{Vis}
 use Rattle.mbe_semantics.specs.Expansion.Expansion.{Applies, this_one, a_later_one}
+use Rattle.mbe_semantics.specs.Examples.Sample.{open_grammar}
 use Rattle.mbe_semantics.specs.Examples.Sample.{taken, text_at}
 use Rattle.mbe_semantics.specs.Examples.Examples.{ListExample, list_rule, list_argument, IndexExample, index_rule}
 use Rattle.mbe_semantics.specs.Examples.Examples.{two_words, UnknownExample, unknown_rule, any_rule, one_a}
 use Rattle.mbe_semantics.specs.Examples.Examples.{EmptyExample, empty_rule, ZipExample, zip_rule, zip_argument}
 use Rattle.mbe_semantics.specs.Examples.Examples.{CountExample, count_rule, count_argument}
 use Rattle.mbe_laws.proofs.RuleLemmas.{answer_fragment, fits_by_run, applies_by_run, by_run, closest_alone, parts}
+use Rattle.mbe_laws.proofs.RuleLemmas.{never_final}
 use Rattle.mbe_laws.proofs.RuleLemmas.{defines_one, defines_two}
 use Rattle.mbe_semantics.specs.Fragments.Kinds as styles
 use Rattle.mbe_semantics.specs.Readings.Item.{Fragment, Item, matched, bound, skipped, rounds, Items, no_items, item}
@@ -39,9 +41,9 @@ list_items = item no_items (rounds (round no_rounds
     (item no_items (taken (codes "x") styles.stripped (text_at 1 0 (codes "a") none))) 1)
     (item no_items (taken (codes "x") styles.stripped (text_at 1 3 (codes "b") none))))
 
-list_applies : (g : Grammar) → IsLawful g → Applies g FnLike list_argument list_rule
+list_applies : (g : Grammar) → IsLawful (open_grammar g) → Applies (open_grammar g) FnLike list_argument list_rule
 unfolding verdict run tree
-list_applies g w = applies_by_run g FnLike list_argument list_rule list_items w refl refl refl (
+list_applies g w = applies_by_run (open_grammar g) FnLike list_argument list_rule list_items w refl refl refl (
   (
     _,
     refl,
@@ -65,17 +67,17 @@ list_example = record {
   );
 }
 
-index_applies_run : (g : Grammar) → verdict g index_rule.reads two_words ≡ verdicts.one_reading
+index_applies_run : (g : Grammar) → verdict (open_grammar g) index_rule.reads two_words ≡ verdicts.one_reading
 unfolding verdict run tree
 index_applies_run g = refl
 
-index_applies : (g : Grammar) → IsLawful g → Applies g FnLike two_words index_rule
+index_applies : (g : Grammar) → IsLawful (open_grammar g) → Applies (open_grammar g) FnLike two_words index_rule
 index_applies g w = record {
   styled = refl;
   items = (item no_items (rounds (round no_rounds
       (item no_items (taken (codes "x") styles.stripped (text_at 1 0 (codes "a") none))) 0)
       (item no_items (taken (codes "x") styles.stripped (text_at 1 2 (codes "b") none)))));
-  fits = fits_by_run g index_rule.reads two_words
+  fits = fits_by_run (open_grammar g) index_rule.reads two_words
       (item no_items (rounds (round no_rounds
       (item no_items (taken (codes "x") styles.stripped (text_at 1 0 (codes "a") none))) 0)
       (item no_items (taken (codes "x") styles.stripped (text_at 1 2 (codes "b") none))))) w refl
@@ -118,22 +120,23 @@ index_example = record {
   );
 }
 
-unknown_run : (g : Grammar) → verdict g unknown_rule.reads one_a ≡ verdicts.stuck 0
+unknown_run : (g : Grammar) → verdict (open_grammar g) unknown_rule.reads one_a ≡ verdicts.stuck 0
 unfolding verdict run tree
 unknown_run g = refl
 
-no_unknown : (g : Grammar) → IsLawful g → (is : Items) → IsReading g unknown_rule.reads one_a is → ⊥
-no_unknown g w = (by_run g unknown_rule.reads one_a (verdicts.stuck 0) w refl (unknown_run g)).1
+no_unknown : (g : Grammar) → IsLawful (open_grammar g) → (is : Items)
+    → IsReading (open_grammar g) unknown_rule.reads one_a is → ⊥
+no_unknown g w = (by_run (open_grammar g) unknown_rule.reads one_a (verdicts.stuck 0) w refl (unknown_run g)).1
 
-any_applies_run : (g : Grammar) → verdict g any_rule.reads one_a ≡ verdicts.one_reading
+any_applies_run : (g : Grammar) → verdict (open_grammar g) any_rule.reads one_a ≡ verdicts.one_reading
 unfolding verdict run tree
 any_applies_run g = refl
 
-any_applies : (g : Grammar) → IsLawful g → Applies g FnLike one_a any_rule
+any_applies : (g : Grammar) → IsLawful (open_grammar g) → Applies (open_grammar g) FnLike one_a any_rule
 any_applies g w = record {
   styled = refl;
   items = (item no_items (rounds no_rounds (item no_items (taken (codes "t") styles.stripped one_a))));
-  fits = fits_by_run g any_rule.reads one_a
+  fits = fits_by_run (open_grammar g) any_rule.reads one_a
       (item no_items (rounds no_rounds (item no_items (taken (codes "t") styles.stripped one_a)))) w refl
       (any_applies_run g) ((_, refl, (tt, (_, refl, (refl, refl)))), refl);
   faultless = refl;
@@ -150,7 +153,7 @@ unknown_example = record {
   expands = λ g w. (
     any_rule,
     any_applies g w,
-    a_later_one _ _ _ 0 1 _ (λ a. no_unknown g w a.items (a.fits).1.0) (this_one _ _ _) refl,
+    a_later_one _ _ _ 0 1 _ (λ a. no_unknown g w a.items (a.fits).1.0) (never_final g FnLike one_a unknown_rule) (this_one _ _ _) refl,
     (_, refl, refl),
   );
 }
@@ -164,7 +167,7 @@ zip_items =
     (rounds (round no_rounds (item no_items (taken (codes "b") styles.stripped (text_at 1 8 (codes "s") none))) 0)
     (item no_items (taken (codes "b") styles.stripped (text_at 1 10 (codes "t") none))))
 
-zip_read : (g : Grammar) → IsReading g zip_rule.reads zip_argument zip_items
+zip_read : (g : Grammar) → IsReading (open_grammar g) zip_rule.reads zip_argument zip_items
 zip_read g = (
   (
     _,
@@ -185,9 +188,10 @@ zip_read g = (
   refl,
 )
 
-zip_applies : (g : Grammar) → IsLawful g → Applies g FnLike zip_argument zip_rule
+zip_applies : (g : Grammar) → IsLawful (open_grammar g) → Applies (open_grammar g) FnLike zip_argument zip_rule
 unfolding verdict run tree
-zip_applies g w = applies_by_run g FnLike zip_argument zip_rule zip_items w refl refl refl (zip_read g) refl
+zip_applies g w = applies_by_run (open_grammar g) FnLike zip_argument zip_rule zip_items w refl refl refl (zip_read g)
+    refl
 
 pub zip_example : ZipExample
 unfolding zip_applies
@@ -233,7 +237,7 @@ count_items =
     (item no_items (rounds no_rounds (item no_items
     (taken (codes "x") styles.stripped (text_at 1 5 (codes "c") none))))))
 
-count_read : (g : Grammar) → IsReading g count_rule.reads count_argument count_items
+count_read : (g : Grammar) → IsReading (open_grammar g) count_rule.reads count_argument count_items
 count_read g = (
   (
     _,
@@ -251,9 +255,9 @@ count_read g = (
   refl,
 )
 
-count_applies : (g : Grammar) → IsLawful g → Applies g FnLike count_argument count_rule
+count_applies : (g : Grammar) → IsLawful (open_grammar g) → Applies (open_grammar g) FnLike count_argument count_rule
 unfolding verdict run tree
-count_applies g w = applies_by_run g FnLike count_argument count_rule count_items w refl refl refl
+count_applies g w = applies_by_run (open_grammar g) FnLike count_argument count_rule count_items w refl refl refl
     (count_read g) refl
 
 pub count_example : CountExample
@@ -290,23 +294,24 @@ unfolding skipped_round empty_round
 empty_differ e = false≢true (ap has_round e)
 
 -- nothing goes on in front of no trees
-never_goes : (g : Grammar) → IsLawful g → (q n : ℕ) (f : Bool) (x : PartialReading)
-    → StepsOver (input_of g none) q n f x → ⊥
+never_goes : (g : Grammar) → IsLawful (open_grammar g) → (q n : ℕ) (f : Bool) (x : PartialReading)
+    → StepsOver (input_of (open_grammar g) none) q n f x → ⊥
 never_goes g w q n f x h =
-    let l : (0 < n) × (q + n ≤ 0) = next-takes (input_of g none) 0 q n f x h.0 (lawful_input g none w) h.1 in
+    let l : (0 < n) × (q + n ≤ 0) = next-takes (input_of (open_grammar g) none) 0 q n f x h.0
+    (lawful_input (open_grammar g) none w) h.1 in
     let a = l.0 in let b = l.1 in omega (arith, a, b)
 
-empty_skipped : (g : Grammar) → IsReading g empty_rule.reads none skipped_round
+empty_skipped : (g : Grammar) → IsReading (open_grammar g) empty_rule.reads none skipped_round
 unfolding skipped_round
 empty_skipped g = ((_, refl, (tt, refl)), refl)
 
 empty_read : (g : Grammar) → g.parse Vis [] ≡ record { count = 0; fault = false }
-    → IsReading g empty_rule.reads none empty_round
+    → IsReading (open_grammar g) empty_rule.reads none empty_round
 unfolding empty_round
 empty_read g e = ((_, refl, (tt, (_, refl, (refl, ap (answer_fragment (Some kinds.Vis) none) e)))), refl)
 
-empty_verdict : (g : Grammar) → IsLawful g → g.parse Vis [] ≡ record { count = 0; fault = false }
-    → IsVerdict g empty_rule.reads none many_readings
+empty_verdict : (g : Grammar) → IsLawful (open_grammar g) → g.parse Vis [] ≡ record { count = 0; fault = false }
+    → IsVerdict (open_grammar g) empty_rule.reads none many_readings
 empty_verdict g w e = (
   (λ q a. never_goes g w q a.n a.f a.one a.one_steps),
   (skipped_round, empty_round, empty_skipped g, empty_read g e, empty_differ),
@@ -319,7 +324,7 @@ empty_example = record {
       (nothing _ refl)) (nothing _ refl))
       (nothing _ refl)) refl refl;
   verdict = empty_verdict;
-  closest = λ g w e. closest_alone g FnLike none empty_rule many_readings 0 refl (empty_verdict g w e)
+  closest = λ g w e. closest_alone (open_grammar g) FnLike none empty_rule many_readings 0 refl (empty_verdict g w e)
       (λ is f. absurd (empty_differ (f.1.1 skipped_round (empty_skipped g)
       ∙ sym (f.1.1 empty_round (empty_read g e)))));
 }

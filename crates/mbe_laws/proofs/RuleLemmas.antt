@@ -2,9 +2,11 @@
 use Rattle.std.specs.Prelude.{◌≡◌, ◌⊎◌, ◌-◌, ◌^◌, ◌&&◌, ◌==◌, not, ℕ, zero, suc, min, if◌then◌else◌, IsTrue, IsFalse}
 use Rattle.std.specs.Prelude.{[], ◌∷◌, Option, Some, None, Ok, refl}
 use Rattle.std.proofs.Common.{arith, subst, sym, ◌∙◌}
+use Rattle.std.proofs.Math.Bool.{false≢true}
 use Rattle.std.proofs.lemmas.Option.{none-some, same_Some}
 use Rattle.mbe_tt.specs.Trees.Tree.{Forest, none, flat_len, Cut, cut_flat}
 use Rattle.mbe_tt.specs.Grammars.Grammar.{Grammar, IsLawful}
+use Rattle.mbe_tt.specs.declared.grammar.Dialect.TheVariants.{RustAnalyzer}
 use Rattle.mbe_tt.specs.declared.grammar.Front.{Front}
 use Rattle.mbe_semantics.specs.declared.macro_call_style.MacroCallStyle.{MacroCallStyle}
 use Rattle.mbe_semantics.specs.Syntax.Op.{Ops, has_no_repetition}
@@ -12,11 +14,11 @@ use Rattle.mbe_semantics.specs.Syntax.Template as read
 use Rattle.mbe_semantics.specs.Syntax.Template.{Template, Fault}
 use Rattle.mbe_semantics.specs.Syntax.Definition.{Rule, RuleTrees, AreParts, ended, separated, IsMacroRules}
 use Rattle.mbe_semantics.specs.Syntax.Definition.{rule_trees_at, after_separator, with_refusal}
-use Rattle.mbe_semantics.specs.Examples.Sample.{Defines, is_2024}
+use Rattle.mbe_semantics.specs.Examples.Sample.{Defines, is_2024, open_grammar}
 use Rattle.mbe_semantics.specs.Readings.Verdict.{Verdict, IsVerdict, unmatched}
 use Rattle.mbe_semantics.specs.Bindings.Environment.{environment_of, binding_total}
 use Rattle.mbe_semantics.specs.Transcription.Substitution.{faults}
-use Rattle.mbe_semantics.specs.Expansion.Expansion.{Applies}
+use Rattle.mbe_semantics.specs.Expansion.Expansion.{Applies, IsFinal}
 use Rattle.mbe_semantics.specs.Expansion.Recovery.{IsClosest, IsStyledAt, IsCloser}
 use Rattle.mbe_semantics.specs.declared.fragment_kinds.MetaVarKind.{MetaVarKind}
 use Rattle.mbe_semantics.specs.Readings.Item.{Fragment, Items}
@@ -39,9 +41,9 @@ abbrev pub fits_once : (g : Grammar) (pattern : Ops) (argument : Forest) (is : I
 fits_once g pattern argument is h r =
     ((λ q. never_ambiguous g pattern argument q h), (r, λ others s. one_reading g pattern argument others is h s r))
 
--- what an answer of the grammar binds
+-- what an answer of the grammar binds in rust-analyzer's dialect
 abbrev pub answer_fragment : Option MetaVarKind → Forest → Front → Option Fragment
-answer_fragment kind f a = fragment_of kind (answer_cut f a)
+answer_fragment kind f a = fragment_of RustAnalyzer kind (answer_cut f a)
 
 -- the verdict, by a run
 pub by_run : (g : Grammar) (p : Ops) (a : Forest) (v : Verdict) → IsLawful g → Checked p → verdict g p a ≡ v
@@ -71,6 +73,11 @@ abbrev pub applies_by_run : (g : Grammar) (style : MacroCallStyle) (argument : F
     Applies g style argument r
 applies_by_run g style argument r is w c s e d f =
     record { styled = s; items = is; fits = fits_by_run g r.reads argument is w c e d; faultless = f }
+
+-- rust-analyzer goes on after each rule
+pub never_final : (g : Grammar) (style : MacroCallStyle) (argument : Forest) (r : Rule)
+    → IsFinal (open_grammar g) style argument r → ⊥
+never_final g style argument r f = false≢true (f.1).rustc
 
 -- a rule whose only reading faults doesn't apply
 pub faulty_once : (g : Grammar) (style : MacroCallStyle) (argument : Forest) (r : Rule) (is : Items)

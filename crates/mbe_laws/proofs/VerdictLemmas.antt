@@ -9,6 +9,7 @@ use Rattle.mbe_semantics.specs.Syntax.Template.{token, nothing}
 use Rattle.mbe_semantics.specs.Syntax.Definition.{Rule}
 use Rattle.mbe_semantics.specs.Bindings.Environment.{environment_of, binding_total}
 use Rattle.mbe_semantics.specs.Expansion.Recovery.{IsClosest, IsStyledAt, IsCloser}
+use Rattle.mbe_semantics.specs.Examples.Sample.{open_grammar}
 use Rattle.mbe_semantics.specs.Examples.Examples.{NearestExample, far_rule, near_rule, near_argument}
 use Rattle.mbe_semantics.specs.Readings.Item.{Items}
 use Rattle.mbe_semantics.specs.Readings.Ambiguity.{IsReading, Fits}
@@ -20,13 +21,15 @@ use Rattle.mbe_laws.proofs.Matching.RunLemmas.{one_verdict}
 
 -- ---- `(a b) => {}; (a c d) => {}` on `a c`
 
-far_verdict : (g : Grammar) → IsLawful g → IsVerdict g far_rule.reads near_argument (stuck 1)
+far_verdict : (g : Grammar) → IsLawful (open_grammar g)
+    → IsVerdict (open_grammar g) far_rule.reads near_argument (stuck 1)
 unfolding verdict run tree
-far_verdict g w = by_run g far_rule.reads near_argument (stuck 1) w refl refl
+far_verdict g w = by_run (open_grammar g) far_rule.reads near_argument (stuck 1) w refl refl
 
-near_verdict : (g : Grammar) → IsLawful g → IsVerdict g near_rule.reads near_argument (stuck 2)
+near_verdict : (g : Grammar) → IsLawful (open_grammar g)
+    → IsVerdict (open_grammar g) near_rule.reads near_argument (stuck 2)
 unfolding verdict run tree
-near_verdict g w = by_run g near_rule.reads near_argument (stuck 2) w refl refl
+near_verdict g w = by_run (open_grammar g) near_rule.reads near_argument (stuck 2) w refl refl
 
 abbrev both_rules : List Rule
 both_rules = far_rule ∷ near_rule ∷ []
@@ -36,7 +39,7 @@ abbrev left_by : ℕ → ℕ
 left_by zero = 1
 left_by (suc n) = 0
 
-near_closest : (g : Grammar) → IsLawful g → IsClosest g FnLike near_argument both_rules 1
+near_closest : (g : Grammar) → IsLawful (open_grammar g) → IsClosest (open_grammar g) FnLike near_argument both_rules 1
 near_closest g w = record {
   left = left_by;
   bound = λ m. 0;
@@ -48,27 +51,29 @@ near_closest g w = record {
 }
   where
     left_at : (m : ℕ) (r : Rule) → IsStyledAt both_rules FnLike m r
-        → (v : Verdict) × IsVerdict g r.reads near_argument v × (left_by m ≡ unmatched near_argument v)
+        → (v : Verdict) × IsVerdict (open_grammar g) r.reads near_argument v × (left_by m ≡ unmatched near_argument v)
     left_at zero r p = (
       stuck 1,
-      subst (λ x. IsVerdict g x.reads near_argument (stuck 1)) (same_Some far_rule r p.0)
+      subst (λ x. IsVerdict (open_grammar g) x.reads near_argument (stuck 1)) (same_Some far_rule r p.0)
           (far_verdict g w),
       refl,
     )
     left_at (suc zero) r p = (
       stuck 2,
-      subst (λ x. IsVerdict g x.reads near_argument (stuck 2))
+      subst (λ x. IsVerdict (open_grammar g) x.reads near_argument (stuck 2))
           (same_Some near_rule r p.0) (near_verdict g w),
       refl,
     )
     left_at (suc (suc m)) r p = absurd (none-some r p.0)
 
-    bound_at : (m : ℕ) (r : Rule) (is : Items) → IsStyledAt both_rules FnLike m r → Fits g r.reads near_argument is →
+    bound_at : (m : ℕ) (r : Rule) (is : Items) → IsStyledAt both_rules FnLike m r
+        → Fits (open_grammar g) r.reads near_argument is →
         0 ≡ min (binding_total (environment_of is)) (2 ^ 64 - 1)
     bound_at zero r is p f = absurd ((far_verdict g w).1 is
-        (subst (λ x. IsReading g x.reads near_argument is) (sym (same_Some far_rule r p.0)) f.1.0))
+        (subst (λ x. IsReading (open_grammar g) x.reads near_argument is) (sym (same_Some far_rule r p.0)) f.1.0))
     bound_at (suc zero) r is p f = absurd
-        ((near_verdict g w).1 is (subst (λ x. IsReading g x.reads near_argument is) (sym (same_Some near_rule r p.0))
+        ((near_verdict g w).1 is
+        (subst (λ x. IsReading (open_grammar g) x.reads near_argument is) (sym (same_Some near_rule r p.0))
         f.1.0))
     bound_at (suc (suc m)) r is p f = absurd (none-some r p.0)
 
@@ -76,22 +81,24 @@ near_closest g w = record {
     first_at zero r p = ◌⊎◌.inl (omega arith)
     first_at (suc m) r p = ◌⊎◌.inr (refl, ◌⊎◌.inr (refl, omega arith))
 
-far_no : (g : Grammar) → IsLawful g → IsClosest g FnLike near_argument both_rules 0 → ⊥
+far_no : (g : Grammar) → IsLawful (open_grammar g) → IsClosest (open_grammar g) FnLike near_argument both_rules 0 → ⊥
 far_no g w c = go (c.first 1 near_rule (refl, refl))
   where
-    a : (v : Verdict) × IsVerdict g far_rule.reads near_argument v × (c.left 0 ≡ unmatched near_argument v)
+    a : (v : Verdict) × IsVerdict (open_grammar g) far_rule.reads near_argument v ×
+        (c.left 0 ≡ unmatched near_argument v)
     a = c.unmatched_trees 0 far_rule (refl, refl)
 
-    b : (v : Verdict) × IsVerdict g near_rule.reads near_argument v × (c.left 1 ≡ unmatched near_argument v)
+    b : (v : Verdict) × IsVerdict (open_grammar g) near_rule.reads near_argument v ×
+        (c.left 1 ≡ unmatched near_argument v)
     b = c.unmatched_trees 1 near_rule (refl, refl)
 
     far_left : c.left 0 ≡ 1
     far_left = a.2 ∙ ap (unmatched near_argument)
-        (one_verdict g far_rule.reads near_argument a.0 (stuck 1) a.1 (far_verdict g w))
+        (one_verdict (open_grammar g) far_rule.reads near_argument a.0 (stuck 1) a.1 (far_verdict g w))
 
     near_left : c.left 1 ≡ 0
     near_left = b.2 ∙ ap (unmatched near_argument)
-        (one_verdict g near_rule.reads near_argument b.0 (stuck 2) b.1 (near_verdict g w))
+        (one_verdict (open_grammar g) near_rule.reads near_argument b.0 (stuck 2) b.1 (near_verdict g w))
 
     go : IsCloser c.left c.bound 0 1 → ⊥
     go (◌⊎◌.inl h) = let x = far_left in let y = near_left in omega (arith, h, x, y)

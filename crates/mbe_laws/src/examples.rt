@@ -20,6 +20,7 @@ ghost use Rattle.mbe_semantics.specs.Examples.FirstExamples.{VerdictExamples, Pa
 ghost use Rattle.mbe_semantics.specs.Examples.FirstExamples.{CastExample, OptionalExample};
 ghost use Rattle.mbe_semantics.specs.Examples.FirstExamples.{QuoteExample, RoundsExample};
 ghost use Rattle.mbe_semantics.specs.Examples.FirstExamples.{TemplateExamples, DefinitionExamples};
+ghost use Rattle.mbe_semantics.specs.Examples.Sample.{open_grammar};
 
 /// `($x:ident) => {$($x)*}; ($x:ident) => {$x}` on `a`.
 pub fn endless_example()
@@ -158,7 +159,7 @@ pub fn no_rule_example()
 
 /// Verdicts on small patterns and arguments.
 pub fn verdict_examples()
-    ensures { (g : Grammar) → IsLawful g → VerdictExamples g }
+    ensures { (g : Grammar) → IsLawful (open_grammar g) → VerdictExamples g }
 {}
 
 /// What small lists of commands bind.

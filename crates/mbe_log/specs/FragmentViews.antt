@@ -6,6 +6,7 @@ use Rattle.mbe_log.specs.declared.fragment.Fragment as code
 use Rattle.mbe_log.specs.declared.fragment.TokensOrigin.{TokensOrigin}
 use Rattle.mbe_log.specs.declared.fragment.TokensOrigin.TheVariants.{Raw, Ast}
 use Rattle.mbe_semantics.specs.Fragments.Kinds.{Style, plain, stripped, as_expression, as_path}
+use Rattle.mbe_semantics.specs.Fragments.Kinds.{whole}
 use Rattle.mbe_semantics.specs.Readings.Item.{Fragment}
 
 -- the style of a fragment of tokens: one that the grammar parsed keeps an invisible group around it
@@ -21,3 +22,5 @@ fragment_seen (code.TheVariants.Tokens tree origin) =
 fragment_seen (code.TheVariants.Expr tree) = record { trees = trees tree; style = as_expression }
 fragment_seen (code.TheVariants.Path tree) = record { trees = trees tree; style = as_path }
 fragment_seen (code.TheVariants.TokensOwned tree) = record { trees = top_group tree; style = plain }
+fragment_seen (code.TheVariants.Whole tree kind) =
+    record { trees = trees tree; style = whole kind }

@@ -12,6 +12,7 @@ use Rattle.mbe_log.specs.declared.log.Command as code
 use Rattle.mbe_log.specs.Chain.{Chain, part_code}
 use Rattle.mbe_semantics.specs.Syntax.Op.{Name}
 use Rattle.mbe_semantics.specs.Fragments.Kinds.{Style, plain, stripped, as_expression, as_path}
+use Rattle.mbe_semantics.specs.Fragments.Kinds.{whole}
 use Rattle.mbe_semantics.specs.Readings.Item.{Fragment}
 use Rattle.mbe_semantics.specs.Bindings.Account.{Entry, RoundEntry, Log, Handle}
 use Rattle.mbe_log.specs.FragmentViews.{fragment_seen}
@@ -50,28 +51,33 @@ handle_code =
     code_by (ListPrefix × ListPrefix) (coded× part_code part_code) (λ h. (h.current, h.finished))
     (λ p. record { current = p.0; finished = p.1 }) (λ _. refl)
 
-abbrev style_number : Style → ℕ
-style_number plain = 0
-style_number stripped = 1
-style_number as_expression = 2
-style_number as_path = 3
+-- a style as a number, or as the kind that it keeps
+abbrev style_row : Style → ℕ ⊎ MetaVarKind
+style_row plain = inl 0
+style_row stripped = inl 1
+style_row as_expression = inl 2
+style_row as_path = inl 3
+style_row (whole kind) = inr kind
 
-abbrev number_style : ℕ → Style
-number_style zero = plain
-number_style (suc zero) = stripped
-number_style (suc (suc zero)) = as_expression
-number_style (suc (suc (suc n))) = as_path
+abbrev row_style : ℕ ⊎ MetaVarKind → Style
+row_style (inl zero) = plain
+row_style (inl (suc zero)) = stripped
+row_style (inl (suc (suc zero))) = as_expression
+row_style (inl (suc (suc (suc n)))) = as_path
+row_style (inr kind) = whole kind
 
-pub style_number_style : (s : Style) → number_style (style_number s) ≡ s
-style_number_style plain = refl
-style_number_style stripped = refl
-style_number_style as_expression = refl
-style_number_style as_path = refl
+pub style_row_style : (s : Style) → row_style (style_row s) ≡ s
+style_row_style plain = refl
+style_row_style stripped = refl
+style_row_style as_expression = refl
+style_row_style as_path = refl
+style_row_style (whole kind) = refl
 
 abbrev fragment_code : Coded Fragment
 fragment_code =
     code_by (Forest × Style) (coded× forest_code
-    (code_by ℕ coded_ℕ style_number number_style style_number_style))
+    (code_by (ℕ ⊎ MetaVarKind) (coded⊎ coded_ℕ k.the_row.coded) style_row row_style
+    style_row_style))
     (λ x. (x.trees, x.style)) (λ p. record { trees = p.0; style = p.1 }) (λ _. refl)
 
 abbrev name_code : Coded Name

@@ -3,9 +3,11 @@
 ghost use Rattle.std.specs.Prelude.{◌≡◌, IfOk};
 ghost use Rattle.mbe_tt.specs.Views.View.{trees};
 ghost use Rattle.mbe_semantics.specs.Fragments.Kinds.{style_of};
+ghost use Rattle.mbe_tt.specs.declared.grammar.Dialect.TheVariants.{RustAnalyzer, Rustc};
 ghost use Rattle.mbe_log.specs.FragmentViews.{fragment_seen};
 
 use mbe_semantics::fragment_kinds::MetaVarKind;
+use mbe_tt::grammar::Dialect;
 use mbe_tt::tt::{TokenTreesView, TopSubtree};
 use std::alloc::{AllocError, Allocator, Global};
 
@@ -36,6 +38,11 @@ pub enum Fragment<'a, A: Allocator = Global> {
     Path(TokenTreesView<'a, A>),
     /// A group that no buffer of the caller holds. It is written as it is.
     TokensOwned(TopSubtree<A>),
+    /// A fragment of rustc's dialect. It is written as one invisible group that knows its kind.
+    Whole {
+        tree: TokenTreesView<'a, A>,
+        kind: MetaVarKind,
+    },
 }
 
 impl<'a, A: Allocator + Copy> Fragment<'a, A> {
@@ -53,16 +60,36 @@ impl<'a, A: Allocator + Copy> Fragment<'a, A> {
             Fragment::Expr(tree) => Ok(Fragment::Expr(*tree)),
             Fragment::Path(tree) => Ok(Fragment::Path(*tree)),
             Fragment::TokensOwned(tree) => Ok(Fragment::TokensOwned(tree.try_clone()?)),
+            Fragment::Whole { tree, kind } => Ok(Fragment::Whole {
+                tree: *tree,
+                kind: *kind,
+            }),
         }
     }
 }
 
-/// Makes the fragment of a variable of this kind that is bound to these trees.
+/// Makes the fragment of a variable of this kind that is bound to these trees, in a dialect.
 pub fn fragment_of_kind<'a, A: Allocator>(
+    dialect: Dialect,
     kind: Option<MetaVarKind>,
     tree: TokenTreesView<'a, A>,
 ) -> Fragment<'a, A>
-    ensures { fragment_seen result ≡ record { trees = trees tree.entry; style = style_of kind } }
+    ensures { fragment_seen result
+        ≡ record { trees = trees tree.entry; style = style_of dialect kind } }
+{
+    match dialect {
+        Dialect::RustAnalyzer => written_open(kind, tree),
+        Dialect::Rustc => written_whole(kind, tree),
+    }
+}
+
+// Makes the fragment as rust-analyzer writes it.
+fn written_open<'a, A: Allocator>(
+    kind: Option<MetaVarKind>,
+    tree: TokenTreesView<'a, A>,
+) -> Fragment<'a, A>
+    ensures { fragment_seen result
+        ≡ record { trees = trees tree.entry; style = style_of RustAnalyzer kind } }
 {
     match kind {
         Some(MetaVarKind::Expr(_)) => Fragment::Expr(tree),
@@ -78,5 +105,24 @@ pub fn fragment_of_kind<'a, A: Allocator>(
             tree,
             origin: TokensOrigin::Ast,
         },
+    }
+}
+
+// Makes the fragment as rustc writes it: whole, unless it is an identifier, a lifetime or a tree.
+fn written_whole<'a, A: Allocator>(
+    kind: Option<MetaVarKind>,
+    tree: TokenTreesView<'a, A>,
+) -> Fragment<'a, A>
+    ensures { fragment_seen result
+        ≡ record { trees = trees tree.entry; style = style_of Rustc kind } }
+{
+    match kind {
+        None | Some(MetaVarKind::Ident | MetaVarKind::Tt | MetaVarKind::Lifetime) => {
+            Fragment::Tokens {
+                tree,
+                origin: TokensOrigin::Ast,
+            }
+        }
+        Some(kind) => Fragment::Whole { tree, kind },
     }
 }

@@ -1,6 +1,7 @@
 pub mod Keeping
 pub mod FrontLemmas
 pub mod Widths
+pub mod Literals
 pub mod SkipLemmas
 pub mod StepLemmas
 pub mod Whole
@@ -21,5 +22,6 @@ pub mod Turning
 pub mod ExpectedLemmas
 pub mod Looking
 pub mod Starts
+pub mod Commitments
 pub mod Carrying
 pub mod Divergence

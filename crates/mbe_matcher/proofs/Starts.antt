@@ -1,6 +1,6 @@
 -- A pattern whose first op doesn't fit what the argument begins with: the match is stuck at its start.
 use Rattle.std.proofs.Common.{ℕ, ◌≡◌, Bool, true, false, Option, Some, None, option_to_list, List, [], ◌∷◌, map}
-use Rattle.std.proofs.Common.{reverse, refl, sym, ap, subst, ◌∙◌, arith}
+use Rattle.std.proofs.Common.{reverse, refl, sym, ap, subst, ◌∙◌, arith, inl, inr}
 use Rattle.std.specs.Prelude.{◌==◌, if◌then◌else◌, not, is_some, ◌||◌, unwrap_or, IfSome}
 use Rattle.std.specs.List.{filter_map}
 use Rattle.mbe_tt.specs.declared.span.DelimSpan.{DelimSpan}
@@ -14,8 +14,8 @@ use Rattle.mbe_semantics.specs.Expansion.Error.{ExpandError}
 use Rattle.mbe_semantics.specs.Expansion.MatchError.{match_error}
 use Rattle.mbe_semantics.specs.Fragments.FragmentFront.{fragment_front}
 use Rattle.mbe_semantics.specs.Laws.Lawful.{Lawful}
-use Rattle.mbe_semantics.specs.Readings.Fit.{token_front}
-use Rattle.mbe_semantics.specs.Readings.Input.{Input, input_of, length_of, fragment_of, is_opening}
+use Rattle.mbe_semantics.specs.Readings.Fit.{token_front_in}
+use Rattle.mbe_semantics.specs.Readings.Input.{Input, input_of, length_of, fragment_of, is_opening_in}
 use Rattle.mbe_semantics.specs.Readings.Reading.{PartialReading, EndsAt}
 use Rattle.mbe_semantics.specs.Readings.Verdict.{stuck, IsVerdict}
 use Rattle.mbe_semantics.specs.Bindings.Account.{Account, Handle, no_account, no_commands, no_lists}
@@ -39,7 +39,7 @@ use Rattle.mbe_threads.specs.Stops.{verdict_in, reading_in}
 use Rattle.mbe_matcher.specs.Failures.{Mismatch, no_notes, noted_at, noted_with, mismatch, mismatch_unless, has_step}
 use Rattle.mbe_matcher.specs.Failures.{is_any, AreNotes, stop_kind, Reports}
 use Rattle.mbe_matcher.proofs.MatchEnds.{right_stop}
-use Rattle.mbe_matcher.proofs.Whole.{WholeWith, whole_first, whole_sound, whole_notes, FillsAll, fills_first}
+use Rattle.mbe_matcher.proofs.Whole.{WholeWith, whole_first, whole_sound, whole_all, whole_notes, FillsAll, fills_first}
 use Rattle.mbe_matcher.proofs.Whole.{fills_more, fills_whole}
 
 -- ---- what doesn't fit has no step
@@ -58,8 +58,9 @@ module _ (g : Grammar) (f : Forest) (rest : Ops) (a : Account) (up : List ModelF
 
   pub no_epsilon : (o : Op) → Mismatches g o f → epsilons_of (input_of g f) 0 (thread_model (op o rest) a up) ≡ []
   no_epsilon (token t) u =
-      ap (λ c. empty_token (length_of c) (thread_model rest a up)) (ap (token_front t) (rest_at-zero f) ∙ u)
-  no_epsilon (variable name kind span) u = ap (λ c. empty_bound name (fragment_of kind c) rest a up)
+      ap (λ c. empty_token (length_of c) (thread_model rest a up)) (ap (token_front_in g.dialect t) (rest_at-zero f)
+      ∙ u)
+  no_epsilon (variable name kind span) u = ap (λ c. empty_bound name (fragment_of g.dialect kind c) rest a up)
       (ap (fragment_front g kind) (rest_at-zero f) ∙ u)
   no_epsilon (group d b) u = refl
   no_epsilon (repetition b s k) u = absurd u
@@ -67,11 +68,11 @@ module _ (g : Grammar) (f : Forest) (rest : Ops) (a : Account) (up : List ModelF
 
   pub no_next : (o : Op) → Mismatches g o f → next_of (input_of g f) 0 (thread_model (op o rest) a up) ≡ None
   no_next (token t) u = ap (λ c. over_advance (length_of c) (thread_model rest a up))
-      (ap (token_front t) (rest_at-zero f) ∙ u)
-  no_next (variable name kind span) u = ap (λ c. bound_advance name (fragment_of kind c) rest a up)
+      (ap (token_front_in g.dialect t) (rest_at-zero f) ∙ u)
+  no_next (variable name kind span) u = ap (λ c. bound_advance name (fragment_of g.dialect kind c) rest a up)
       (ap (fragment_front g kind) (rest_at-zero f) ∙ u)
   no_next (group d b) u = ap (λ t. when_advance t (advance 1 false (thread_model b a (group_frame rest ∷ up))))
-      (ap (is_opening d.kind) (rest_at-zero f) ∙ u)
+      (ap (is_opening_in g.dialect d.kind) (rest_at-zero f) ∙ u)
   no_next (repetition b s k) u = absurd u
   no_next (expression e) u = absurd u
 
@@ -82,6 +83,11 @@ one_kept h x (Some y) e = rw e refl
 stops_there : (b : Bool) → Some (stuck 0) ≡ (if b then Some (stuck 0) else Some (stuck 0))
 stops_there true = refl
 stops_there false = refl
+
+in_map : {A B : Type 0} (h : A → B) (x : A) (xs : List A) → In x xs → In (h x) (map h xs)
+in_map h x [] m = absurd m
+in_map h x (y ∷ ys) (inl e) = inl (ap h e)
+in_map h x (y ∷ ys) (inr m) = inr (in_map h x ys m)
 
 -- ---- where the first op doesn't fit
 
@@ -124,6 +130,17 @@ module _ (g : Grammar) (f : Forest) (law : IsLawful g) (o : Op) (rest : Ops) (ch
       fills_whole (input_of g f) (op o rest) 0 (flat_len f) lawful (first ∷ []) [] (first ∷ []) all refl first_alone
       (subst (λ l. FillsAll (input_of g f) (op o rest) 0 (first ∷ []) (reverse l) (first ∷ [])) epsilon_none s) checked
       begun.xs sound begun.same
+
+  -- no other partial reading ends there
+  pub alone_there : (x : PartialReading) → EndsAt (input_of g f) (op o rest) 0 x → erase x ≡ first
+  alone_there x a =
+      at (subst (In (erase x)) (sym all_closed ∙ sym first_alone)
+      (in_map erase x (closure (input_of g f) 0 begun.xs)
+      (whole_all (input_of g f) (op o rest) (flat_len f) lawful checked 0 (first ∷ []) no_notes begun x a)))
+    where
+      at : In (erase x) (first ∷ []) → erase x ≡ first
+      at (inl e) = e
+      at (inr n) = absurd n
 
   no_moves : [] ≡ stack_moves (input_of g f) (state_count (op o rest)) 0 (reverse (first ∷ []))
   no_moves =
@@ -179,21 +196,23 @@ begins_notes g (op o rest) f law checked u = stuck_notes g f law o rest checked 
 
 -- ---- a token that isn't in front
 
-pub other_mismatched : (g : Grammar) (o : Op) (f : Forest) → is_wrong_token o f ≡ true → Mismatches g o f
-other_mismatched g (token t) f e = no_cut (token_front t f) (none_of (length_of (token_front t f)) e)
+pub other_mismatched : (g : Grammar) (o : Op) (f : Forest) → is_wrong_token g.dialect o f ≡ true → Mismatches g o f
+other_mismatched g (token t) f e = no_cut (token_front_in g.dialect t f)
+    (none_of (length_of (token_front_in g.dialect t f)) e)
 other_mismatched g (variable name kind span) f e = cc
 other_mismatched g (group d b) f e = cc
 other_mismatched g (repetition b s k) f e = cc
 other_mismatched g (expression x) f e = cc
 
-pub otherwise_mismatched : (g : Grammar) (pattern : Ops) (f : Forest) → starts_with_wrong_token pattern f ≡ true
+pub otherwise_mismatched : (g : Grammar) (pattern : Ops) (f : Forest)
+    → starts_with_wrong_token g.dialect pattern f ≡ true
     → StartsWithMismatch g pattern f
 otherwise_mismatched g no_ops f e = cc
 otherwise_mismatched g (op o rest) f e = other_mismatched g o f e
 
 -- so the match is stuck at its start
 pub otherwise_stuck : (g : Grammar) (pattern : Ops) (f : Forest) → IsLawful g → Checked pattern
-    → starts_with_wrong_token pattern f ≡ true → IsVerdict g pattern f (stuck 0)
+    → starts_with_wrong_token g.dialect pattern f ≡ true → IsVerdict g pattern f (stuck 0)
 otherwise_stuck g pattern f law checked e = begins_stuck g pattern f law checked (otherwise_mismatched g pattern f e)
 
 token_fails : (g : Grammar) (t : Token) (f : Forest) (around : DelimSpan) → match_error g (token t) f around ≡ None → ⊥
@@ -202,7 +221,7 @@ token_fails g (ops.ident i) f around e = cc
 token_fails g (ops.puncts ps) f around e = cc
 
 pub otherwise_fails : (g : Grammar) (pattern : Ops) (f : Forest) (around : DelimSpan)
-    → starts_with_wrong_token pattern f ≡ true → first_match_error g pattern f around ≡ None → ⊥
+    → starts_with_wrong_token g.dialect pattern f ≡ true → first_match_error g pattern f around ≡ None → ⊥
 otherwise_fails g no_ops f around e n = cc
 otherwise_fails g (op (token t) rest) f around e n = token_fails g t f around n
 otherwise_fails g (op (variable name kind span) rest) f around e n = cc
@@ -212,7 +231,7 @@ otherwise_fails g (op (expression x) rest) f around e n = cc
 
 -- it is what the match reports, with nothing bound
 pub otherwise_reports : (g : Grammar) (pattern : Ops) (f : Forest) (around : DelimSpan) → IsLawful g → Checked pattern
-    → starts_with_wrong_token pattern f ≡ true →
+    → starts_with_wrong_token g.dialect pattern f ≡ true →
     (err : ExpandError) → first_match_error g pattern f around ≡ Some err
     → Reports g pattern f around (stuck 0) err no_commands
 otherwise_reports g no_ops f around law checked e err n = cc

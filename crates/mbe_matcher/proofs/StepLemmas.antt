@@ -8,6 +8,7 @@ use Rattle.std.proofs.lemmas.Option.{none-some, same_Some, slice_get_within}
 use Rattle.mbe_semantics.specs.declared.fragment_kinds.MetaVarKind.{MetaVarKind}
 use Rattle.mbe_semantics.specs.declared.fragment_kinds.RepeatKind.{RepeatKind}
 use Rattle.mbe_semantics.specs.declared.fragment_kinds.RepeatKind.TheVariants.{ZeroOrMore, OneOrMore, ZeroOrOne}
+use Rattle.mbe_tt.specs.declared.grammar.Dialect.{Dialect}
 use Rattle.mbe_tt.specs.declared.span.Span.{Span}
 use Rattle.mbe_tt.specs.declared.tt.Delimiter.{Delimiter}
 use Rattle.mbe_tt.specs.Trees.Tree.{Forest, append, flat_len, rest_at, Cut}
@@ -17,13 +18,13 @@ use Rattle.mbe_tt.specs.declared.view.TokenTreesView.{TokenTreesView}
 use Rattle.mbe_tt.specs.Grammars.Grammar.{Grammar}
 use Rattle.mbe_semantics.specs.Syntax.Op.{Name, Separator, Op, Ops, no_ops, op, token, group, variable, repetition}
 use Rattle.mbe_semantics.specs.Syntax.Op.{expression, names_of}
-use Rattle.mbe_semantics.specs.Readings.Fit.{separator_front, between_front}
+use Rattle.mbe_semantics.specs.Readings.Fit.{separator_front_in, between_front}
 use Rattle.mbe_semantics.specs.Fragments.Kinds.{style_of}
 use Rattle.mbe_semantics.specs.Readings.Item.{Fragment}
 use Rattle.mbe_semantics.specs.Readings.Input.{Input, input_of, length_of, fragment_of}
 use Rattle.mbe_semantics.specs.Readings.Steps.{if_none, skip_of, another_round}
 use Rattle.mbe_semantics.proofs.InputLemmas.{length_from}
-use Rattle.mbe_semantics.proofs.MoveLemmas.{separator_moves}
+use Rattle.mbe_semantics.proofs.MoveLemmas.{separator_moves_in}
 use Rattle.mbe_semantics.specs.Bindings.Account.{Account, no_account, Command, pushed, pushed_default, pushed_nested}
 use Rattle.mbe_semantics.specs.Bindings.Account.{Log, Handle, IsAccount, HasEntriesOf}
 use Rattle.mbe_semantics.specs.Matching.States.{op_state_count, state_count, frames_after}
@@ -163,7 +164,7 @@ module _ {A : Type 0} (argument : Forest) (q : ℕ) (log : Log) (frames : List (
 
   module _ (g : Grammar) where
     pub plain_none : (o : Op) (rest : Ops) (a : Account) (up : List ModelFrame) → IsPlain o
-        → None ≡ op_width o (rest_at argument q) →
+        → None ≡ op_width g.dialect o (rest_at argument q) →
         AreStepsNow (input_of g argument) argument q log frames (thread_model (op o rest) a up) none_steps
     plain_none (token t) rest a up h e = record {
       epsilons = subst (λ w. Each (Shows log frames) [] (empty_token w (thread_model rest a up))) e tt;
@@ -177,7 +178,7 @@ module _ {A : Type 0} (argument : Forest) (q : ℕ) (log : Log) (frames : List (
     plain_none (repetition b s k) rest a up h e = absurd h
 
     pub plain_over : (o : Op) (rest : Ops) (a : Account) (up : List ModelFrame) (n : ℕ) (p : Thread A) → IsPlain o
-        → Some n ≡ op_width o (rest_at argument q) →
+        → Some n ≡ op_width g.dialect o (rest_at argument q) →
         Shows log frames p (thread_model rest a up)
         → AreStepsNow (input_of g argument) argument q log frames (thread_model (op o rest) a up) (over_steps n None p)
     plain_over (token t) rest a up n p h e s = record {
@@ -525,7 +526,8 @@ module _ {A : Type 0} (g : Grammar) (argument : Forest) (q : ℕ) (log : Log) (f
       (record { first = None; second = Some left; next = None; done = None })
 
   stops_at : (k : RepeatKind) (s : Separator)
-      → None ≡ round_advance k (length_of (separator_front s (rest_at argument q))) q b (Some s) rest outside a up
+      → None ≡ round_advance k (length_of (separator_front_in g.dialect s (rest_at argument q))) q b (Some s) rest
+      outside a up
       → Stops (Some s) k
   stops_at k s e = record {
     epsilons = (following, tt);
@@ -534,7 +536,7 @@ module _ {A : Type 0} (g : Grammar) (argument : Forest) (q : ℕ) (log : Log) (f
   }
 
   pub round_stops : (s : Option Separator) (k : RepeatKind)
-      → None ≡ if_again k (length_of (between_front s (rest_at argument q))) → Stops s k
+      → None ≡ if_again k (length_of (between_front g.dialect s (rest_at argument q))) → Stops s k
   round_stops None ZeroOrMore e = absurd (none-some 0 e)
   round_stops None OneOrMore e = absurd (none-some 0 e)
   round_stops None ZeroOrOne e = record { epsilons = (following, tt); next = tt; done = tt }
@@ -543,7 +545,7 @@ module _ {A : Type 0} (g : Grammar) (argument : Forest) (q : ℕ) (log : Log) (f
   round_stops (Some s) OneOrMore e = stops_at OneOrMore s
       (ap (λ w. round_advance OneOrMore w q b (Some s) rest outside a up) e)
   round_stops (Some s) ZeroOrOne e = stops_at ZeroOrOne s
-      (sym (no_advance s (length_of (separator_front s (rest_at argument q)))))
+      (sym (no_advance s (length_of (separator_front_in g.dialect s (rest_at argument q)))))
 
   module _ (n : ℕ) (again : Thread A) where
     abbrev Goes : Option Separator → RepeatKind → Type 0
@@ -573,15 +575,15 @@ module _ {A : Type 0} (g : Grammar) (argument : Forest) (q : ℕ) (log : Log) (f
   }
   at_once k (suc n) again e z f = absurd (omega (arith, z))
 
-  wide : (s : Separator) (n : ℕ) → Some n ≡ length_of (separator_front s (rest_at argument q)) → 1 ≤ n
+  wide : (s : Separator) (n : ℕ) → Some n ≡ length_of (separator_front_in g.dialect s (rest_at argument q)) → 1 ≤ n
   wide s n e =
-      let r = length_from (separator_front s (rest_at argument q)) n (sym e) in
-      let m = separator_moves s (rest_at argument q) r.0 r.1 in
+      let r = length_from (separator_front_in g.dialect s (rest_at argument q)) n (sym e) in
+      let m = separator_moves_in g.dialect s (rest_at argument q) r.0 r.1 in
       let l = r.2 in
       omega (arith, m, l)
 
   over_separator : (k : RepeatKind) (s : Separator) (n : ℕ) (again : Thread A)
-      → Some n ≡ length_of (separator_front s (rest_at argument q)) →
+      → Some n ≡ length_of (separator_front_in g.dialect s (rest_at argument q)) →
       round_advance k (Some n) q b (Some s) rest outside a up
       ≡ Some (advance n false (thread_model b (pushed_default a) (repetition_frame b (Some s) k rest (q + n) outside
       ∷ up))) →
@@ -597,7 +599,8 @@ module _ {A : Type 0} (g : Grammar) (argument : Forest) (q : ℕ) (log : Log) (f
   }
 
   pub round_goes : (s : Option Separator) (k : RepeatKind) (n : ℕ) (again : Thread A)
-      → Some n ≡ if_again k (length_of (between_front s (rest_at argument q))) → Front n again s k → Goes n again s k
+      → Some n ≡ if_again k (length_of (between_front g.dialect s (rest_at argument q))) → Front n again s k
+      → Goes n again s k
   round_goes None ZeroOrMore n again e f = at_once ZeroOrMore n again refl (sym (same_Some n 0 e)) f
   round_goes None OneOrMore n again e f = at_once OneOrMore n again refl (sym (same_Some n 0 e)) f
   round_goes s ZeroOrOne n again e f = absurd (none-some n (sym e))
@@ -669,7 +672,7 @@ module _ {A : Type 0} (g : Grammar) (argument : Forest) (q : ℕ) (old mid : Log
     around = edges_keep old mid frames frames (record { log = c.kept; frames = grows_not frames }) w.around;
   }
 
-  pub round_done : None ≡ if_again r.kind (length_of (between_front seen (rest_at argument q))) →
+  pub round_done : None ≡ if_again r.kind (length_of (between_front g.dialect seen (rest_at argument q))) →
       AreSteps (input_of g argument) argument q old mid frames frames (thread_model no_ops a es)
       (record { first = None; second = Some out; next = None; done = None })
   round_done e = record {
@@ -681,7 +684,7 @@ module _ {A : Type 0} (g : Grammar) (argument : Forest) (q : ℕ) (old mid : Log
   }
 
   pub round_more : (new : Log) (k : Handle) (n m : ℕ)
-      → Some n ≡ if_again r.kind (length_of (between_front seen (rest_at argument q)))
+      → Some n ≡ if_again r.kind (length_of (between_front g.dialect seen (rest_at argument q)))
       → IsUpdatedHandle mid new p.handle k pushed_default →
       p.up ≡ Some m → slice_get frames m ≡ Some frame → frame.rounds ≡ Some r →
       (let again : Thread A = record { tail = r.body; number = r.front; up = p.up; handle = k } in
@@ -727,22 +730,23 @@ module _ {A : Type 0} (g : Grammar) (argument : Forest) (q : ℕ) (old mid : Log
 
 -- ---- what a variable takes
 
-pub not_taken : (A : Type 0) (o : Option Cut) (left : Forest) (kind : Option MetaVarKind)
+pub not_taken : (A : Type 0) (d : Dialect) (o : Option Cut) (left : Forest) (kind : Option MetaVarKind)
     → MatchesCut {A = A} None o left
-    → None ≡ fragment_of kind o
-not_taken A None left kind h = refl
-not_taken A (Some c) left kind h = absurd h
+    → None ≡ fragment_of d kind o
+not_taken A d None left kind h = refl
+not_taken A d (Some c) left kind h = absurd h
 
-pub record Taken {A : Type 0} (tree : TokenTreesView A) (o : Option Cut) (left here : Forest)
+pub record Taken {A : Type 0} (d : Dialect) (tree : TokenTreesView A) (o : Option Cut) (left here : Forest)
     (kind : Option MetaVarKind) : Type 0 where
-  pub is : Some (record { trees = trees tree; style = style_of kind }) ≡ fragment_of kind o
+  pub is : Some (record { trees = trees tree; style = style_of d kind }) ≡ fragment_of d kind o
   pub beyond : IsRemainder here (flat_len (trees tree)) (Some left)
 
-pub taken_is : {A : Type 0} (tree : TokenTreesView A) (o : Option Cut) (left here : Forest) (kind : Option MetaVarKind)
-    → ((c : Cut) → o ≡ Some c → IsCut here c) → MatchesCut (Some tree) o left → Taken tree o left here kind
-taken_is tree None left here kind f h = absurd h
-taken_is tree (Some c) left here kind f h = record {
-  is = ap (λ (x : Forest). Some (record { trees = x; style = style_of kind })) h.0;
+pub taken_is : {A : Type 0} (d : Dialect) (tree : TokenTreesView A) (o : Option Cut) (left here : Forest)
+    (kind : Option MetaVarKind)
+    → ((c : Cut) → o ≡ Some c → IsCut here c) → MatchesCut (Some tree) o left → Taken d tree o left here kind
+taken_is d tree None left here kind f h = absurd h
+taken_is d tree (Some c) left here kind f h = record {
+  is = ap (λ (x : Forest). Some (record { trees = x; style = style_of d kind })) h.0;
   beyond = (c.front, ap (append c.front) h.1 ∙ f c refl, ap flat_len (sym h.0));
 }
 

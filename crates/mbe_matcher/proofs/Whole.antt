@@ -14,7 +14,7 @@ use Rattle.mbe_semantics.specs.Matching.Lists.{In}
 use Rattle.mbe_semantics.specs.Matching.Closure.{closure, moves_of, targets, has_ambiguity}
 use Rattle.mbe_semantics.specs.Matching.ThreadModel.{ThreadModel, erase, erase_move, epsilons_of, next_of}
 use Rattle.mbe_semantics.specs.Matching.Frontier.{ambiguity, after_of, first_width}
-use Rattle.mbe_laws.proofs.Matching.Law.{Inv, held-sound}
+use Rattle.mbe_laws.proofs.Matching.Law.{Inv, held-all, held-sound}
 use Rattle.mbe_laws.specs.Loop.StackClosure.{kept, stack_moves}
 use Rattle.mbe_laws.specs.Orders.Order.{ReachesUnbounded, whole_start, whole_next, reversed_order}
 use Rattle.mbe_laws.proofs.Orders.Spare.{turning}
@@ -90,6 +90,9 @@ module _ (i : Input) (pattern : Ops) (len : ℕ) (lawful : Lawful i len) (checke
 
   pub whole_sound : (x : PartialReading) → In x w.xs → EndsAt i pattern q x
   whole_sound = inv.sound
+
+  pub whole_all : (x : PartialReading) → EndsAt i pattern q x → In x (closure i q w.xs)
+  whole_all x a = held-all i pattern len lawful checked q w.xs inv x a
 
   closed_at : (x : PartialReading) → In x (closure i q w.xs) → EndsAt i pattern q x
   closed_at x m = held-sound i pattern len lawful checked q w.xs inv x m

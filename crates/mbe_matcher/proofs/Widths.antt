@@ -10,12 +10,14 @@ use Rattle.mbe_tt.specs.Trees.Tree.{Forest, none, leaf, group, flat_len, rest_of
 use Rattle.mbe_tt.specs.Trees.Tree.{cut_trees}
 use Rattle.mbe_tt.specs.Laws.TreeLaws.{IsCut}
 use Rattle.mbe_tt.proofs.Offsets.CutLemmas.{flat_len-append}
-use Rattle.mbe_semantics.specs.Syntax.Op.{Token, Separator}
-use Rattle.mbe_semantics.specs.Readings.Fit.{token_front, literal_separator_front, separator_front}
+use Rattle.mbe_tt.specs.declared.grammar.Dialect.TheVariants.{RustAnalyzer, Rustc}
+use Rattle.mbe_semantics.specs.Syntax.Op.{Token, Separator, Op, token, group, variable, repetition, expression}
+use Rattle.mbe_semantics.specs.Readings.Fit.{token_front, literal_separator_front, separator_front, unless}
+use Rattle.mbe_semantics.specs.Readings.Fit.{is_other_token, is_other_separator, separator_front_in}
 use Rattle.mbe_semantics.specs.Readings.Input.{length_of}
 use Rattle.mbe_matcher.specs.Fronts.{HasPassed}
-use Rattle.mbe_matcher.specs.Fronts.{has_text}
-use Rattle.mbe_semantics.proofs.FrontLemmas.{token_cut, between_cut}
+use Rattle.mbe_matcher.specs.Fronts.{has_text, op_width, width_by_text, is_other_op}
+use Rattle.mbe_semantics.proofs.FrontLemmas.{token_cut, separator_cut}
 use Rattle.mbe_ops.proofs.Fragments.{left_following}
 use Rattle.mbe_matcher.proofs.FrontLemmas.{passed_if}
 
@@ -40,7 +42,38 @@ token_width r t f left h = passed_width r (token_front t f) f left h (token_cut 
 
 pub separator_width : (r : Bool) (s : Separator) (f left : Forest) → HasPassed r (separator_front s f) left
     → width r f left ≡ length_of (separator_front s f)
-separator_width r s f left h = passed_width r (separator_front s f) f left h (between_cut (Some s) f)
+separator_width r s f left h = passed_width r (separator_front s f) f left h (separator_cut s f)
+
+-- ---- dialects
+
+pub open_width : (o : Op) (f : Forest) → width_by_text o f ≡ op_width RustAnalyzer o f
+open_width (token t) f = refl
+open_width (group d b) f = refl
+open_width (variable name kind span) f = refl
+open_width (repetition b s k) f = refl
+open_width (expression e) f = refl
+
+pub other_width : (o : Op) (f : Forest) → is_other_op o f ≡ true → None ≡ op_width Rustc o f
+other_width (token t) f e = sym (ap (λ b. length_of (unless b (token_front t f))) e)
+other_width (group d b) f e = refl
+other_width (variable name kind span) f e = refl
+other_width (repetition b s k) f e = refl
+other_width (expression x) f e = refl
+
+pub same_width : (o : Op) (f : Forest) → is_other_op o f ≡ false → width_by_text o f ≡ op_width Rustc o f
+same_width (token t) f e = sym (ap (λ b. length_of (unless b (token_front t f))) e)
+same_width (group d b) f e = refl
+same_width (variable name kind span) f e = refl
+same_width (repetition b s k) f e = refl
+same_width (expression x) f e = refl
+
+pub other_separator : (s : Separator) (f : Forest) → is_other_separator Rustc s f ≡ true
+    → None ≡ length_of (separator_front_in Rustc s f)
+other_separator s f e = sym (ap (λ b. length_of (unless b (separator_front s f))) e)
+
+pub same_separator : (s : Separator) (f : Forest) → is_other_separator Rustc s f ≡ false
+    → length_of (separator_front s f) ≡ length_of (separator_front_in Rustc s f)
+same_separator s f e = sym (ap (λ b. length_of (unless b (separator_front s f))) e)
 
 -- ---- a literal between two rounds
 

@@ -6,8 +6,10 @@ use Rattle.mbe_tt.specs.Trees.Leaf.{Leaf, ident, literal, punct}
 use Rattle.mbe_tt.specs.Trees.Tree.{Forest, Cut}
 use Rattle.mbe_semantics.specs.Syntax.Op.{Op, token, group, variable, repetition, expression, Ops}
 use Rattle.mbe_semantics.specs.Syntax.Op.{no_ops, op}
-use Rattle.mbe_semantics.specs.Readings.Fit.{token_front}
-use Rattle.mbe_semantics.specs.Readings.Input.{length_of, is_opening}
+use Rattle.mbe_tt.specs.declared.grammar.Dialect.{Dialect}
+use Rattle.mbe_tt.specs.declared.grammar.Dialect.TheVariants.{Rustc}
+use Rattle.mbe_semantics.specs.Readings.Fit.{token_front, token_front_in, is_other_token}
+use Rattle.mbe_semantics.specs.Readings.Input.{length_of, is_opening_in}
 use Rattle.mbe_semantics.specs.Fragments.FragmentFront.{fragment_front}
 use Rattle.mbe_tt.specs.Grammars.Grammar.{Grammar}
 use Rattle.mbe_tt.specs.declared.span.DelimSpan.{DelimSpan}
@@ -29,10 +31,20 @@ if_again ZeroOrMore o = o
 if_again OneOrMore o = o
 if_again ZeroOrOne o = None
 
--- how many flat tokens an op consumes that is a token
-abbrev pub op_width : Op → Forest → Option ℕ
-op_width (token t) f = length_of (token_front t f)
-op_width _ f = None
+-- how many flat tokens an op consumes that is a token, as rust-analyzer compares it
+abbrev pub width_by_text : Op → Forest → Option ℕ
+width_by_text (token t) f = length_of (token_front t f)
+width_by_text _ f = None
+
+-- the first trees differ from the token in what rustc alone compares
+abbrev pub is_other_op : Op → Forest → Bool
+is_other_op (token t) f = is_other_token Rustc t f
+is_other_op _ f = false
+
+-- how many flat tokens an op consumes that is a token of the dialect
+abbrev pub op_width : Dialect → Op → Forest → Option ℕ
+op_width d (token t) f = length_of (token_front_in d t f)
+op_width d _ f = None
 
 -- the front is there or not; if it is there, this remains after it
 abbrev pub HasPassed : Bool → Option Cut → Forest → Type 0
@@ -43,9 +55,9 @@ HasPassed false (Some c) left = ⊥
 
 -- the op doesn't fit the trees in front
 abbrev pub Mismatches : Grammar → Op → Forest → Type 0
-Mismatches g (token t) f = token_front t f ≡ None
+Mismatches g (token t) f = token_front_in g.dialect t f ≡ None
 Mismatches g (variable name kind span) f = fragment_front g kind f ≡ None
-Mismatches g (group d b) f = is_opening d.kind f ≡ false
+Mismatches g (group d b) f = is_opening_in g.dialect d.kind f ≡ false
 Mismatches g (repetition b s k) f = ⊥
 Mismatches g (expression e) f = ⊥
 
@@ -63,13 +75,13 @@ is_token (repetition b s k) = false
 is_token (expression e) = false
 
 -- the op is a token that isn't in front
-abbrev pub is_wrong_token : Op → Forest → Bool
-is_wrong_token o f = is_token o && not (is_some (op_width o f))
+abbrev pub is_wrong_token : Dialect → Op → Forest → Bool
+is_wrong_token d o f = is_token o && not (is_some (op_width d o f))
 
 -- the pattern begins with a token, and the argument begins with something else
-abbrev pub starts_with_wrong_token : Ops → Forest → Bool
-starts_with_wrong_token no_ops f = false
-starts_with_wrong_token (op o rest) f = is_wrong_token o f
+abbrev pub starts_with_wrong_token : Dialect → Ops → Forest → Bool
+starts_with_wrong_token d no_ops f = false
+starts_with_wrong_token d (op o rest) f = is_wrong_token d o f
 
 -- the error of the first op, which doesn't fit
 abbrev pub first_match_error : Grammar → Ops → Forest → DelimSpan → Option ExpandError

@@ -11,3 +11,4 @@ pub mod ReportPass
 pub mod Expected
 pub mod Compaction
 pub mod Readings
+pub mod Commitment

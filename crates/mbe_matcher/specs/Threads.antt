@@ -7,6 +7,7 @@ use Rattle.mbe_semantics.specs.declared.fragment_kinds.RepeatKind.{RepeatKind}
 use Rattle.mbe_tt.specs.Trees.Tree.{Forest, rest_at}
 use Rattle.mbe_tt.specs.Views.View.{trees}
 use Rattle.mbe_tt.specs.Grammars.Grammar.{Grammar}
+use Rattle.mbe_tt.specs.declared.grammar.Dialect.{Dialect}
 use Rattle.mbe_semantics.specs.Syntax.Op.{Op, token, group, variable, repetition, expression, Ops}
 use Rattle.mbe_semantics.specs.Syntax.Op.{names_of}
 use Rattle.mbe_semantics.specs.Readings.Input.{Input, input_of}
@@ -169,12 +170,12 @@ abbrev pub GivesStepsIn : {A : Type 0} → Grammar → Source A → Log → Log 
 GivesStepsIn {A} g source old new p answer =
     (frames : List (ThreadFrame A)) → GivesSteps g source old new frames frames p answer
 
--- for any log and any grammar
-abbrev pub GivesStepsOver : {A : Type 0} → Source A → List (ThreadFrame A) → List (ThreadFrame A)
-    → Thread A
+-- for any log and any grammar of the dialect
+abbrev pub GivesStepsOver : {A : Type 0} → Dialect → Source A → List (ThreadFrame A)
+    → List (ThreadFrame A) → Thread A
     → Result (Steps A) AllocError → Type 0
-GivesStepsOver source before after p answer =
-    (g : Grammar) (log : Log) → GivesSteps g source log log before after p answer
+GivesStepsOver d source before after p answer =
+    (g : Grammar) (log : Log) → g.dialect ≡ d → GivesSteps g source log log before after p answer
 
 -- for any argument
 abbrev pub GivesStepsFor : {A : Type 0} → Log → Log → List (ThreadFrame A) → List (ThreadFrame A)
@@ -184,11 +185,11 @@ GivesStepsFor old new before after p answer =
     (i : Input) (argument : Forest) (q : ℕ)
     → GivesStepsAt i argument q old new before after p answer
 
--- for any grammar, log and open items, where nothing is written
-abbrev pub AreStepsOf : {A : Type 0} → Source A → Thread A → Steps A → Type 0
-AreStepsOf {A} source p s =
+-- for any grammar of the dialect, log and open items, where nothing is written
+abbrev pub AreStepsOf : {A : Type 0} → Dialect → Source A → Thread A → Steps A → Type 0
+AreStepsOf {A} d source p s =
     (g : Grammar) (log : Log) (frames : List (ThreadFrame A)) (o : ThreadModel)
-    → Shows log frames p o →
+    → g.dialect ≡ d → Shows log frames p o →
     AreStepsNow (input_of g (trees source.whole)) (trees source.whole) source.offset log frames o s
 
 -- ---- parts of them
@@ -254,9 +255,10 @@ GivesAlone g source old new before after p answer = (o : ThreadModel) → Shows 
     (only_step w)))
 
 -- the steps at the end of a round, in the repetition of this open item
-abbrev pub GivesRoundSteps : {A : Type 0} → Source A → Log → Log → ThreadFrame A → OpenRepetition A
-    → Thread A
+abbrev pub GivesRoundSteps : {A : Type 0} → Dialect → Source A → Log → Log → ThreadFrame A
+    → OpenRepetition A → Thread A
     → Result (Steps A) AllocError → Type 0
-GivesRoundSteps {A} source old new frame rounds p answer =
-    (g : Grammar) (frames : List (ThreadFrame A)) → IsInRounds frames p frame rounds
+GivesRoundSteps {A} d source old new frame rounds p answer =
+    (g : Grammar) (frames : List (ThreadFrame A)) → g.dialect ≡ d
+    → IsInRounds frames p frame rounds
     → GivesSteps g source old new frames frames p answer

@@ -9,13 +9,17 @@ ghost use Rattle.mbe_matcher.specs.Fronts.{HasPassed};
 ghost use Rattle.mbe_semantics.specs.Fragments.FragmentFront.{fragment_front, ident_front};
 ghost use Rattle.mbe_semantics.specs.Fragments.FragmentFront.{lifetime_front, literal_front};
 ghost use Rattle.mbe_semantics.specs.Fragments.FragmentFront.{tree_front, has_refused_start};
+ghost use Rattle.mbe_semantics.specs.Fragments.FragmentFront.{unsigned_front, is_literal_in};
+ghost use Rattle.mbe_semantics.specs.Fragments.FragmentFront.{fails_inside, may_begin};
+ghost use Rattle.mbe_tt.specs.Trees.Tree.{flat};
 ghost use Rattle.mbe_semantics.specs.Fragments.FragmentFront.{is_refused, is_refused_ident};
 ghost use Rattle.mbe_ops.specs.Views.{MatchesCut};
 
 use mbe_ops::ops::same_chars;
 use mbe_semantics::fragment_kinds::{ExprKind, FragmentParser, MetaVarKind};
 use mbe_threads::fragment_front::eat_front;
-use mbe_tt::grammar::{FragmentGrammar, PrefixEntryPoint};
+use mbe_tt::fragment_group::is_literal_group;
+use mbe_tt::grammar::{Dialect, FragmentGrammar, PrefixEntryPoint};
 use mbe_tt::tt::{
     Delimiter, Ident, IdentIsRaw, Leaf, Literal, Punct, TokenTreesView, TtElement, TtIter,
 };
@@ -71,7 +75,7 @@ pub fn eat_fragment<'a, A: Allocator, G: FragmentGrammar>(
         FragmentParser::Identifier => Ok(eat_any_ident(src)),
         FragmentParser::Tree => Ok(eat_tree(src)),
         FragmentParser::Lifetime => Ok(eat_lifetime(src)),
-        FragmentParser::Literal => Ok(eat_signed_literal(src)),
+        FragmentParser::Literal => Ok(eat_signed_literal(grammar.dialect(), src)),
         FragmentParser::Grammar(_) if is_refused(kind, src) => Ok(None),
         FragmentParser::Grammar(entry) => eat_good_front(grammar, entry, src),
     }
@@ -155,17 +159,43 @@ pub(crate) fn eat_lifetime<'a, A: Allocator>(
     }
 }
 
-// Consumes and returns a literal, `true` or `false`, with an optional `-` in front.
+// Consumes a literal, `true` or `false`; in rustc's dialect, a group of a literal too. Returns
+// whether it is there.
+fn eat_unsigned<A: Allocator>(dialect: Dialect, src: &mut TtIter<'_, A>) -> bool
+    ensures { HasPassed result (unsigned_front dialect src.old) src.new }
+{
+    if src.expect_literal().is_ok() {
+        return true;
+    }
+    match src.expect_subtree() {
+        Ok((group, _inside)) => is_literal_in(dialect, group.delimiter),
+        Err(()) => false,
+    }
+}
+
+// Whether the delimiter is that of a literal, in rustc's dialect.
+fn is_literal_in(dialect: Dialect, delimiter: Delimiter) -> bool
+    ensures { result ≡ is_literal_in dialect delimiter }
+{
+    match dialect {
+        Dialect::RustAnalyzer => false,
+        Dialect::Rustc => is_literal_group(delimiter),
+    }
+}
+
+// Consumes and returns a literal of the dialect, with an optional `-` in front.
 pub(crate) fn eat_signed_literal<'a, A: Allocator>(
+    dialect: Dialect,
     src: &mut TtIter<'a, A>,
 ) -> Option<TokenTreesView<'a, A>>
-    ensures { MatchesCut result (literal_front src.old) src.new }
+    ensures { MatchesCut result (literal_front dialect src.old) src.new }
 {
     let savepoint = src.savepoint();
     let _sign = src.expect_char('-');
-    match src.expect_literal() {
-        Ok(_) => Some(src.from_savepoint(savepoint)),
-        Err(()) => None,
+    if eat_unsigned(dialect, src) {
+        Some(src.from_savepoint(savepoint))
+    } else {
+        None
     }
 }
 
@@ -183,4 +213,51 @@ fn eat_tree<'a, A: Allocator>(src: &mut TtIter<'a, A>) -> Option<TokenTreesView<
         Ok(_) => Some(src.from_savepoint(savepoint)),
         Err(()) => src.next_as_view(),
     }
+}
+
+// Whether a fragment that doesn't match may begin with the first tree: the grammar counts tokens of
+// it, or it is a literal and its `-` is there. `AllocError` if the grammar is out of memory.
+fn may_begin<A: Allocator, G: FragmentGrammar>(
+    grammar: &G,
+    parser: FragmentParser,
+    src: &TtIter<'_, A>,
+) -> Result<bool, AllocError>
+    ensures { IfOk result (λ begins. begins ≡ may_begin (G.grammar grammar.now) parser src.now) }
+{
+    match parser {
+        FragmentParser::Grammar(entry) => {
+            let front = grammar.parse(entry, src.remaining())?;
+            Ok(front.count > 0)
+        }
+        FragmentParser::Literal => {
+            let mut ahead = src.fork();
+            Ok(ahead.expect_char('-').is_ok())
+        }
+        FragmentParser::Identifier | FragmentParser::Lifetime | FragmentParser::Tree => Ok(false),
+    }
+}
+
+/// Whether a fragment of the kind begins with the first tree and has a fault inside. rustc ends a
+/// call there. `false` in rust-analyzer's dialect. `AllocError` if the grammar is out of memory.
+pub(crate) fn fails_inside<A: Allocator, G: FragmentGrammar>(
+    grammar: &G,
+    kind: Option<MetaVarKind>,
+    src: &TtIter<'_, A>,
+) -> Result<bool, AllocError>
+    ensures { IfOk result (λ fails. fails ≡ fails_inside (G.grammar grammar.now) kind src.now) }
+{
+    let Some(known) = kind else {
+        return Ok(false);
+    };
+    if grammar.dialect() == Dialect::RustAnalyzer {
+        return Ok(false);
+    }
+    if is_refused(known, src) {
+        return Ok(false);
+    }
+    if !may_begin(grammar, known.fragment_parser(), src)? {
+        return Ok(false);
+    }
+    let mut ahead = src.fork();
+    Ok(eat_fragment(grammar, kind, &mut ahead)?.is_none())
 }

@@ -7,6 +7,7 @@
 #![tactic(auto)]
 
 mod closure;
+pub mod commitment;
 mod compaction;
 pub mod consumers;
 mod empty_repetition;

@@ -167,7 +167,8 @@ pub(crate) fn bind_failing<'a, A: Allocator + Copy, G: FragmentGrammar>(
     if counted.whole.iter().is_empty() {
         return log.push_missing(handle, name, kind);
     }
-    log.push_fragment(handle, name, fragment_of_kind(Some(kind), counted.whole))
+    let fragment = fragment_of_kind(grammar.dialect(), Some(kind), counted.whole);
+    log.push_fragment(handle, name, fragment)
 }
 
 // An op, and the trees in front that it doesn't fit.

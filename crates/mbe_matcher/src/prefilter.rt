@@ -31,7 +31,7 @@ use mbe_ops::ops::{MetaTemplate, Op};
 use mbe_semantics::fragment_kinds::MetaVarKind;
 use mbe_threads::source::Source;
 use mbe_threads::stops::Stop;
-use mbe_tt::grammar::FragmentGrammar;
+use mbe_tt::grammar::{Dialect, FragmentGrammar};
 use mbe_tt::span::DelimSpan;
 use mbe_tt::tt::{TokenTreesView, TtIter};
 use std::alloc::{AllocError, Allocator};
@@ -39,14 +39,15 @@ use std::alloc::{AllocError, Allocator};
 // Whether a variable of the kind doesn't match the trees in front. `false` for a kind that the
 // grammar decides.
 #[inline(always)]
-fn matches_nothing<A: Allocator>(kind: MetaVarKind, here: &TtIter<'_, A>) -> bool
-    ensures { result ≡ true → (g : Grammar) → fragment_front g (Some kind) here.now ≡ None }
+fn matches_nothing<A: Allocator>(dialect: Dialect, kind: MetaVarKind, here: &TtIter<'_, A>) -> bool
+    ensures { result ≡ true → (g : Grammar) → g.dialect ≡ dialect
+        → fragment_front g (Some kind) here.now ≡ None }
 {
     let mut ahead = here.fork();
     match kind {
         MetaVarKind::Ident => eat_any_ident(&mut ahead).is_none(),
         MetaVarKind::Lifetime => eat_lifetime(&mut ahead).is_none(),
-        MetaVarKind::Literal => eat_signed_literal(&mut ahead).is_none(),
+        MetaVarKind::Literal => eat_signed_literal(dialect, &mut ahead).is_none(),
         _ => false,
     }
 }
@@ -61,37 +62,39 @@ fn is_token<A: Allocator>(op: &Op<A>) -> bool
 
 // Whether the op is a token, and the trees in front begin with another one.
 #[inline(always)]
-fn is_wrong_token<A: Allocator>(op: &Op<A>, here: &TtIter<'_, A>) -> bool
-    ensures { result ≡ is_wrong_token (op_of op.now) here.now }
+fn is_wrong_token<A: Allocator>(dialect: Dialect, op: &Op<A>, here: &TtIter<'_, A>) -> bool
+    ensures { result ≡ is_wrong_token dialect (op_of op.now) here.now }
 {
-    is_token(op) && token_width(op, here).is_none()
+    is_token(op) && token_width(dialect, op, here).is_none()
 }
 
 // Whether the op doesn't fit the trees in front. It looks at the first few trees, and may return
 // `false` for an op that doesn't fit.
 #[tactic(auto, using(mbe_ops::proofs::OpViews::views))]
 #[inline(always)]
-fn is_mismatch<A: Allocator>(op: &Op<A>, here: &TtIter<'_, A>) -> bool
-    ensures { result ≡ true → (g : Grammar) → Mismatches g (op_of op.now) here.now }
+fn is_mismatch<A: Allocator>(dialect: Dialect, op: &Op<A>, here: &TtIter<'_, A>) -> bool
+    ensures { result ≡ true → (g : Grammar) → g.dialect ≡ dialect
+        → Mismatches g (op_of op.now) here.now }
 {
     match op {
         Op::Var {
             kind: Some(kind),
             ..
-        } => matches_nothing(*kind, here),
-        Op::Subtree { delimiter, .. } => !opens(delimiter.get().kind, here),
-        _ => is_wrong_token(op, here),
+        } => matches_nothing(dialect, *kind, here),
+        Op::Subtree { delimiter, .. } => !opens(dialect, delimiter.get().kind, here),
+        _ => is_wrong_token(dialect, op, here),
     }
 }
 
 // Whether the first op doesn't fit, as `is_mismatch` says. `false` if there are no ops.
 #[inline(always)]
-fn starts_with_mismatch<A: Allocator>(ops: &[Op<A>], here: &TtIter<'_, A>) -> bool
-    ensures { result ≡ true → (g : Grammar) → StartsWithMismatch g (ops_of ops.now) here.now }
+fn starts_with_mismatch<A: Allocator>(dialect: Dialect, ops: &[Op<A>], here: &TtIter<'_, A>) -> bool
+    ensures { result ≡ true → (g : Grammar) → g.dialect ≡ dialect
+        → StartsWithMismatch g (ops_of ops.now) here.now }
 {
     match ops {
         [] => false,
-        [op, _rest @ ..] => is_mismatch(op, here),
+        [op, _rest @ ..] => is_mismatch(dialect, op, here),
     }
 }
 
@@ -144,7 +147,7 @@ pub(crate) fn run_first_pass<'a, A: Allocator + Copy, G: FragmentGrammar>(
     ensures notes { IfOk result (IsReportIn (G.grammar grammar.now) (template_of pattern.now)
         (trees argument.entry) log.new) }
 {
-    if starts_with_mismatch(&pattern.0, &argument.iter()) {
+    if starts_with_mismatch(grammar.dialect(), &pattern.0, &argument.iter()) {
         return stuck_at_start(alloc, pattern, argument, log);
     }
     run_threads(alloc, grammar, pattern, argument, log)
@@ -152,26 +155,28 @@ pub(crate) fn run_first_pass<'a, A: Allocator + Copy, G: FragmentGrammar>(
 
 // Whether the first op is a token that isn't in front. `false` if there are no ops.
 #[inline(always)]
-fn first_is_wrong_token<A: Allocator>(ops: &[Op<A>], here: &TtIter<'_, A>) -> bool
-    ensures { result ≡ starts_with_wrong_token (ops_of ops.now) here.now }
+fn first_is_wrong_token<A: Allocator>(dialect: Dialect, ops: &[Op<A>], here: &TtIter<'_, A>) -> bool
+    ensures { result ≡ starts_with_wrong_token dialect (ops_of ops.now) here.now }
 {
     match ops {
         [] => false,
-        [op, _rest @ ..] => is_wrong_token(op, here),
+        [op, _rest @ ..] => is_wrong_token(dialect, op, here),
     }
 }
 
-/// Whether the pattern begins with a token, and the argument begins with something else. Then the
-/// match is stuck at offset 0 and binds nothing, and `error_at_start` returns its error. This looks
-/// at the first trees only.
+/// Whether the pattern begins with a token, and the argument begins with something else in this
+/// dialect. Then the match is stuck at offset 0 and binds nothing, and `error_at_start` returns its
+/// error. This looks at the first trees only.
 #[inline(always)]
 pub fn starts_with_wrong_token<A: Allocator>(
+    dialect: Dialect,
     pattern: &MetaTemplate<A>,
     argument: TokenTreesView<'_, A>,
 ) -> bool
-    ensures { result ≡ starts_with_wrong_token (template_of pattern.now) (trees argument.entry) }
+    ensures { result
+        ≡ starts_with_wrong_token dialect (template_of pattern.now) (trees argument.entry) }
 {
-    first_is_wrong_token(&pattern.0, &argument.iter())
+    first_is_wrong_token(dialect, &pattern.0, &argument.iter())
 }
 
 // Returns the error of the first op, which doesn't fit. `None` if the op notes no error.
@@ -202,7 +207,8 @@ pub fn error_at_start<A: Allocator + Copy, G: FragmentGrammar>(
     around: DelimSpan,
 ) -> Result<ExpandError<A>, AllocError>
     requires checked { Checked (template_of pattern.now) }
-    requires otherwise { starts_with_wrong_token (template_of pattern.now) (trees argument) ≡ true }
+    requires otherwise { starts_with_wrong_token (G.grammar grammar.now).dialect
+        (template_of pattern.now) (trees argument) ≡ true }
     ensures { IfOk result (λ e. Reports (G.grammar grammar.now) (template_of pattern.now)
         (trees argument.entry) around (stuck 0) (error_of e) no_commands) }
 {

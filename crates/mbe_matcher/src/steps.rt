@@ -26,7 +26,7 @@ use mbe_ops::ops::{Op, Separator};
 use mbe_semantics::fragment_kinds::{MetaVarKind, RepeatKind};
 use mbe_threads::source::Source;
 use mbe_threads::thread::{OpenRepetition, Steps, Thread, ThreadFrame, TokenStep};
-use mbe_tt::grammar::FragmentGrammar;
+use mbe_tt::grammar::{Dialect, FragmentGrammar};
 use mbe_tt::symbol::Symbol;
 use mbe_tt::tt::{Delimiter, TtIter};
 use std::alloc::{AllocError, Allocator};
@@ -45,7 +45,7 @@ pub(crate) fn steps<'a, A: Allocator + Copy, G: FragmentGrammar>(
         frames.old.items frames.new.items thread.entry result }
 {
     match thread.tail {
-        [] => end_steps(source, log, frames, thread),
+        [] => end_steps(grammar.dialect(), source, log, frames, thread),
         [op, rest @ ..] => op_steps(grammar, source, log, frames, op, rest, thread),
     }
 }
@@ -72,7 +72,16 @@ fn op_steps<'a, A: Allocator + Copy, G: FragmentGrammar>(
             variable_steps(grammar, source, log, name, *kind, rest, thread)
         }
         Op::Subtree { tokens, delimiter } => {
-            group_steps(source, frames, delimiter.get(), &tokens.0, rest, thread)
+            let dialect = grammar.dialect();
+            group_steps(
+                dialect,
+                source,
+                frames,
+                delimiter.get(),
+                &tokens.0,
+                rest,
+                thread,
+            )
         }
         Op::Repeat {
             tokens,
@@ -82,9 +91,11 @@ fn op_steps<'a, A: Allocator + Copy, G: FragmentGrammar>(
             let separator = separator.as_ref();
             repetition_steps(log, frames, &tokens.0, separator, *kind, rest, thread)
         }
-        Op::Literal(_) | Op::Ident(_) | Op::Punct(_) => Ok(plain_steps(source, op, rest, thread)),
+        Op::Literal(_) | Op::Ident(_) | Op::Punct(_) => {
+            Ok(plain_steps(grammar.dialect(), source, op, rest, thread))
+        }
         // No metavariable expression is in a pattern.
-        Op::Expression(_) => { Ok(plain_steps(source, op, rest, thread)) }
+        Op::Expression(_) => Ok(plain_steps(grammar.dialect(), source, op, rest, thread)),
     }
 }
 
@@ -151,6 +162,7 @@ fn over<'a, A: Allocator>(
 // Returns the step over a token of the pattern.
 #[inline(always)]
 fn plain_steps<'a, A: Allocator>(
+    dialect: Dialect,
     source: &Source<'a, A>,
     op: &Op<A>,
     rest: &'a [Op<A>],
@@ -159,10 +171,10 @@ fn plain_steps<'a, A: Allocator>(
     requires plain { IsPlain (op_of op.now) }
     requires tail { ops_of thread.tail.now ≡ op_then (op_of op.now) (ops_of rest.now) }
     requires number { 1 ≤ thread.number }
-    ensures steps { AreStepsOf source.now thread.entry result }
+    ensures steps { AreStepsOf dialect source.now thread.entry result }
     ensures over { IsAtMostOver result }
 {
-    let Some(width) = token_width(op, &source.here()) else {
+    let Some(width) = token_width(dialect, op, &source.here()) else {
         return no_steps();
     };
     let after = Thread {
@@ -223,7 +235,7 @@ fn op_alone<'a, A: Allocator + Copy, G: FragmentGrammar>(
 {
     match op {
         Op::Literal(_) | Op::Ident(_) | Op::Punct(_) => {
-            Ok(plain_steps(source, op, rest, thread).next)
+            Ok(plain_steps(grammar.dialect(), source, op, rest, thread).next)
         }
         Op::Var {
             kind: Some(MetaVarKind::Vis),
@@ -233,7 +245,9 @@ fn op_alone<'a, A: Allocator + Copy, G: FragmentGrammar>(
             Ok(variable_steps(grammar, source, log, name, *kind, rest, thread)?.next)
         }
         Op::Subtree { tokens, delimiter } => {
-            Ok(group_steps(source, frames, delimiter.get(), &tokens.0, rest, thread)?.next)
+            let dialect = grammar.dialect();
+            let group = delimiter.get();
+            Ok(group_steps(dialect, source, frames, group, &tokens.0, rest, thread)?.next)
         }
         Op::Repeat { .. } | Op::Expression(_) => Ok(None),
     }
@@ -264,6 +278,7 @@ fn end_alone<'a, A: Allocator>(
 // Returns the step into a group.
 #[inline(always)]
 fn group_steps<'a, A: Allocator + Copy>(
+    dialect: Dialect,
     source: &Source<'a, A>,
     frames: &mut Vec<ThreadFrame<'a, A>, A>,
     delimiter: Delimiter,
@@ -274,11 +289,11 @@ fn group_steps<'a, A: Allocator + Copy>(
     requires tail { ops_of thread.tail.now
         ≡ op_then (group delimiter (ops_of body.now)) (ops_of rest.now) }
     requires number { 1 ≤ thread.number }
-    ensures steps { GivesStepsOver source.now
+    ensures steps { GivesStepsOver dialect source.now
         frames.old.items frames.new.items thread.entry result }
     ensures over { IfOk result IsAtMostOver }
 {
-    if !opens(delimiter.kind, &source.here()) {
+    if !opens(dialect, delimiter.kind, &source.here()) {
         return Ok(no_steps());
     }
     let up = Some(frames.len());
@@ -320,7 +335,8 @@ fn variable_steps<'a, A: Allocator + Copy, G: FragmentGrammar>(
         return Ok(no_steps());
     };
     let mut handle = thread.handle;
-    log.push_fragment(&mut handle, name, fragment_of_kind(kind, tree))?;
+    let fragment = fragment_of_kind(grammar.dialect(), kind, tree);
+    log.push_fragment(&mut handle, name, fragment)?;
     let after = Thread {
         tail: rest,
         number: thread.number - 1,
@@ -402,6 +418,7 @@ fn skipped<'a, A: Allocator + Copy>(
 // Returns the steps at the end of a group's or a repetition's body, or at the pattern's end.
 #[inline(always)]
 fn end_steps<'a, A: Allocator + Copy>(
+    dialect: Dialect,
     source: &Source<'a, A>,
     log: &mut BindingLog<'a, A>,
     frames: &[ThreadFrame<'a, A>],
@@ -409,7 +426,7 @@ fn end_steps<'a, A: Allocator + Copy>(
 ) -> Result<Steps<'a, A>, AllocError>
     requires placed { IsThread log.old frames.now thread }
     requires tail { ops_of thread.tail.now ≡ no_ops }
-    ensures { (g : Grammar) → GivesSteps g source.now log.old log.new
+    ensures { (g : Grammar) → g.dialect ≡ dialect → GivesSteps g source.now log.old log.new
         frames.now frames.now thread.entry result }
 {
     let Some(open) = thread.up else {
@@ -422,7 +439,7 @@ fn end_steps<'a, A: Allocator + Copy>(
     };
     let frame = &frames[open];
     if let Some(rounds) = &frame.rounds {
-        return round_steps(source, log, frame, rounds, thread);
+        return round_steps(dialect, source, log, frame, rounds, thread);
     }
     Ok(closing_steps(source, frame, thread))
 }
@@ -455,6 +472,7 @@ fn closing_steps<'a, A: Allocator>(
 // Returns the steps out of a repetition and into another round.
 #[inline(always)]
 fn round_steps<'a, A: Allocator + Copy>(
+    dialect: Dialect,
     source: &Source<'a, A>,
     log: &mut BindingLog<'a, A>,
     frame: &ThreadFrame<'a, A>,
@@ -465,7 +483,7 @@ fn round_steps<'a, A: Allocator + Copy>(
     requires outside { HasEntriesOf log.old rounds.now.outside }
     requires tail { ops_of thread.tail.now ≡ no_ops }
     requires number { 1 ≤ thread.number }
-    ensures { GivesRoundSteps source.now log.old log.new
+    ensures { GivesRoundSteps dialect source.now log.old log.new
         frame.now rounds.now thread.entry result }
 {
     let mut outside = again(&rounds.outside);
@@ -476,7 +494,8 @@ fn round_steps<'a, A: Allocator + Copy>(
         up: frame.up,
         handle: outside,
     });
-    let Some(width) = between_width(rounds.kind, rounds.separator, &source.here()) else {
+    let here = source.here();
+    let Some(width) = between_width(dialect, rounds.kind, rounds.separator, &here) else {
         return Ok(epsilons(None, second));
     };
     let mut handle = thread.handle;

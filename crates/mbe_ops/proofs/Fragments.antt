@@ -11,6 +11,7 @@ use Rattle.mbe_tt.proofs.Offsets.CutLemmas.{cut_trees-append}
 use Rattle.mbe_tt.specs.Trees.Tree.{first, tree, Tree, Leaf_tree, Group_tree, any_ident}
 use Rattle.mbe_tt.specs.Views.View.{trees}
 use Rattle.mbe_tt.specs.Trees.Glue.{glue, glued, joined, if_joint, is_operator, chars_of}
+use Rattle.mbe_tt.specs.declared.grammar.Dialect.{Dialect}
 use Rattle.mbe_tt.specs.declared.tt.Punct.{Punct}
 use Rattle.mbe_tt.specs.declared.view.TokenTreesView.{TokenTreesView}
 use Rattle.mbe_semantics.specs.Fragments.FragmentFront.{ident_front, lifetime_front, unsigned_front, with_leaf}
@@ -99,47 +100,16 @@ quoted (leaf (punct p) rest) q = rw (is_quote p q) refl
 quoted (leaf (ident j) rest) q = absurd (none-some 39 q)
 quoted (group d inside rest) q = absurd (none-some 39 q)
 
--- ---- literals, after a sign or not
+-- ---- literals
 
-unsigned_in_front : (f : Forest) (l : Leaf) → front_literal f ≡ Some l → unsigned_front f ≡ Some (cut_trees 1 f)
-unsigned_in_front none l e = absurd (none-some l e)
-unsigned_in_front (leaf (literal k) rest) l e = refl
-unsigned_in_front (leaf (punct p) rest) l e = absurd (none-some l e)
-unsigned_in_front (leaf (ident i) rest) l e =
+pub unsigned_in_front : (x : Dialect) (f : Forest) (l : Leaf) → front_literal f ≡ Some l
+    → unsigned_front x f ≡ Some (cut_trees 1 f)
+unsigned_in_front x none l e = absurd (none-some l e)
+unsigned_in_front x (leaf (literal k) rest) l e = refl
+unsigned_in_front x (leaf (punct p) rest) l e = absurd (none-some l e)
+unsigned_in_front x (leaf (ident i) rest) l e =
     if_some (is_bool_text i.sym) (ident i) l (cut_trees 1 (leaf (ident i) rest)) e
-unsigned_in_front (group d inside rest) l e = absurd (none-some l e)
-
-signed_in_front : (f : Forest) (l : Leaf) → front_char f ≡ Some 45 → front_literal (rest_of f) ≡ Some l
-    → literal_front f ≡ Some (cut_trees 2 f)
-signed_in_front none l q e = absurd (none-some 45 q)
-signed_in_front (leaf (literal k) rest) l q e = absurd (none-some 45 q)
-signed_in_front (leaf (punct p) rest) l q e =
-    rw (eq-eqb p.char 45 (same_Some p.char 45 q)) (ap (with_leaf (leaf (punct p) rest)) (unsigned_in_front rest l e))
-signed_in_front (leaf (ident i) rest) l q e = absurd (none-some 45 q)
-signed_in_front (group d inside rest) l q e = absurd (none-some 45 q)
-
-bare_in_front : (f : Forest) (l : Leaf) → front_literal f ≡ Some l → literal_front f ≡ Some (cut_trees 1 f)
-bare_in_front none l e = absurd (none-some l e)
-bare_in_front (leaf (literal k) rest) l e = refl
-bare_in_front (leaf (punct p) rest) l e = absurd (none-some l e)
-bare_in_front (leaf (ident i) rest) l e = unsigned_in_front (leaf (ident i) rest) l e
-bare_in_front (group d inside rest) l e = absurd (none-some l e)
-
--- the trees of a literal, after a sign that was consumed or not
-abbrev pub literal_trees : Bool → ℕ
-literal_trees true = 2
-literal_trees false = 1
-
-pub literal_in_front : {T E : Type 0} (r : Result T E) (f mid : Forest) (l : Leaf) → (IsOk r ↔ (front_char f ≡ Some 45))
-    → mid ≡ (if is_ok r then rest_of f else f) → front_literal mid ≡ Some l
-    → literal_front f ≡ Some (cut_trees (literal_trees (is_ok r)) f)
-literal_in_front (Ok x) f mid l h m e = signed_in_front f l (h.0 refl) (ap front_literal (sym m) ∙ e)
-literal_in_front (Err x) f mid l h m e = bare_in_front f l (ap front_literal (sym m) ∙ e)
-
-pub past_literal : (b : Bool) (f mid left : Forest) → mid ≡ (if b then rest_of f else f) → left ≡ rest_of mid
-    → left ≡ skip (literal_trees b) f
-past_literal true f mid left m l = l ∙ ap rest_of m
-past_literal false f mid left m l = l ∙ ap rest_of m
+unsigned_in_front x (group d inside rest) l e = absurd (none-some l e)
 
 pub puncts_in_front : (f : Forest) (ps : List Punct) → (front_char f ≡ Some 39 → ⊥) → Some ps ≡ glued f
     → tree_front f ≡ Some (cut_trees (length (glue f)) f)

@@ -13,16 +13,17 @@ use Rattle.mbe_semantics.specs.declared.macro_call_style.MacroCallStyle.TheVaria
 use Rattle.mbe_semantics.specs.Syntax.Template.{pattern, template, Fault, empty_repetition, Template}
 use Rattle.mbe_semantics.specs.Syntax.Definition.{Rule, RuleTrees, Rules, AreParts, PartsFault, after_separator}
 use Rattle.mbe_semantics.specs.Syntax.Definition.{with_refusal, rule_trees_at, IsMacroOfArguments, one_rule, faulty}
-use Rattle.mbe_parser.specs.ParserResults.{mode_of, ReadsRule}
+use Rattle.mbe_parser.specs.ParserResults.{mode_of}
+use Rattle.mbe_parser.specs.RuleResults.{ReadsRule}
 use Rattle.mbe_parser.proofs.RuleReading.{IsSeparated, following-some}
-use Rattle.mbe_parser.specs.declared.fault_locator.rule_faults.DefinitionRefusal.TheVariants as why
-use Rattle.mbe_parser.specs.declared.fault_locator.rule_faults.RulesFault.{RulesFault}
-use Rattle.mbe_parser.specs.FaultLocator.FaultOffsets.{RulesFaultAt, pattern_offset}
-use Rattle.mbe_parser.specs.FaultLocator.RefusedRepetitions.{EmptyAt, RulesEmptyAt, in_rule, separated, IsEmptyOffset}
-use Rattle.mbe_parser.specs.FaultLocator.RefusedRepetitions.{IsRuleEmpty}
-use Rattle.mbe_parser.specs.FaultLocator.RefusedRepetitions.{RefusedAt, by_fault, by_empty, OneRefusedAt, by_empty_of}
-use Rattle.mbe_parser.specs.FaultLocator.Refusals.{refusal_of, AreRefused, IsOneRefused, first_of, refused}
-use Rattle.mbe_parser.specs.FaultLocator.Refusals.{empty_in_pattern}
+use Rattle.mbe_parser.specs.declared.refusal.DefinitionRefusal.TheVariants as why
+use Rattle.mbe_parser.specs.declared.refusal.RulesFault.{RulesFault}
+use Rattle.mbe_parser.specs.FaultOffsets.{RulesFaultAt, pattern_offset}
+use Rattle.mbe_parser.specs.RefusedRepetitions.{EmptyAt, RulesEmptyAt, in_rule, separated, IsEmptyOffset}
+use Rattle.mbe_parser.specs.RefusedRepetitions.{IsRuleEmpty}
+use Rattle.mbe_parser.specs.RefusedRepetitions.{RefusedAt, by_fault, by_empty, OneRefusedAt, by_empty_of}
+use Rattle.mbe_parser.specs.Refusals.{refusal_of, AreRefused, IsOneRefused, first_of, refused}
+use Rattle.mbe_parser.specs.Refusals.{empty_in_pattern}
 
 -- a pattern of these is refused
 abbrev pub refuses : List Rule → Bool
@@ -48,14 +49,9 @@ same_trees o p e = cc
 -- ---- the pattern of one rule
 
 module _ (HasEdition : SyntaxContext → Edition → Type 0) where
-  pub empty_place : (f : Forest) (os : Ops) (offset : Option ℕ) → IfSome offset (EmptyAt HasEdition f)
-      → is_some offset ≡ is_refused os → IsEmptyOffset HasEdition f os offset
-  empty_place f os None w e = sym e
-  empty_place f os (Some n) w e = (sym e, w)
-
   -- in the rule of these trees
   pub rule_empty : (f : Forest) (o : RuleTrees) (r : Rule) (offset : Option ℕ) (before : ℕ) → rule_trees_at f ≡ Ok o
-      → before ≡ pattern_offset f o → IsEmptyOffset HasEdition o.reads r.reads offset
+      → before ≡ pattern_offset f o → IsEmptyOffset HasEdition pattern o.reads r.reads offset
       → IsRuleEmpty HasEdition f r (option_map (λ n. before + n) offset)
   rule_empty f o r None before e p w = w
   rule_empty f o r (Some n) before e p w = (w.0, o, n, e, w.1, ap (λ (k : ℕ). k + n) p)
@@ -65,6 +61,12 @@ module _ (HasEdition : SyntaxContext → Edition → Type 0) where
   module _ (arguments body : Forest) where
     abbrev OneRule : RuleTrees
     OneRule = record { style = FnLike; reads = arguments; writes = body; back = none }
+
+    -- why it is refused, as of any rules
+    pub one_first : {rs : List Rule} {why : Option Fault} → IsMacroOfArguments HasEdition arguments body rs why
+        → (first : Option Fault) × (why ≡ with_refusal rs first)
+    one_first (one_rule r p) = (None, refl)
+    one_first (faulty fault p) = (Some fault, refl)
 
     pub one_faulty : (rs : List Rule) (fault : Fault) → rs ≡ [] → PartsFault HasEdition OneRule fault
         → IsOneRefused HasEdition arguments body rs (Some fault)
@@ -80,7 +82,7 @@ module _ (HasEdition : SyntaxContext → Edition → Type 0) where
 
     -- it is refused for what its pattern has
     pub one_refused : (r : Rule) (rs : List Rule) (offset : Option ℕ) → rs ≡ r ∷ [] → AreParts HasEdition OneRule r
-        → IsEmptyOffset HasEdition arguments r.reads offset
+        → IsEmptyOffset HasEdition pattern arguments r.reads offset
         → IsOneRefused HasEdition arguments body rs (option_map (λ x. refusal_of x.fault) (empty_in_pattern offset))
     one_refused r rs None e p w =
         one_read r rs None e p (ap (λ (b : Bool). if b || false then Some empty_repetition else None) w)
@@ -90,7 +92,7 @@ module _ (HasEdition : SyntaxContext → Edition → Type 0) where
 
     -- there
     pub one_placed : (reads writes : Ops) (offset : Option ℕ) → Template HasEdition pattern arguments reads
-        → Template HasEdition template body writes → IsEmptyOffset HasEdition arguments reads offset
+        → Template HasEdition template body writes → IsEmptyOffset HasEdition pattern arguments reads offset
         → IfSome (empty_in_pattern offset)
         (λ x. OneRefusedAt HasEdition arguments body (refusal_of x.fault) (mode_of x.part) x.offset)
     one_placed reads writes None r t w = tt

@@ -4,10 +4,6 @@ pub mod RuleTreeLemmas
 pub mod StopLemmas
 pub mod RuleReading
 pub mod ExpressionLemmas
-pub mod RefusalLemmas
-pub mod FrontLemmas
-pub mod PlaceLemmas
 pub mod PlaceLaws
 pub mod RuleLemmas
-pub mod EmptyLemmas
 pub mod EmptyRules

@@ -11,12 +11,10 @@ use Rattle.mbe_semantics.specs.Syntax.Op.{Ops}
 use Rattle.mbe_laws.proofs.Definitions.TemplateLemmas.{ops_or_fault}
 use Rattle.mbe_semantics.specs.Syntax.Definition as rules
 use Rattle.mbe_semantics.specs.Syntax.Definition.{Rule, Rules}
-use Rattle.mbe_parser.specs.ParserResults as reader
-use Rattle.mbe_parser.specs.ParserResults.{RuleFault}
-use Rattle.mbe_parser.specs.FaultLocator.FaultOffsets.{TemplateFaultAt, here, in_group, in_repetition, after_token}
-use Rattle.mbe_parser.specs.FaultLocator.FaultOffsets.{after_variable, after_group, after_repetition, RuleFaultAt}
-use Rattle.mbe_parser.specs.FaultLocator.FaultOffsets.{in_trees, in_pattern, in_template, RulesFaultAt, in_rule}
-use Rattle.mbe_parser.specs.FaultLocator.FaultOffsets.{unseparated, separated}
+use Rattle.mbe_parser.specs.FaultOffsets.{TemplateFaultAt, here, in_group, in_repetition, after_token}
+use Rattle.mbe_parser.specs.FaultOffsets.{after_variable, after_group, after_repetition, RuleFaultAt}
+use Rattle.mbe_parser.specs.FaultOffsets.{in_trees, in_pattern, in_template, RulesFaultAt, in_rule}
+use Rattle.mbe_parser.specs.FaultOffsets.{unseparated, separated}
 
 module _ (HasEdition : SyntaxContext → Edition → Type 0) where
   -- it is the first fault of the trees
@@ -36,31 +34,24 @@ module _ (HasEdition : SyntaxContext → Edition → Type 0) where
   template_fault mode fault (after_repetition f inside rest s repeat body n e b w) =
       faults.after_repetition f inside rest s repeat body e b (template_fault mode fault w)
 
-  -- it is that of the rule in front
-  pub rule_fault_is : (fault : Fault) {f : Forest} {n : ℕ} → RuleFaultAt HasEdition fault f n
-      → RuleFault HasEdition fault f
-  rule_fault_is fault (in_trees e) = reader.in_trees e
-  rule_fault_is fault (in_pattern o n e w) =
-      reader.in_parts o e (rules.in_pattern (template_fault faults.pattern fault w))
-  rule_fault_is fault (in_template o reads n e t w) =
-      reader.in_parts o e (rules.in_template reads t (template_fault faults.template fault w))
+  -- it is that of the first rule
+  pub rule_fault : (separators : List ℕ) (missing fault : Fault) (f : Forest) {n : ℕ} → (f ≡ none → ⊥)
+      → RuleFaultAt HasEdition fault f n → Rules HasEdition separators missing f [] (Some fault)
+  rule_fault separators missing fault f some (in_trees e) = rules.no_rule f fault some e
+  rule_fault separators missing fault f some (in_pattern o n e w) =
+      rules.faulty_rule f o fault e (rules.in_pattern (template_fault faults.pattern fault w))
+  rule_fault separators missing fault f some (in_template o reads n e t w) =
+      rules.faulty_rule f o fault e (rules.in_template reads t (template_fault faults.template fault w))
 
   -- it is that of the rules, of which so many are read before
   abbrev pub IsFaultOf : List ℕ → Fault → Fault → Forest → ℕ → Type 0
   IsFaultOf separators missing fault f rule =
       (rs : List Rule) × Rules HasEdition separators missing f rs (Some fault) × (length rs ≡ rule)
 
-  rule_fault : (separators : List ℕ) (missing fault : Fault) (f : Forest) {n : ℕ} → (f ≡ none → ⊥)
-      → RuleFaultAt HasEdition fault f n → IsFaultOf separators missing fault f 0
-  rule_fault separators missing fault f some (in_trees e) = ([], rules.no_rule f fault some e, refl)
-  rule_fault separators missing fault f some (in_pattern o n e w) =
-      ([], rules.faulty_rule f o fault e (rules.in_pattern (template_fault faults.pattern fault w)), refl)
-  rule_fault separators missing fault f some (in_template o reads n e t w) =
-      ([], rules.faulty_rule f o fault e (rules.in_template reads t (template_fault faults.template fault w)), refl)
-
   pub rules_fault : (separators : List ℕ) (missing fault : Fault) {f : Forest} {rule n : ℕ}
       → RulesFaultAt HasEdition separators missing fault f rule n → IsFaultOf separators missing fault f rule
-  rules_fault separators missing fault (in_rule f n some w) = rule_fault separators missing fault f some w
+  rules_fault separators missing fault (in_rule f n some w) =
+      ([], rule_fault separators missing fault f some w, refl)
   rules_fault separators missing fault (unseparated f o r e a b m) = (
     r ∷ [],
     subst (λ (x : Fault). Rules HasEdition separators missing f (r ∷ []) (Some x)) m

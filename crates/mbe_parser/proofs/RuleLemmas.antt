@@ -6,11 +6,11 @@ use Rattle.mbe_tt.specs.declared.span.Edition.{Edition}
 use Rattle.mbe_tt.specs.Trees.Tree.{Forest, none, flat_len, rest_of, passed}
 use Rattle.mbe_semantics.specs.Syntax.Template.{Fault}
 use Rattle.mbe_semantics.specs.Syntax.Definition.{Rule, after_separator}
-use Rattle.mbe_parser.specs.ParserResults.{ReadsRule}
+use Rattle.mbe_parser.specs.RuleResults.{ReadsRule}
 use Rattle.mbe_parser.specs.declared.rules.Rule as code
 use Rattle.mbe_parser.specs.RuleViews.{rule_of, rules_seen}
 use Rattle.mbe_parser.proofs.RuleReading.{IsSeparated, following-some, following-none}
-use Rattle.mbe_parser.specs.FaultLocator.FaultOffsets.{RuleFaultAt, RulesFaultAt, in_rule, unseparated, separated}
+use Rattle.mbe_parser.specs.FaultOffsets.{RuleFaultAt, RulesFaultAt, in_rule, unseparated, separated}
 
 -- ---- one rule after the other
 

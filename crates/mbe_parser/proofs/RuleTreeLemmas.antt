@@ -1,93 +1,17 @@
--- What comes before a rule's pattern; and what is left after a rule is shorter than what begins with the rule.
-use Rattle.std.specs.Prelude.{◌≡◌, ◌<◌, ◌==◌, Bool, true, false, if◌then◌else◌, codes, Some, None, Result, Ok, Err}
+-- What comes before a rule's pattern.
+use Rattle.std.specs.Prelude.{◌≡◌, ◌==◌, Bool, true, false, if◌then◌else◌, codes, Some, None, Result, Ok, Err}
 use Rattle.std.specs.Prelude.{refl}
-use Rattle.std.proofs.Common.{ap, sym, ◌∙◌, arith}
+use Rattle.std.proofs.Common.{ap, sym, ◌∙◌}
 use Rattle.std.proofs.lemmas.Option.{none-some}
 use Rattle.mbe_tt.proofs.Offsets.CutLemmas.{no_true}
 use Rattle.mbe_tt.specs.declared.tt.Delimiter.{Delimiter}
 use Rattle.mbe_tt.specs.Trees.Leaf.{Ident, ident, punct, literal, is_text}
-use Rattle.mbe_tt.specs.Trees.Tree.{Forest, none, leaf, group, flat_len, rest_of, front_group}
+use Rattle.mbe_tt.specs.Trees.Tree.{Forest, none, leaf, group, rest_of, front_group}
 use Rattle.mbe_semantics.specs.declared.macro_call_style.MacroCallStyle.{MacroCallStyle}
 use Rattle.mbe_semantics.specs.declared.macro_call_style.MacroCallStyle.TheVariants.{FnLike, Attr, Derive}
 use Rattle.mbe_semantics.specs.Syntax.Template.{Fault, expected}
-use Rattle.mbe_parser.specs.ParserResults.{begins_with_ident}
-use Rattle.mbe_semantics.specs.Syntax.Definition.{RuleTrees, template_at, greater_at, equals_at, pattern_at}
-use Rattle.mbe_semantics.specs.Syntax.Definition.{styled_group_at, style_at, rule_trees_at}
-
-no_ok : {X : Type 0} {e : Fault} {o : RuleTrees} → Err e ≡ Ok o → X
-no_ok e = absurd (cc)
-
-same_ok : {a b : RuleTrees} → (let r : Result RuleTrees Fault = Ok a in r) ≡ Ok b → a ≡ b
-same_ok e = cc
-
-if_ok : (b : Bool) (r : Result RuleTrees Fault) (e : Fault) (o : RuleTrees) → (if b then r else Err e) ≡ Ok o → r ≡ Ok o
-if_ok true r e o h = h
-if_ok false r e o h = no_ok h
-
-template_back : (s : MacroCallStyle) (r f : Forest) (o : RuleTrees) → template_at s r f ≡ Ok o
-    → flat_len o.back < flat_len f
-template_back s r none o e = no_ok e
-template_back s r (leaf l rest) o e = no_ok e
-template_back s r (group d inside rest) o e = let b : rest ≡ o.back =
-    ap (λ (x : RuleTrees). x.back) (same_ok e) in let h = ap flat_len b in omega arith
-
-greater_back : (s : MacroCallStyle) (r f : Forest) (o : RuleTrees) → greater_at s r f ≡ Ok o
-    → flat_len o.back < flat_len f
-greater_back s r none o e = no_ok e
-greater_back s r (group d inside rest) o e = no_ok e
-greater_back s r (leaf (literal l) rest) o e = no_ok e
-greater_back s r (leaf (ident i) rest) o e = no_ok e
-greater_back s r (leaf (punct p) rest) o e = let h =
-    template_back s r rest o (if_ok (p.char == 62) _ _ o e) in omega arith
-
-equals_back : (s : MacroCallStyle) (r f : Forest) (o : RuleTrees) → equals_at s r f ≡ Ok o
-    → flat_len o.back < flat_len f
-equals_back s r none o e = no_ok e
-equals_back s r (group d inside rest) o e = no_ok e
-equals_back s r (leaf (literal l) rest) o e = no_ok e
-equals_back s r (leaf (ident i) rest) o e = no_ok e
-equals_back s r (leaf (punct p) rest) o e = let h =
-    greater_back s r rest o (if_ok (p.char == 61) _ _ o e) in omega arith
-
-pattern_back : (s : MacroCallStyle) (f : Forest) (o : RuleTrees) → pattern_at s f ≡ Ok o → flat_len o.back < flat_len f
-pattern_back s none o e = no_ok e
-pattern_back s (leaf l rest) o e = no_ok e
-pattern_back s (group d inside rest) o e = let h = equals_back s inside rest o e in omega arith
-
-styled_back : (s : MacroCallStyle) (f : Forest) (o : RuleTrees) → styled_group_at s f ≡ Ok o
-    → flat_len o.back < flat_len f
-styled_back s none o e = no_ok e
-styled_back s (leaf l rest) o e = no_ok e
-styled_back s (group d inside rest) o e = let h = pattern_back s rest o e in omega arith
-
-either : (b : Bool) (x y r : Result RuleTrees Fault) (P : Type 0) → (x ≡ r → P) → (y ≡ r → P) → (if b then x else y) ≡ r
-    → P
-either true x y r P h k e = h e
-either false x y r P h k e = k e
-
-style_back : (f : Forest) (o : RuleTrees) → style_at f ≡ Ok o → flat_len o.back < flat_len f
-style_back none o e = pattern_back FnLike none o e
-style_back (group d inside rest) o e = pattern_back FnLike (group d inside rest) o e
-style_back (leaf (literal l) rest) o e = no_ok e
-style_back (leaf (punct p) rest) o e = no_ok e
-style_back (leaf (ident i) rest) o e =
-    either (is_text i.sym (codes "attr")) _ _ (Ok o) (flat_len o.back < flat_len (leaf (ident i) rest))
-    (λ h. let k = styled_back Attr rest o h in omega arith)
-    (either (is_text i.sym (codes "derive")) _ _ (Ok o) (flat_len o.back < flat_len (leaf (ident i) rest))
-    (λ h. let k = styled_back Derive rest o h in omega arith)
-    (λ h. pattern_back FnLike (leaf (ident i) rest) o h)) e
-
-pub rule_trees_back : (f : Forest) (o : RuleTrees) → rule_trees_at f ≡ Ok o → flat_len o.back < flat_len f
-rule_trees_back none o e = style_back none o e
-rule_trees_back (group d inside rest) o e = style_back (group d inside rest) o e
-rule_trees_back (leaf (literal l) rest) o e = style_back (leaf (literal l) rest) o e
-rule_trees_back (leaf (punct p) rest) o e = style_back (leaf (punct p) rest) o e
-rule_trees_back (leaf (ident i) rest) o e =
-    either (is_text i.sym (codes "unsafe")) _ _ (Ok o) (flat_len o.back < flat_len (leaf (ident i) rest))
-    (λ h. let k = style_back rest o h in omega arith)
-    (λ h. style_back (leaf (ident i) rest) o h) e
-
--- ---- what comes before the pattern
+use Rattle.mbe_parser.specs.RuleResults.{begins_with_ident}
+use Rattle.mbe_semantics.specs.Syntax.Definition.{RuleTrees, pattern_at, styled_group_at, style_at, rule_trees_at}
 
 word_passed : (b : Bool) (i : Ident) (rest : Forest)
     → (if b then style_at rest else style_at (leaf (ident i) rest)) ≡ style_at (if b then rest else leaf (ident i) rest)

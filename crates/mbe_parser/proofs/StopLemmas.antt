@@ -4,7 +4,7 @@ use Rattle.std.proofs.Common.{ap, sym, ◌∙◌}
 use Rattle.std.proofs.lemmas.Option.{none-some, same_Some}
 use Rattle.mbe_tt.specs.declared.tt.Delimiter.{Delimiter}
 use Rattle.mbe_tt.specs.Trees.Tree.{Forest, none, leaf, group, flat_len, rest_of, front_group, front_char}
-use Rattle.mbe_parser.specs.ParserResults.{begins_with_ident}
+use Rattle.mbe_parser.specs.RuleResults.{begins_with_ident}
 use Rattle.mbe_parser.specs.RuleStops.{is_group, after_expected, stop_at_pattern, stop_at_style, stop_in_rule}
 use Rattle.mbe_parser.proofs.RuleTreeLemmas.{Left, passed, stayed}
 

@@ -1,5 +1,8 @@
 pub mod ParserResults
-pub mod RepetitionCheck
+pub mod LocatedErrors
 pub mod RuleViews
 pub mod RuleStops
-pub mod FaultLocator
+pub mod RuleResults
+pub mod FaultOffsets
+pub mod RefusedRepetitions
+pub mod Refusals

@@ -2,7 +2,7 @@
 use Rattle.std.specs.Prelude.{◌==◌, ◌||◌, ℕ, Bool, true, false, if◌then◌else◌, codes}
 use Rattle.mbe_tt.specs.Trees.Leaf.{punct}
 use Rattle.mbe_tt.specs.Trees.Tree.{Forest, leaf, group, rest_of}
-use Rattle.mbe_parser.specs.ParserResults.{begins_with_ident}
+use Rattle.mbe_parser.specs.RuleResults.{begins_with_ident}
 
 -- whether a punct of that char is in front
 abbrev pub begins_with_punct : ℕ → Forest → Bool

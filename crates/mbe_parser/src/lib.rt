@@ -1,9 +1,10 @@
-// The parser of definitions: token trees to rules. It also finds the offset at which a definition
-// is refused, and checks for repetitions that can match no token. A layer of `mbe`: use that crate.
+// The parser of definitions: token trees to rules. Its errors have offsets. It also refuses
+// repetitions that can match no token. A layer of `mbe`: use that crate.
 #![tactic(auto)]
 
+mod empty_repetition;
 pub mod equality;
-pub mod fault_locator;
+pub mod located_fault;
 pub mod parser;
-pub mod repetition_check;
+pub mod refusal;
 pub mod rules;

@@ -1,12 +1,15 @@
 // The parser of patterns and templates: token trees to ops. A pattern and a template have the same
 // grammar, except after a `$`. The `push_` functions consume trees from `src` and add ops to `ops`.
-ghost use Rattle.std.specs.Prelude.{◌≡◌, ◌<◌, ◌≤◌, ◌+◌, [], ◌∷◌, codes, IsFalse, length, true};
+// The functions for a group, and for what a `$` begins, also return the offset of the op's first
+// refused repetition, in trees that begin with the op.
+ghost use Rattle.std.specs.Prelude.{◌≡◌, ◌<◌, ◌≤◌, ◌+◌, ◌^◌, [], ◌∷◌, codes, IsFalse, length};
+ghost use Rattle.std.specs.Prelude.{true};
 ghost use Rattle.std.specs.Prelude.{is_some, vec_len, vec_capacity, option_map, Some, Ok, Err};
 ghost use Rattle.std.specs.Prelude.{IfOk, IfErr, IfSome, IfNone, OnOk};
 ghost use Rattle.std.specs.Result.{result_ok};
-ghost use Rattle.mbe_tt.specs.Trees.Tree.{Forest, Leaf_tree, flat_len, first, is_bool_text};
+ghost use Rattle.mbe_tt.specs.Trees.Tree.{Forest, Leaf_tree, Group_tree, flat_len, first};
 ghost use Rattle.mbe_tt.specs.Trees.Tree.{leaf as leaf_before, front_ident, front_punct, rest_of};
-ghost use Rattle.mbe_tt.specs.Trees.Tree.{skip};
+ghost use Rattle.mbe_tt.specs.Trees.Tree.{is_bool_text, skip};
 ghost use Rattle.mbe_tt.specs.Trees.Glue.{glue};
 ghost use Rattle.mbe_tt.specs.Trees.Leaf.{ident as ident_leaf, literal as literal_leaf};
 ghost use Rattle.mbe_tt.specs.Trees.Leaf.{punct as punct_leaf};
@@ -18,12 +21,15 @@ ghost use Rattle.mbe_tt.specs.declared.tt.Punct.{Punct as SpecPunct};
 ghost use Rattle.mbe_semantics.specs.Syntax.Op.{Name, token, puncts, ident as ident_token};
 ghost use Rattle.mbe_semantics.specs.Syntax.Op.{literal as literal_token, variable as variable_op};
 ghost use Rattle.mbe_semantics.specs.Syntax.Template as grammar;
-ghost use Rattle.mbe_semantics.specs.Syntax.Template.{Template, TemplateFault, Specifies};
+ghost use Rattle.mbe_semantics.specs.Syntax.Template.{Template, Specifies};
 ghost use Rattle.mbe_semantics.specs.Syntax.Template.{opens_repetition, suffix_of, leaf_in_suffix};
 ghost use Rattle.mbe_semantics.specs.Syntax.Template.{invalid_repeat};
 ghost use Rattle.mbe_parser.specs.ParserResults.{mode_of, ReadFails, ExtendsSeparator};
 ghost use Rattle.mbe_parser.specs.ParserResults.{NeverExtendsSeparator, IsPushed, AtHead};
-ghost use Rattle.mbe_parser.specs.ParserResults.{FaultAtHead, ReadsOp};
+ghost use Rattle.mbe_parser.specs.ParserResults.{IsHead, FaultAtHead, ReadsOp};
+ghost use Rattle.mbe_parser.specs.LocatedErrors.{FailsAt};
+ghost use Rattle.mbe_parser.specs.FaultOffsets.{TemplateFaultAt};
+ghost use Rattle.mbe_parser.specs.RefusedRepetitions.{IsEmptyOffset};
 ghost use Rattle.mbe_ops.specs.Errors.ErrorViews.{fault_of};
 ghost use Rattle.mbe_semantics.specs.Fragments.Kinds.{kind_named, kind_names};
 ghost use Rattle.mbe_tt.specs.Trees.Leaf.{is_text};
@@ -32,6 +38,8 @@ ghost use Rattle.mbe_ops.specs.Views.{op_of, template_of, separator_seen};
 
 mod metavar_expr;
 
+use crate::empty_repetition::{first_in_repetition, first_offset, shift_offset};
+use crate::located_fault::LocatedError;
 use crate::parser::metavar_expr::parse_metavar_expr;
 use arrayvec::ArrayVec;
 use mbe_ops::errors::error::{ReadError, SyntaxFault};
@@ -43,13 +51,23 @@ use mbe_tt::symbol::Symbol;
 use mbe_tt::tt::{
     Delimiter, DelimiterKind, Ident, IdentIsRaw, Leaf, Literal, Punct, TtElement, TtIter,
 };
-use std::alloc::{AllocError, Allocator};
+use std::alloc::{AllocError, Allocator, Global};
 
 /// Whether a pattern or a template is parsed.
 #[derive(Clone, Copy, Debug, PartialEq, Eq)]
 pub enum Mode {
     Pattern,
     Template,
+}
+
+/// A parsed pattern or template.
+#[derive(Drop)]
+pub struct ParsedTemplate<A: Allocator = Global> {
+    pub ops: MetaTemplate<A>,
+    /// The offset of the first refused repetition, in reading order: the number of flat tokens
+    /// before its group. It has no separator, and its body can match no token. A pattern that has
+    /// one is refused. In a template such a repetition is allowed.
+    pub empty: Option<usize>,
 }
 
 /// The greatest depth of groups and repetitions in a pattern or a template.
@@ -60,19 +78,23 @@ pub enum Mode {
 pub const NESTING_LIMIT: usize = 256;
 
 /// Parses all the trees. `edition` returns the edition of a context. It decides what `pat` and
-/// `expr` mean, by the context of the specifier's own span. Out of memory also beyond
-/// `NESTING_LIMIT`.
+/// `expr` mean, by the context of the specifier's own span. The error is the first fault, with its
+/// offset. Out of memory also beyond `NESTING_LIMIT`.
 pub fn parse_template<A: Allocator + Copy, E: Copy + Fn(SyntaxContext) -> Edition>(
     alloc: A,
     edition: E,
     src: TtIter<'_, A>,
     mode: Mode,
-) -> Result<MetaTemplate<A>, ReadError>
+) -> Result<ParsedTemplate<A>, LocatedError>
     requires { MayAsk (E.pre edition) }
     ensures ops { IfOk result (λ t. Template (E.post edition) (mode_of mode)
-        src.entry (template_of t)) }
-    ensures fault { IfErr result (λ e. ReadFails e (λ f. TemplateFault (E.post edition)
-        (mode_of mode) f src.entry)) }
+        src.entry (template_of t.ops)) }
+    ensures empty { IfOk result (λ t. IsEmptyOffset (E.post edition) (mode_of mode)
+        src.entry (template_of t.ops) t.empty) }
+    ensures within_empty { IfOk result (λ t. IfSome t.empty (λ n. n ≤ flat_len src.entry)) }
+    ensures fault { IfErr result (λ e. FailsAt e (λ f n. TemplateFaultAt (E.post edition)
+        (mode_of mode) f src.entry n)) }
+    ensures within { IfErr result (λ e. FailsAt e (λ f n. n ≤ flat_len src.entry)) }
 {
     parse_template_within(alloc, edition, src, mode, NESTING_LIMIT)
 }
@@ -85,17 +107,24 @@ fn parse_template_within<A: Allocator + Copy, E: Copy + Fn(SyntaxContext) -> Edi
     src: TtIter<'_, A>,
     mode: Mode,
     levels: usize,
-) -> Result<MetaTemplate<A>, ReadError>
+) -> Result<ParsedTemplate<A>, LocatedError>
     requires { MayAsk (E.pre edition) }
     ensures ops { IfOk result (λ t. Template (E.post edition) (mode_of mode)
-        src.entry (template_of t)) }
-    ensures fault { IfErr result (λ e. ReadFails e (λ f. TemplateFault (E.post edition)
-        (mode_of mode) f src.entry)) }
+        src.entry (template_of t.ops)) }
+    ensures empty { IfOk result (λ t. IsEmptyOffset (E.post edition) (mode_of mode)
+        src.entry (template_of t.ops) t.empty) }
+    ensures within_empty { IfOk result (λ t. IfSome t.empty (λ n. n ≤ flat_len src.entry)) }
+    ensures fault { IfErr result (λ e. FailsAt e (λ f n. TemplateFaultAt (E.post edition)
+        (mode_of mode) f src.entry n)) }
+    ensures within { IfErr result (λ e. FailsAt e (λ f n. n ≤ flat_len src.entry)) }
 {
+    let whole = src.remaining().flat_len();
     let mut src = src;
     let mut ops = Vec::with_capacity(alloc, estimate_ops(src.fork(), mode))?;
+    let mut empty = None;
     'trees: while !src.is_empty() {
         ops.reserve(1)?;
+        let offset = whole - src.remaining().flat_len();
         let Some(first) = src.peek() else {
             unreachable!()
         };
@@ -103,23 +132,24 @@ fn parse_template_within<A: Allocator + Copy, E: Copy + Fn(SyntaxContext) -> Edi
             TtElement::Leaf(Leaf::Ident(ident)) => push_ident(ident, &mut src, &mut ops)?,
             TtElement::Leaf(Leaf::Literal(literal)) => push_literal(literal, &mut src, &mut ops)?,
             TtElement::Leaf(Leaf::Punct(punct)) => {
-                push_at_punct(alloc, edition, *punct, &mut src, mode, levels, &mut ops)?;
+                match push_at_punct(alloc, edition, *punct, &mut src, mode, levels, &mut ops) {
+                    Ok(found) => empty = first_offset(empty, found, offset),
+                    Err(error) => return Err(error.shifted(offset)),
+                }
             }
             TtElement::Subtree(subtree, inside) => {
-                let _group = src.next();
-                let tokens = parse_template_within(
-                    alloc,
-                    edition,
-                    inside,
-                    mode,
-                    enter_level(levels)?,
-                )?;
-                let delimiter = OpDelimiter::new(alloc, subtree.delimiter)?;
-                ops.push_reserved(Op::Subtree { tokens, delimiter });
+                let around = subtree.delimiter;
+                match push_group(
+                    alloc, edition, around, inside, &mut src, mode, levels, &mut ops,
+                ) {
+                    Ok(found) => empty = first_offset(empty, found, offset),
+                    Err(error) => return Err(error.shifted(offset)),
+                }
             }
         }
     }
-    Ok(MetaTemplate(shrink_ops(alloc, ops)?))
+    let ops = MetaTemplate(shrink_ops(alloc, ops)?);
+    Ok(ParsedTemplate { ops, empty })
 }
 
 // The number of trees that an estimate looks at.
@@ -281,6 +311,43 @@ fn push_shared_literal<A: Allocator>(
     Ok(())
 }
 
+// Adds the group that is the next tree.
+#[inline(never)]
+#[cycle(template)]
+fn push_group<A: Allocator + Copy, E: Copy + Fn(SyntaxContext) -> Edition>(
+    alloc: A,
+    edition: E,
+    delimiter: Delimiter,
+    inside: TtIter<'_, A>,
+    src: &mut TtIter<'_, A>,
+    mode: Mode,
+    levels: usize,
+    ops: &mut Vec<Op<A>, A>,
+) -> Result<Option<usize>, LocatedError>
+    requires answers { MayAsk (E.pre edition) }
+    requires peeked { first src.old ≡ Some (Group_tree delimiter inside) }
+    requires small { flat_len src.old < 2 ^ 64 }
+    requires room { vec_len ops.old < vec_capacity ops.old }
+    ensures op { IfOk result (λ found. IsPushed ops.old.items ops.new.items (λ o.
+        ReadsOp (E.post edition) (mode_of mode) src.old o src.new found)) }
+    ensures within_empty { IfOk result (λ found. IfSome found (λ n. n ≤ flat_len src.old)) }
+    ensures fault { IfErr result (λ e. FailsAt e (λ f n. TemplateFaultAt (E.post edition)
+        (mode_of mode) f src.old n)) }
+    ensures within { IfErr result (λ e. FailsAt e (λ f n. n ≤ flat_len src.old)) }
+    ensures shorter { OnOk result (flat_len src.new < flat_len src.old) }
+{
+    let _group = src.next();
+    match parse_template_within(alloc, edition, inside, mode, enter_level(levels)?) {
+        Ok(body) => {
+            let delimiter = OpDelimiter::new(alloc, delimiter)?;
+            let tokens = body.ops;
+            ops.push_reserved(Op::Subtree { tokens, delimiter });
+            Ok(shift_offset(body.empty, 1))
+        }
+        Err(error) => Err(error.shifted(1)),
+    }
+}
+
 // Adds the op that begins with this punct, which is the next tree.
 #[inline(always)]
 #[cycle(template)]
@@ -293,14 +360,17 @@ fn push_at_punct<A: Allocator + Copy, E: Copy + Fn(SyntaxContext) -> Edition>(
     mode: Mode,
     levels: usize,
     ops: &mut Vec<Op<A>, A>,
-) -> Result<(), ReadError>
+) -> Result<Option<usize>, LocatedError>
     requires answers { MayAsk (E.pre edition) }
     requires peeked { first src.old ≡ Some (Leaf_tree (punct_leaf punct)) }
+    requires small { flat_len src.old < 2 ^ 64 }
     requires room { vec_len ops.old < vec_capacity ops.old }
-    ensures op { OnOk result (IsPushed ops.old.items ops.new.items (λ o. ReadsOp (E.post edition)
-        (mode_of mode) src.old o src.new)) }
-    ensures fault { IfErr result (λ e. ReadFails e (λ f. TemplateFault (E.post edition)
-        (mode_of mode) f src.old)) }
+    ensures op { IfOk result (λ found. IsPushed ops.old.items ops.new.items (λ o.
+        ReadsOp (E.post edition) (mode_of mode) src.old o src.new found)) }
+    ensures within_empty { IfOk result (λ found. IfSome found (λ n. n ≤ flat_len src.old)) }
+    ensures fault { IfErr result (λ e. FailsAt e (λ f n. TemplateFaultAt (E.post edition)
+        (mode_of mode) f src.old n)) }
+    ensures within { IfErr result (λ e. FailsAt e (λ f n. n ≤ flat_len src.old)) }
     ensures shorter { OnOk result (flat_len src.new < flat_len src.old) }
 {
     if punct.char == '$' {
@@ -308,7 +378,7 @@ fn push_at_punct<A: Allocator + Copy, E: Copy + Fn(SyntaxContext) -> Edition>(
         return push_after_dollar(alloc, edition, punct, src, mode, levels, ops);
     }
     push_puncts(alloc, src, ops)?;
-    Ok(())
+    Ok(None)
 }
 
 // Adds the op of the next puncts.
@@ -344,25 +414,32 @@ fn push_after_dollar<A: Allocator + Copy, E: Copy + Fn(SyntaxContext) -> Edition
     mode: Mode,
     levels: usize,
     ops: &mut Vec<Op<A>, A>,
-) -> Result<(), ReadError>
+) -> Result<Option<usize>, LocatedError>
     requires answers { MayAsk (E.pre edition) }
+    requires small { flat_len src.old < 2 ^ 64 }
     requires room { vec_len ops.old < vec_capacity ops.old }
-    ensures op { OnOk result (IsPushed ops.old.items ops.new.items (λ o. AtHead (E.post edition)
-        (mode_of mode) (grammar.after_dollar (mode_of mode) dollar src.old) o src.new)) }
-    ensures fault { IfErr result (λ e. ReadFails e (FaultAtHead (E.post edition) (mode_of mode)
+    ensures op { IfOk result (λ found. IsPushed ops.old.items ops.new.items (λ o.
+        IsHead (E.post edition) (mode_of mode)
+        (grammar.after_dollar (mode_of mode) dollar src.old) o src.new found)) }
+    ensures within_empty { IfOk result (λ found. IfSome found (λ n. n ≤ flat_len src.old)) }
+    ensures fault { IfErr result (λ e. FailsAt e (FaultAtHead (E.post edition) (mode_of mode)
         (grammar.after_dollar (mode_of mode) dollar src.old))) }
+    ensures within { IfErr result (λ e. FailsAt e (λ f n. n ≤ flat_len src.old)) }
     ensures no_longer { OnOk result (flat_len src.new ≤ flat_len src.old) }
 {
     let Some(second) = src.next() else {
         ops.push_reserved(Op::Punct(Puncts::one(dollar)));
-        return Ok(());
+        return Ok(None);
     };
     match second {
         TtElement::Subtree(subtree, inside) => {
             let kind = subtree.delimiter.kind;
             push_group_after_dollar(alloc, edition, kind, inside, src, mode, levels, ops)
         }
-        TtElement::Leaf(leaf) => push_leaf_after_dollar(alloc, edition, leaf, src, mode, ops),
+        TtElement::Leaf(leaf) => {
+            push_leaf_after_dollar(alloc, edition, leaf, src, mode, ops)?;
+            Ok(None)
+        }
     }
 }
 
@@ -378,28 +455,39 @@ fn push_group_after_dollar<A: Allocator + Copy, E: Copy + Fn(SyntaxContext) -> E
     mode: Mode,
     levels: usize,
     ops: &mut Vec<Op<A>, A>,
-) -> Result<(), ReadError>
+) -> Result<Option<usize>, LocatedError>
     requires answers { MayAsk (E.pre edition) }
+    requires small { 2 + flat_len inside < 2 ^ 64 }
     requires room { vec_len ops.old < vec_capacity ops.old }
-    ensures op { OnOk result (IsPushed ops.old.items ops.new.items (λ o. AtHead (E.post edition)
-        (mode_of mode) (grammar.group_after_dollar (mode_of mode) kind inside.entry src.old)
-        o src.new)) }
-    ensures fault { IfErr result (λ e. ReadFails e (FaultAtHead (E.post edition) (mode_of mode)
+    ensures op { IfOk result (λ found. IsPushed ops.old.items ops.new.items (λ o.
+        IsHead (E.post edition) (mode_of mode)
+        (grammar.group_after_dollar (mode_of mode) kind inside.entry src.old)
+        o src.new found)) }
+    ensures within_empty { IfOk result (λ found. IfSome found
+        (λ n. n ≤ 2 + flat_len inside.entry)) }
+    ensures fault { IfErr result (λ e. FailsAt e (FaultAtHead (E.post edition) (mode_of mode)
         (grammar.group_after_dollar (mode_of mode) kind inside.entry src.old))) }
+    ensures within { IfErr result (λ e. FailsAt e (λ f n. n ≤ 2 + flat_len inside.entry)) }
     ensures no_longer { OnOk result (flat_len src.new ≤ flat_len src.old) }
 {
-    let op = match kind {
-        DelimiterKind::Parenthesis => repetition(alloc, edition, inside, src, mode, levels)?,
-        DelimiterKind::Brace => parse_expression(alloc, inside, mode)?,
-        DelimiterKind::Bracket | DelimiterKind::Invisible => {
-            return Err(ReadError::Fault(SyntaxFault::ExpectedRepetition));
+    match kind {
+        DelimiterKind::Parenthesis => {
+            let (op, found) = repetition(alloc, edition, inside, src, mode, levels)?;
+            ops.push_reserved(op);
+            Ok(found)
         }
-    };
-    ops.push_reserved(op);
-    Ok(())
+        DelimiterKind::Brace => {
+            let op = parse_expression(alloc, inside, mode)?;
+            ops.push_reserved(op);
+            Ok(None)
+        }
+        DelimiterKind::Bracket => Err(LocatedError::at_start(SyntaxFault::ExpectedRepetition)),
+        DelimiterKind::Invisible => Err(LocatedError::at_start(SyntaxFault::ExpectedRepetition)),
+    }
 }
 
-// Parses the repetition that has this body. The suffix is parsed first.
+// Parses the repetition that has this body. The suffix is parsed first. Returns the offset of its
+// first refused repetition, in trees that begin with its `$`.
 #[cycle(template)]
 #[tactic(auto, using(mbe_ops::proofs::OpViews::views))]
 fn repetition<A: Allocator + Copy, E: Copy + Fn(SyntaxContext) -> Edition>(
@@ -409,22 +497,32 @@ fn repetition<A: Allocator + Copy, E: Copy + Fn(SyntaxContext) -> Edition>(
     src: &mut TtIter<'_, A>,
     mode: Mode,
     levels: usize,
-) -> Result<Op<A>, ReadError>
-    requires { MayAsk (E.pre edition) }
-    ensures op { IfOk result (λ o. AtHead (E.post edition) (mode_of mode)
-        (grammar.repetition_at body.entry (suffix_of src.old)) (op_of o) src.new) }
-    ensures fault { IfErr result (λ e. ReadFails e (FaultAtHead (E.post edition) (mode_of mode)
+) -> Result<(Op<A>, Option<usize>), LocatedError>
+    requires answers { MayAsk (E.pre edition) }
+    requires small { 2 + flat_len body < 2 ^ 64 }
+    ensures op { IfOk result (λ r. IsHead (E.post edition) (mode_of mode)
+        (grammar.repetition_at body.entry (suffix_of src.old)) (op_of r.0) src.new r.1) }
+    ensures within_empty { IfOk result (λ r. IfSome r.1 (λ n. n ≤ 2 + flat_len body.entry)) }
+    ensures fault { IfErr result (λ e. FailsAt e (FaultAtHead (E.post edition) (mode_of mode)
         (grammar.repetition_at body.entry (suffix_of src.old)))) }
+    ensures within { IfErr result (λ e. FailsAt e (λ f n. n ≤ 2 + flat_len body.entry)) }
     ensures no_longer { OnOk result (flat_len src.new ≤ flat_len src.old) }
 {
     let (separator, kind) = parse_repeat(src)?;
-    let tokens = parse_template_within(alloc, edition, body, mode, enter_level(levels)?)?;
-    let separator = OpSeparator::new(alloc, separator)?;
-    Ok(Op::Repeat {
-        tokens,
-        kind,
-        separator,
-    })
+    match parse_template_within(alloc, edition, body, mode, enter_level(levels)?) {
+        Ok(parsed) => {
+            let found = first_in_repetition(&separator, &parsed.ops.0, parsed.empty);
+            let separator = OpSeparator::new(alloc, separator)?;
+            let tokens = parsed.ops;
+            let op = Op::Repeat {
+                tokens,
+                kind,
+                separator,
+            };
+            Ok((op, found))
+        }
+        Err(error) => Err(error.shifted(2)),
+    }
 }
 
 // Parses `${..}`, which only templates may have.

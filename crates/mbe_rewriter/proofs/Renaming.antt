@@ -7,6 +7,7 @@ pub mod MentionLemmas
 pub mod NestLemmas
 pub mod NumberedLemmas
 pub mod SameLemmas
+pub mod SettledLemmas
 pub mod ShapeLemmas
 pub mod TakenLemmas
 pub mod WalkLemmas

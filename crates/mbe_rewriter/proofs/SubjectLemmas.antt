@@ -1,6 +1,5 @@
 -- Attributes, one after another.
 use Rattle.std.proofs.Common.{◌≡◌, ◌-◌, ◌<◌, ℕ, zero, suc, Option, Some, None, refl, ap, sym, ◌∙◌, arith}
-use Rattle.std.specs.Prelude.{option_map}
 use Rattle.mbe_tt.specs.Trees.Tree.{Forest}
 use Rattle.mbe_rewriter.specs.AttributedCalls.{after_known_attribute, on, past}
 

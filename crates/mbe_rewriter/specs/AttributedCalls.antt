@@ -1,11 +1,11 @@
 -- Calls that attributes are on.
 use Prim.Native.String.{String}
 use Rattle.std.specs.Prelude.{ℕ, zero, suc, Bool, false, true, not, ◌==◌, ◌&&◌, ◌||◌, if◌then◌else◌}
-use Rattle.std.specs.Prelude.{codes, List, [], ◌∷◌, map, Option, Some, None, option_map}
-use Rattle.std.specs.Prelude.{option_and_then, is_none, is_some, unwrap_or}
+use Rattle.std.specs.Prelude.{codes, List, [], ◌∷◌, map, Option, Some, None}
+use Rattle.std.specs.Prelude.{option_and_then, is_none, is_some}
 use Rattle.std.specs.List.{list_any}
 use Rattle.mbe_tt.specs.Trees.Leaf.{Ident, is_text}
-use Rattle.mbe_tt.specs.Trees.Tree.{Forest, Tree, first, rest_of, first_span, flat_len, front_ident}
+use Rattle.mbe_tt.specs.Trees.Tree.{Forest, first, rest_of, first_span, flat_len, front_ident}
 use Rattle.mbe_tt.specs.Trees.Tree.{front_group, front_char}
 use Rattle.mbe_tt.specs.declared.span.Span.{Span}
 use Rattle.mbe_tt.specs.declared.tt.DelimiterKind.{DelimiterKind}

@@ -5,5 +5,6 @@ pub mod ReplacementViews
 pub mod MacroItemViews
 pub mod Splice
 pub mod AttributedCalls
+pub mod DefiningWords
 pub mod Hygiene
 pub mod WholeFragments

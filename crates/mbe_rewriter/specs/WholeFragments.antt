@@ -7,3 +7,5 @@ pub mod Receivers
 pub mod TreeSearch
 pub mod VariableParentheses
 pub mod BuiltinCalls
+pub mod FragmentGroups
+pub mod Operands

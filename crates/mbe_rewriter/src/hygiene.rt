@@ -15,4 +15,4 @@ pub mod renamer;
 mod roles;
 mod scan_state;
 mod token_classes;
-mod tree_events;
+pub(crate) mod tree_events;

@@ -7,6 +7,7 @@
 #![tactic(auto)]
 
 pub mod attributed_calls;
+pub mod defining_words;
 pub mod hygiene;
 pub mod macro_items;
 pub mod punct_spacing;

@@ -144,7 +144,7 @@ pub(crate) fn is_text_of(text: &str, texts: &[&str]) -> bool
 
 // Returns whether a macro may have that name: a raw identifier, or any identifier that is no
 // keyword.
-fn can_name_macro<A: Allocator>(name: &Ident<A>) -> bool
+pub(crate) fn can_name_macro<A: Allocator>(name: &Ident<A>) -> bool
     ensures { result ≡ can_name_macro name.now.is_raw name.now.sym }
 {
     match name.is_raw {

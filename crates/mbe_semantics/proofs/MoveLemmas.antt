@@ -4,6 +4,7 @@ use Rattle.std.specs.Prelude.{if◌then◌else◌, List, [], ◌∷◌, length, 
 use Rattle.std.proofs.Common.{arith, ap, subst, eqb-true}
 use Rattle.std.specs.Str.{bytes_eq}
 use Rattle.std.proofs.lemmas.Option.{same_Some}
+use Rattle.mbe_tt.specs.declared.grammar.Dialect.{Dialect}
 use Rattle.mbe_semantics.specs.declared.fragment_kinds.MetaVarKind.{MetaVarKind}
 use Rattle.mbe_semantics.specs.declared.fragment_kinds.FragmentParser.{FragmentParser}
 use Rattle.mbe_semantics.specs.declared.fragment_kinds.FragmentParser.TheVariants as fragment_parsers
@@ -20,9 +21,11 @@ use Rattle.mbe_semantics.specs.Syntax.Op as ops
 use Rattle.mbe_semantics.specs.Syntax.Nullable.{is_vis, may_find_nothing}
 use Rattle.mbe_semantics.specs.Fragments.FragmentFront.{fragment_front, fragment_front_by, is_refused, ident_front}
 use Rattle.mbe_semantics.specs.Fragments.FragmentFront.{lifetime_front, unsigned_front, literal_front, tree_front}
-use Rattle.mbe_semantics.specs.Fragments.FragmentFront.{with_leaf}
+use Rattle.mbe_semantics.specs.Fragments.FragmentFront.{with_leaf, is_literal_in}
 use Rattle.mbe_semantics.specs.Readings.Fit.{token_front, literal_text_front, ident_text_front, puncts_front}
 use Rattle.mbe_semantics.specs.Readings.Fit.{lifetime_text_front, literal_separator_front, separator_front}
+use Rattle.mbe_semantics.specs.Readings.Fit.{is_other_token, is_other_separator, token_front_in, separator_front_in}
+use Rattle.mbe_semantics.proofs.FrontLemmas.{unless_some}
 
 pub leaf_moves : (n : ℕ) (l : Leaf) (rest : Forest) → 0 < n → 1 ≤ flat_len (cut_trees n (leaf l rest)).front
 leaf_moves zero l rest h = absurd (omega (arith, h))
@@ -51,6 +54,10 @@ token_moves (ops.literal l) f c e = literal_moves l.text_and_suffix f c e
 token_moves (ops.ident i) f c e = ident_moves i.sym f c e
 token_moves (ops.puncts ps) f c e = puncts_move (chars_of ps) f c e
 
+pub token_moves_in : (d : Dialect) (t : ops.Token) (f : Forest) (c : Cut) → token_front_in d t f ≡ Some c
+    → 1 ≤ flat_len c.front
+token_moves_in d t f c e = token_moves t f c (unless_some (is_other_token d t f) (token_front t f) c e)
+
 lifetime_text_moves : (text : List ℕ) (f : Forest) (c : Cut) → lifetime_text_front text f ≡ Some c
     → 1 ≤ flat_len c.front
 lifetime_text_moves text (leaf (punct p) (leaf (ident i) rest)) c e =
@@ -75,6 +82,10 @@ separator_moves (ops.literal_separator l) f c e = literal_separator_moves l.text
 separator_moves (ops.punct_separator ps) f c e = puncts_move (chars_of ps) f c e
 separator_moves (ops.lifetime_separator p i) f c e = lifetime_text_moves i.sym f c e
 
+pub separator_moves_in : (d : Dialect) (s : ops.Separator) (f : Forest) (c : Cut) → separator_front_in d s f ≡ Some c
+    → 1 ≤ flat_len c.front
+separator_moves_in d s f c e = separator_moves s f c (unless_some (is_other_separator d s f) (separator_front s f) c e)
+
 -- ---- variables
 
 if_not_moves : (b : Bool) (x c : Cut) → 1 ≤ flat_len x.front → (if b then None else Some x) ≡ Some c
@@ -95,25 +106,29 @@ lifetime_moves (leaf (punct p) (leaf (ident i) rest)) c e =
     if_moves (p.char == 39) _ c (leaf_moves 2 (punct p) (leaf (ident i) rest) (omega arith)) e
 lifetime_moves _ c e = no_cut e
 
-unsigned_moves : (f : Forest) (c : Cut) → unsigned_front f ≡ Some c → 1 ≤ flat_len c.front
-unsigned_moves (leaf (literal l) rest) c e = some_moves _ c (leaf_moves 1 (literal l) rest (omega arith)) e
-unsigned_moves (leaf (ident i) rest) c e =
+unsigned_moves : (d : Dialect) (f : Forest) (c : Cut) → unsigned_front d f ≡ Some c → 1 ≤ flat_len c.front
+unsigned_moves d (leaf (literal l) rest) c e = some_moves _ c (leaf_moves 1 (literal l) rest (omega arith)) e
+unsigned_moves d (leaf (ident i) rest) c e =
     if_moves (is_text i.sym (codes "true") || is_text i.sym (codes "false")) _ c
     (leaf_moves 1 (ident i) rest (omega arith)) e
-unsigned_moves _ c e = no_cut e
+unsigned_moves d (leaf (punct p) rest) c e = no_cut e
+unsigned_moves d (group k inside rest) c e =
+    if_moves (is_literal_in d k) _ c
+    (let h : 1 ≤ 2 + flat_len inside + flat_len (cut_trees 0 rest).front = omega arith in h) e
+unsigned_moves d none c e = no_cut e
 
-number_moves : (f : Forest) (c : Cut) → literal_front f ≡ Some c → 1 ≤ flat_len c.front
-number_moves (leaf (punct p) rest) c e = go (p.char == 45) (unsigned_front rest) e
+number_moves : (d : Dialect) (f : Forest) (c : Cut) → literal_front d f ≡ Some c → 1 ≤ flat_len c.front
+number_moves d (leaf (punct p) rest) c e = go (p.char == 45) (unsigned_front d rest) e
   where
     go : (b : Bool) (r : Option Cut) → (if b then with_leaf (leaf (punct p) rest) r else None) ≡ Some c
         → 1 ≤ flat_len c.front
     go true (Some x) h = some_moves _ c (leaf_moves 2 (punct p) rest (omega arith)) h
     go true None h = no_cut h
     go false r h = no_cut h
-number_moves (leaf (literal l) rest) c e = unsigned_moves (leaf (literal l) rest) c e
-number_moves (leaf (ident i) rest) c e = unsigned_moves (leaf (ident i) rest) c e
-number_moves none c e = no_cut e
-number_moves (group d inside rest) c e = no_cut e
+number_moves d (leaf (literal l) rest) c e = unsigned_moves d (leaf (literal l) rest) c e
+number_moves d (leaf (ident i) rest) c e = unsigned_moves d (leaf (ident i) rest) c e
+number_moves d none c e = no_cut e
+number_moves d (group k inside rest) c e = unsigned_moves d (group k inside rest) c e
 
 pub some_operator : (p : Punct) (more : List Punct) → 0 < length (longest_operator (p ∷ more))
 some_operator p more = go (is_operator (chars_of (p ∷ more))) (is_operator (chars_of (take 2 (p ∷ more))))
@@ -181,7 +196,7 @@ takes_by_empty g w kind (fragment_parsers.Grammar entry) f c e z = go (is_refuse
 takes_by_empty g w kind fragment_parsers.Identifier f c e z = some_taken c (name_moves f c e) z
 takes_by_empty g w kind fragment_parsers.Lifetime f c e z = some_taken c (lifetime_moves f c e) z
 takes_by_empty g w kind fragment_parsers.Tree f c e z = some_taken c (tree_moves f c e) z
-takes_by_empty g w kind fragment_parsers.Literal f c e z = some_taken c (number_moves f c e) z
+takes_by_empty g w kind fragment_parsers.Literal f c e z = some_taken c (number_moves g.dialect f c e) z
 
 -- what a variable takes over no flat token, it takes as a `vis`
 pub takes_empty : (g : Grammar) → IsLawful g → (kind : Option MetaVarKind) (f : Forest) (c : Cut)

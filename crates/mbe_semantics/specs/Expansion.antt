@@ -2,6 +2,7 @@
 pub mod Macro
 pub mod Error
 pub mod MatchError
+pub mod Commitment
 pub mod Expansion
 pub mod Recovery
 pub mod ParsedMacro

@@ -1,5 +1,7 @@
 -- What the variables of a rule took, step by step.
 use Rattle.std.proofs.Common.{ℕ, suc, ◌≡◌, ◌+◌, ◌<◌, Vec, Some, None, List, [], ◌∷◌, length, map, refl, ap, ◌∙◌, arith}
+use Rattle.std.proofs.Common.{◌++◌, Ok, Err, sym, append_assoc}
+use Rattle.std.specs.Prelude.{Result, OnOk, is_ok, if◌then◌else◌, codes}
 use Rattle.mbe_tt.specs.Trees.Tree.{Forest, none}
 use Rattle.mbe_tt.specs.Grammars.Grammar.{Grammar}
 use Rattle.mbe_semantics.specs.Syntax.Op.{Ops}
@@ -12,7 +14,7 @@ use Rattle.mbe_bindings.proofs.BindingLemmas.{seen-nested}
 use Rattle.mbe.specs.RuleExplanation.{BindsThere, HasPattern}
 use Rattle.mbe_diagnostics.specs.RuleChecks.Variables.{variables_in}
 use Rattle.mbe_text.specs.RustText.Printer.{text_of, written_after}
-use Rattle.mbe_session.specs.BindingText.{BindingText, HasBindingTexts, binding_text_of}
+use Rattle.mbe_session.specs.BindingText.{BindingText, HasBindingTexts, binding_text_of, value_text, values_text}
 
 -- no tokens have no text
 pub nothing_written : text_of 0 none ≡ []
@@ -46,6 +48,19 @@ module _ {A : Type 0} where
       let one = ap value_size (ap value_seen e ∙ seen-nested rounds) in
       let two = ap (λ l. values_size (values_seen l)) h in
       omega arith
+
+  -- the text of rounds, in parentheses
+  pub in_parentheses : {X E : Type 0} (r : Result X E) (b : Binding A) (rounds : Vec (Binding A) A)
+      (held : List (Binding A)) (old one two now : List ℕ) → b ≡ Nested rounds → held ≡ rounds.items
+      → one ≡ old ++ codes "(" → two ≡ one ++ values_text 16 (values_seen held)
+      → now ≡ (if is_ok r then two ++ codes ")" else two) → OnOk r (now ≡ old ++ value_text (value_seen b))
+  in_parentheses (Ok x) b rounds held old one two now e h first next last =
+      let inside = values_text 16 (values_seen held) in
+      last ∙ ap (λ t. t ++ codes ")") (next ∙ ap (λ t. t ++ inside) first)
+      ∙ append_assoc (old ++ codes "(") inside (codes ")") ∙ append_assoc old (codes "(") (inside ++ codes ")")
+      ∙ ap (λ bs. old ++ (codes "(" ++ (values_text 16 (values_seen bs) ++ codes ")"))) h
+      ∙ sym (ap (λ v. old ++ value_text v) (ap value_seen e ∙ seen-nested rounds))
+  in_parentheses (Err x) b rounds held old one two now e h first next last = tt
 
   pub count_seen : (rounds : List (Binding A)) → value_count (values_seen rounds) ≡ length rounds
   count_seen [] = refl

@@ -23,15 +23,17 @@ use Rattle.mbe_session.specs.Adjustment.{IsRest, what_follows, after_semicolon}
 use Rattle.mbe_session.specs.Scopes.{Scope, Definition as AMacro, CrateFilter, Own, Others, Crate, ExceptCrateOf}
 use Rattle.mbe_session.specs.Scopes.{definition_at, is_admitted, is_found, last_below, last_found, permits}
 use Rattle.mbe_session.specs.Scopes.{last_visible, unique_extern, unless_rival, placed}
-use Rattle.mbe_session.specs.Scopes.{OwnExcept, Module, ModuleExcept, AnyModule, OtherFile}
-use Rattle.mbe_session.specs.Resolution.{has_module, has_own, is_doubtful, is_foreign, is_global, is_own_name}
-use Rattle.mbe_session.specs.Resolution.{is_pair, is_prelude_macro, sole_in, sole_own, resolve_elsewhere}
+use Rattle.mbe_session.specs.Scopes.{OwnExcept, Module, ModuleExcept, OtherFile}
+use Rattle.mbe_session.specs.Resolution.{has_module, has_own, is_claimed, is_doubtful, is_foreign, is_global}
+use Rattle.mbe_session.specs.Resolution.{is_offered_name, is_own_name, is_pair, is_prelude_macro, may_define}
+use Rattle.mbe_session.specs.Resolution.{may_reach, name_to, path_to, resolve_elsewhere, resolve_extern}
 use Rattle.mbe_session.specs.Resolution.{resolve_import, resolve_in, resolve_name, resolve_own, resolve_path}
-use Rattle.mbe_session.specs.Resolution.{resolve_sole}
+use Rattle.mbe_session.specs.Resolution.{resolve_sole, sole_in, sole_own, unless_other}
 use Rattle.mbe_session.specs.declared.scope.Visibility.{Visibility}
 use Rattle.mbe_session.specs.declared.scope.Visibility.TheVariants.{Text, Files, Paths, Crates}
 use Rattle.mbe_session.specs.CallReplacements.{Parts, ShowsItems, no_more, at_definition, at_call, at_tree, shown_at}
-use Rattle.mbe_session.specs.CallReplacements.{shown, item_shown, LeavesGroup, is_left, is_used, PartsOfTree}
+use Rattle.mbe_session.specs.CallReplacements.{shown, is_block_item, item_shown, LeavesGroup, is_left, is_used}
+use Rattle.mbe_session.specs.CallReplacements.{PartsOfTree}
 use Rattle.mbe_session.specs.CallReplacements.{PartsOfArgument, PartsOfCall, of_kept, of_replaced, FrontParts}
 use Rattle.mbe_session.specs.CallReplacements.{of_definition, of_tree, of_call, AllParts, ends, goes_on, PartsIn}
 use Rattle.mbe_session.specs.CallReplacements.{PartsWithin, PartsOfFile, IsIn, all_of_it, after_some, in_group}
@@ -207,6 +209,9 @@ sole_missing s name h =
     ap (option_and_then (λ n. unless_rival n (last_found (ExceptCrateOf n) s Crates name)))
     (last_missing Others s Crates name h)
 
+extern_missing : (s : Scope) (name : List ℕ) → NoneHas name s.definitions → resolve_extern s name ≡ None
+extern_missing s name h = ap (option_and_then (unless_other s name)) (sole_missing s name h)
+
 seen_missing : (s : Scope) (name : List ℕ) (o : Option ℕ) → NoneHas name s.definitions
     → is_found name Text (option_and_then (definition_at s) o) ≡ false
 seen_missing s name None h = refl
@@ -233,19 +238,15 @@ in_missing s parent name h =
 import_missing : (s : Scope) (name : List ℕ) → NoneHas name s.definitions → resolve_import s name ≡ None
 import_missing s name h =
     either_missing (has_own s name) _ _ (either_missing (is_doubtful s name) _ _ refl (own_missing s name h))
-    (sole_missing s name h)
+    (extern_missing s name h)
 
 name_missing : (s : Scope) (name : List ℕ) → NoneHas name s.definitions → resolve_name s name ≡ None
-name_missing s name h =
-    ap (λ o. option_or o (option_or (last_found AnyModule s Files name) (resolve_import s name)))
-    (near_missing s name h)
-    ∙ (ap (λ o. option_or o (resolve_import s name)) (last_missing AnyModule s Files name h)
-    ∙ import_missing s name h)
+name_missing s name h = ap (name_to s name) (near_missing s name h) ∙ import_missing s name h
 
 elsewhere_missing : (s : Scope) (file : ℕ) (name : List ℕ) → NoneHas name s.definitions
     → resolve_elsewhere s file name ≡ None
 elsewhere_missing s file name h =
-    either_missing (is_prelude_macro name || has_own s name) _ _ refl (last_missing (OtherFile file) s Files name h)
+    either_missing (is_prelude_macro name || is_claimed s name) _ _ refl (last_missing (OtherFile file) s Files name h)
 
 near_in_missing : (s : Scope) (first name : List ℕ) → NoneHas name s.definitions → resolve_in s first name ≡ None
 near_in_missing s first name h =
@@ -255,19 +256,19 @@ near_in_missing s first name h =
 
 only_missing : (s : Scope) (first name : List ℕ) → NoneHas name s.definitions → resolve_sole s first name ≡ None
 only_missing s first name h =
-    either_missing (not (is_own_name first s.declared) || is_foreign s.declared name) _ _ refl (own_missing s name h)
+    either_missing (not (is_own_name first s.declared) || is_foreign s.declared name || is_offered_name s name
+    || may_define s.declared) _ _ refl (own_missing s name h)
 
 here_missing : (s : Scope) (pair : Bool) (first name : List ℕ) → NoneHas name s.definitions
     → resolve_own s pair first name ≡ None
 here_missing s pair first name h =
-    ap (λ o. option_or o (resolve_sole s first name))
+    ap (λ o. option_or o (if may_reach s pair first name then resolve_sole s first name else None))
     (either_missing pair (resolve_in s first name) None (near_in_missing s first name h) refl)
-    ∙ only_missing s first name h
+    ∙ either_missing (may_reach s pair first name) (resolve_sole s first name) None (only_missing s first name h) refl
 
 path_missing : (s : Scope) (c : MacroCall) → NoneHas c.name.sym s.definitions → resolve_path s c ≡ None
 path_missing s c h =
-    ap (λ o. option_or o (if is_global c then None else resolve_own s (is_pair c) c.first.sym c.name.sym))
-    (last_missing (Crate c.first.sym) s Crates c.name.sym h)
+    ap (path_to s c) (last_missing (Crate c.first.sym) s Crates c.name.sym h)
     ∙ either_missing (is_global c) None _ refl (here_missing s (is_pair c) c.first.sym c.name.sym h)
 
 plain_missing : (s : Scope) (c : MacroCall) → NoneHas c.name.sym s.definitions
@@ -377,7 +378,7 @@ module _ (e : Setting) (ds : List AMacro) (whole : Forest) (none_called : NoneCa
     all_items : (f : Forest) (s t : State) → ShowsItems f s t → t.scope.definitions ≡ s.scope.definitions
     all_items f o v (no_more s) = refl
     all_items g o v (at_definition f d s t is h) =
-        all_items d.rest (item_shown d s) t h ∙ items_definitions (is_item d.form) d s
+        all_items d.rest (item_shown d s) t h ∙ items_definitions (is_block_item d s) d s
     all_items g o v (at_call f c s t is h) = all_items c.rest s t h
     all_items g o v (at_tree f rest tree s t is h) = all_items rest s t h
 

@@ -17,3 +17,15 @@ pub mod StepLemmas
 pub mod BindingTextLemmas
 pub mod ImportLemmas
 pub mod WriteLemmas
+pub mod CrateLemmas
+pub mod EmptyEditions
+pub mod FeedLemmas
+pub mod LintLemmas
+pub mod NamingLemmas
+pub mod PlaceEditions
+pub mod PlaceLemmas
+pub mod RefusedEditions
+pub mod ReturnLemmas
+pub mod SessionLemmas
+pub mod WriterLemmas
+pub mod EmitterLemmas

@@ -7,16 +7,15 @@ use Rattle.mbe_semantics.specs.Expansion.Error.{ExpandError}
 use Rattle.mbe_semantics.specs.Expansion.Macro.{Macro, Expands}
 use Rattle.mbe.proofs.MarkLemmas.{expands_so}
 use Rattle.mbe_rewriter.specs.MacroItems.{MacroCall}
-use Rattle.mbe_rewriter.specs.WholeFragments.Receivers.{parenthesize_receivers}
 use Rattle.mbe_rewriter.specs.PunctSpacing.{spaced}
-use Rattle.mbe_session.specs.CallExpansion.{Setting, State, Marks, Makes}
+use Rattle.mbe_session.specs.CallExpansion.{Setting, State, Marks, Makes, settled_in}
 
 -- what the rules make of an argument that was copied, with the marks of a step
 pub makes : {A : Span → Span → Type 0} (e : Setting) (s : State) (c : MacroCall) (m : Macro) (buffer out tree : Top)
     (i : Option ℕ) (err is : Option ExpandError)
     → Expands e.grammar A m.rules FnLike buffer.1 c.name.span (top_group out) i err
     → ((x y : Span) → A x y → Marks s c x y)
-    → buffer ≡ (c.delimiter, spaced c.argument) → err ≡ is → tree ≡ parenthesize_receivers out → Makes e s c m tree is
+    → buffer ≡ (c.delimiter, spaced c.argument) → err ≡ is → tree ≡ settled_in e.grammar.dialect out → Makes e s c m tree is
 makes e s c m buffer out tree i err is h only b k w = (
   i,
   out,

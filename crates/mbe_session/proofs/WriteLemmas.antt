@@ -42,7 +42,7 @@ same_state u s scope a b c = ap (λ x. let t : State = record u { scope = x } in
 pub reads_written : (e : Setting) (f view : Forest) (d : MacroDefinition) (s u : State) (read : Scope) (n : ℕ)
     (b now : GroupStack)
     → EndsIn f d.rest
-    → IsRead e.edition d Text s.scope read → n ≡ length s.scope.definitions → u.scope ≡ with_shown n read
+    → IsRead e.language d Text s.scope read → n ≡ length s.scope.definitions → u.scope ≡ with_shown n read
     → u.fuel ≡ s.fuel → u.contexts ≡ s.contexts
     → IsUpTo f d.rest view → now ≡ put view b → Writes (KeepsDefinition e f d s) b now u
 reads_written e f view d s u read n b now h r number scope fuel contexts up w = (

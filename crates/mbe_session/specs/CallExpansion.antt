@@ -1,7 +1,8 @@
 -- The expansion of one call, or why it is not expanded.
 use Rattle.std.specs.Prelude.{◌≡◌, ◌≢◌, ◌⊎◌, ◌<◌, ◌-◌, ◌+◌, ℕ, zero, Bool, true, false, List, []}
 use Rattle.std.specs.Prelude.{◌++◌, length, Option, Some, None, unwrap_or}
-use Rattle.mbe_tt.specs.declared.span.Edition.{Edition}
+use Rattle.mbe_tt.specs.declared.grammar.Dialect.{Dialect}
+use Rattle.mbe_tt.specs.declared.grammar.Dialect.TheVariants.{RustAnalyzer, Rustc}
 use Rattle.mbe_tt.specs.declared.span.Span.{Span}
 use Rattle.mbe_tt.specs.Grammars.Grammar.{Grammar}
 use Rattle.mbe_tt.specs.Trees.Top.{Top, top_group}
@@ -12,16 +13,17 @@ use Rattle.mbe_rewriter.specs.MacroItems.{MacroCall}
 use Rattle.mbe_cfg.specs.declared.cfg_options.CfgOptions.{CfgOptions}
 use Rattle.mbe_rewriter.specs.PunctSpacing.{spaced}
 use Rattle.mbe_rewriter.specs.WholeFragments.Receivers.{parenthesize_receivers}
+use Rattle.mbe_rewriter.specs.WholeFragments.FragmentGroups.{open_fragments}
 use Rattle.mbe_rewriter.specs.Hygiene.Contexts.{step_span, numbered}
-use Rattle.mbe_session.specs.Scopes.{Scope}
+use Rattle.mbe_session.specs.Scopes.{Scope, Language}
 use Rattle.mbe_session.specs.Resolution.{rules_found, contexts_found}
 
--- What doesn't change on the way: the grammar of fragments, the conditions of `cfg`s, the edition
--- in which definitions are read, and how deep expansions may be nested.
+-- What doesn't change on the way: the grammar of fragments, the conditions of `cfg`s, the dialect
+-- and the edition in which definitions are read, and how deep expansions may be nested.
 pub record Setting : Type 0 where
   pub grammar : Grammar
   pub conditions : CfgOptions
-  pub edition : Edition
+  pub language : Language
   pub depth : ℕ
 
 -- What changes: the definitions; how many more calls may be expanded; and the contexts of tokens of
@@ -61,13 +63,19 @@ with_step_contexts c s = record s { contexts = s.contexts ++ macro_contexts s c 
 abbrev pub after_step : MacroCall → State → State
 after_step c s = with_step_contexts c (with_fuel_spent s)
 
+-- An expansion as it is expanded further: receivers are settled, or, in rustc's dialect, the groups
+-- of fragments are opened that no macro call's argument holds.
+abbrev pub settled_in : Dialect → Top → Top
+settled_in RustAnalyzer out = parenthesize_receivers out
+settled_in Rustc out = open_fragments out
+
 -- What the rules expand a call's argument to. The operators of the argument are those of its texts,
 -- and the receivers of the expansion are settled.
 abbrev pub Makes : Setting → State → MacroCall → Macro → Top → Option ExpandError → Type 0
 Makes e s c m tree err = (index : Option ℕ) × (out : Top)
     × Expands e.grammar (Marks s c) m.rules FnLike (spaced c.argument) c.name.span (top_group out)
     index err
-    × (tree ≡ parenthesize_receivers out)
+    × (tree ≡ settled_in e.grammar.dialect out)
 
 -- Whether the limits allow one more call, that deep in others.
 abbrev pub Allows : ℕ → State → State → Bool → Type 0

@@ -1,6 +1,6 @@
 -- Why no rule of a macro expands a call, and the error that says so.
 use Rattle.std.specs.Prelude.{◌≡◌, ◌+◌, ◌++◌, ℕ, max, if◌then◌else◌, List, ◌∷◌, [], length, codes}
-use Rattle.std.specs.Prelude.{Option, Some, None, is_some, IfSome}
+use Rattle.std.specs.Prelude.{Option, Some, None, is_some, IfSome, true, false}
 use Rattle.mbe_tt.specs.declared.span.Span.{Span}
 use Rattle.mbe_tt.specs.declared.tt.Delimiter.{Delimiter}
 use Rattle.mbe_tt.specs.Trees.Tree.{Forest, first}
@@ -8,7 +8,7 @@ use Rattle.mbe_tt.specs.Grammars.Grammar.{Grammar}
 use Rattle.mbe_semantics.specs.Syntax.Definition.{Rule}
 use Rattle.mbe_semantics.specs.Readings.Verdict.{one_reading, many_readings, ambiguous, stuck}
 use Rattle.mbe_rewriter.specs.MacroItems.{MacroCall}
-use Rattle.mbe.specs.RuleExplanation.{Explains}
+use Rattle.mbe.specs.RuleExplanation.{Explains, CommitsThere}
 use Rattle.mbe_diagnostics.specs.Mismatch.{mismatch_text, token_at}
 use Rattle.mbe_diagnostics.specs.SpanAt.{span_at}
 use Rattle.mbe_session.specs.CallExpansion.{Setting, State, called_macro}
@@ -20,12 +20,13 @@ use Rattle.mbe_session.specs.declared.notes.Level.TheVariants as level
 
 -- The rules from an index on, tried in order, fail so. The rules before it stop at the offset
 -- `furthest` at most. The first rule that matches, or is ambiguous, ends the search, as in rustc.
+-- So does one that rustc's dialect commits to.
 pub data FailsFrom (g : Grammar) (rules : List Rule) (argument : Forest)
     : ℕ → ℕ → CallFailure → Type 0 where
   no_rule_is_left : (index furthest : ℕ) → index ≡ length rules
       → FailsFrom g rules argument index furthest (failure.Mismatch furthest)
   rule_stops : (index furthest offset : ℕ) (why : CallFailure)
-      → Explains g rules argument index (stuck offset)
+      → Explains g rules argument index (stuck offset) → CommitsThere g rules argument index false
       → FailsFrom g rules argument (index + 1) (max furthest offset) why
       → FailsFrom g rules argument index furthest why
   rule_is_ambiguous : (index furthest offset : ℕ)
@@ -35,6 +36,9 @@ pub data FailsFrom (g : Grammar) (rules : List Rule) (argument : Forest)
       → FailsFrom g rules argument index furthest failure.ManyReadings
   rule_matches : (index furthest : ℕ) → Explains g rules argument index one_reading
       → FailsFrom g rules argument index furthest failure.TemplateFault
+  fragment_fails : (index furthest offset : ℕ)
+      → Explains g rules argument index (stuck offset) → CommitsThere g rules argument index true
+      → FailsFrom g rules argument index furthest failure.FragmentFault
 
 -- All rules, tried in order, fail so.
 abbrev pub CallFails : Grammar → List Rule → Forest → CallFailure → Type 0
@@ -68,8 +72,8 @@ place_at c argument offset =
     if is_some (first argument.1) then span_at argument.0.close argument.1 offset
     else c.name.span
 
--- The error of a call, in rustc's words, at the token at fault. For a template fault, the expander
--- has the error.
+-- The error of a call, in rustc's words, at the token at fault. For the fault of a template or of a
+-- fragment, the expander has the error.
 abbrev pub failure_note : MacroCall → Delimiter × Forest → CallFailure → Option Note
 failure_note c argument (failure.Mismatch offset) =
     Some (error_at (place_at c argument offset)
@@ -79,6 +83,7 @@ failure_note c argument (failure.Ambiguity offset) =
 failure_note c argument failure.ManyReadings =
     Some (error_at (place_at c argument 0) (in_call c.name.sym readings_text))
 failure_note c argument failure.TemplateFault = None
+failure_note c argument failure.FragmentFault = None
 
 -- One error is noted: this one, or the expander's.
 abbrev pub NotesError : Option Note → List Note → List Note → Type 0

@@ -1,7 +1,7 @@
 -- The replacements for the calls of a file.
 use Rattle.std.specs.Prelude.{◌≡◌, ◌-◌, ℕ, zero, suc, Bool, true, false, not, nat_lt, if◌then◌else◌}
-use Rattle.std.specs.Prelude.{codes, List, [], ◌∷◌, ◌++◌, length, Option, Some, None, option_map}
-use Rattle.std.specs.Prelude.{unwrap_or, is_some}
+use Rattle.std.specs.Prelude.{◌&&◌, codes, List, [], ◌∷◌, ◌++◌, length, Option, Some, None, option_map}
+use Rattle.std.specs.Prelude.{unwrap_or}
 use Rattle.std.specs.List.{list_any}
 use Rattle.std.specs.Str.{bytes_eq}
 use Rattle.mbe_tt.specs.declared.tt.Delimiter.{Delimiter}
@@ -16,13 +16,16 @@ use Rattle.mbe_rewriter.specs.MacroItems.{front, is_item}
 use Rattle.mbe_rewriter.specs.AttributedCalls.{front_item_with_attributes}
 use Rattle.mbe_rewriter.specs.Splice.{SplicedPart}
 use Rattle.mbe_text.specs.RustText.Printer.{text_of}
+use Rattle.mbe_tt.specs.declared.grammar.Dialect.{Dialect}
+use Rattle.mbe_tt.specs.declared.grammar.Dialect.TheVariants.{RustAnalyzer, Rustc}
+use Rattle.mbe_rewriter.specs.WholeFragments.FragmentGroups.{open_all}
 use Rattle.mbe_session.specs.NestedExpansion.{ExpandsTo, ReplacesCall, after_group}
 use Rattle.mbe_session.specs.CallExpansion.{Setting, State, StaysUnexpanded, IsReplaced, after_step}
 use Rattle.mbe_session.specs.Adjustment.{IsRest}
 use Rattle.mbe_rewriter.specs.Hygiene.Contexts.{apply_hygiene}
-use Rattle.mbe_session.specs.Scopes.{Scope, Definition as AMacro, placed, with_shown}
-use Rattle.mbe_session.specs.Resolution.{resolve_name}
-use Rattle.mbe_session.specs.Scopes.{with_left}
+use Rattle.mbe_session.specs.Scopes.{Scope, Definition as AMacro, is_placed_by_path, placed}
+use Rattle.mbe_session.specs.Resolution.{is_unclaimed}
+use Rattle.mbe_session.specs.Scopes.{with_left, with_shown}
 use Rattle.mbe_rewriter.specs.declared.whole_fragments.builtin_calls.Builtins.{Builtins}
 use Rattle.mbe_rewriter.specs.WholeFragments.BuiltinCalls.{expand_builtins}
 
@@ -36,14 +39,19 @@ shown_at (Some n) s = with_shown n s
 abbrev pub shown : MacroDefinition → State → State
 shown d s = record s { scope = shown_at (placed s.scope d.name.span) s.scope }
 
--- A `macro` item is visible in all of its group, and a `macro_rules!` definition after it.
+-- A `macro` item of a block is visible in all of the block: no path finds it.
+abbrev pub is_block_item : MacroDefinition → State → Bool
+is_block_item d s = is_item d.form && not (is_placed_by_path s.scope d.name.span)
+
 abbrev pub item_shown : MacroDefinition → State → State
-item_shown d s = if is_item d.form then shown d s else s
+item_shown d s = if is_block_item d s then shown d s else s
+
+-- A `macro_rules!` definition is visible after it.
 
 abbrev pub rules_shown : MacroDefinition → State → State
 rules_shown d s = if is_item d.form then s else shown d s
 
--- The `macro` items among trees become visible, one after another.
+-- The `macro` items of a block become visible, one after another.
 pub data ShowsItems : Forest → State → State → Type 0 where
   no_more : (s : State) → ShowsItems none s s
   at_definition : (f : Forest) (d : MacroDefinition) (s t : State) → front f ≡ Definition d
@@ -86,9 +94,9 @@ last_span c left =
     (option_map first_span (first c.rest)) c.delimiter.close
     else c.delimiter.close
 
--- No macro of that name is found, so the name is the built-in macro's.
+-- No definition may have that name, so the name is the built-in macro's.
 abbrev pub is_builtin : State → List ℕ → Bool
-is_builtin s name = not (is_some (resolve_name s.scope name))
+is_builtin s name = is_unclaimed s.scope name
 
 abbrev pub number_if : Bool → ℕ → Option ℕ
 number_if true n = Some n
@@ -103,6 +111,11 @@ builtins s line column = record {
   concat = is_builtin s (codes "concat");
 }
 
+-- In rustc's dialect, no group of a fragment is left in the text.
+abbrev pub all_opened_in : Dialect → Forest → Forest
+all_opened_in RustAnalyzer f = f
+all_opened_in Rustc f = open_all f
+
 -- The replacement for a call: the text of the expansion, in which calls are expanded too. It is
 -- adjusted to what is beside the call, its locals are renamed apart, and calls of built-in macros
 -- are expanded. The first `mark` contexts are of earlier calls.
@@ -116,7 +129,7 @@ pub record IsPartOf (e : Setting) (levels depth mark : ℕ) (c : MacroCall) (tre
   pub column : ℕ
   pub written : part.text
       ≡ text_of indentation (expand_builtins (builtins t line column)
-      (apply_hygiene t.contexts mark left out))
+      (apply_hygiene t.contexts mark left (all_opened_in e.grammar.dialect out)))
   pub leaves : IsRest c.rest left
   pub in_file : part.file ≡ c.start.file
   pub starts : part.start ≡ c.start.start
@@ -168,7 +181,7 @@ pub data AllParts (e : Setting) (levels : ℕ) (within : Parts) : Forest → Sta
       → FrontParts e levels within f s parts rest t
       → AllParts e levels within rest t more u → AllParts e levels within f s (parts ++ more) u
 
--- The replacements for trees, whose `macro` items are visible from the first tree on.
+-- The replacements for trees. The `macro` items of a block are visible from its first tree on.
 abbrev pub PartsIn : Setting → ℕ → Parts → Parts
 PartsIn e levels within f s parts u =
     (t : State) × ShowsItems f s t × AllParts e levels within f t parts u

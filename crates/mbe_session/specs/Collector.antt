@@ -4,16 +4,15 @@ use Rattle.std.specs.Prelude.{if◌then◌else◌}
 use Rattle.std.specs.Prelude.{codes, List, length, Option, Some, None}
 use Rattle.mbe_tt.specs.Trees.Leaf.{Leaf, literal, punct, ident, is_text}
 use Rattle.mbe_tt.specs.Trees.Tree.{Forest, Tree, Leaf_tree, Group_tree, none}
-use Rattle.mbe_tt.specs.declared.span.Edition.{Edition}
 use Rattle.mbe_tt.specs.declared.tt.DelimiterKind.{DelimiterKind}
 use Rattle.mbe_tt.specs.declared.tt.DelimiterKind.TheVariants.{Parenthesis, Brace, Bracket}
 use Rattle.mbe_tt.specs.declared.tt.DelimiterKind.TheVariants.{Invisible}
 use Rattle.mbe_rewriter.specs.Surroundings.{attribute_of}
 use Rattle.mbe_rewriter.specs.MacroItems.{MacroCall, MacroDefinition, Definition, CallItem, Other}
 use Rattle.mbe_rewriter.specs.MacroItems.{front, is_item}
-use Rattle.mbe_session.specs.Scopes.{Scope, DeclaredName, IsReadAs, with_crate}
+use Rattle.mbe_session.specs.Scopes.{Scope, IsReadAs, Language, with_crate}
 use Rattle.mbe_session.specs.Resolution.{with_module, with_all_declared, with_first_declared}
-use Rattle.mbe_session.specs.Imports.{ModuleItem, is_imported_in, module_at}
+use Rattle.mbe_session.specs.Imports.{ModuleItem, is_imported_in, module_at, names_of_use}
 use Rattle.mbe_session.specs.declared.file_expander.collector.MacroAttributes.{MacroAttributes}
 use Rattle.mbe_session.specs.declared.scope.Visibility.{Visibility}
 use Rattle.mbe_session.specs.declared.scope.Visibility.TheVariants.{Text, Files, Paths, Crates}
@@ -62,22 +61,28 @@ after_definition m = record { is_exported = false; is_used = m.is_used; is_built
 -- ---- places
 
 -- The place of trees: the name of the innermost module around them (empty at the root of a crate);
--- whether the only groups around them are modules under `#[macro_use]`; and whether the only ones
--- are modules.
+-- whether the only groups around them are modules under `#[macro_use]`; whether the innermost one is
+-- a module, or there is none; and whether the only ones are modules.
 pub record TreePlace : Type 0 where
   pub parent : List ℕ
   pub is_top : Bool
   pub is_item : Bool
+  pub is_reached : Bool
 
 abbrev pub root_place : Bool → TreePlace
-root_place is_top = record { parent = codes ""; is_top = is_top; is_item = true }
+root_place is_top =
+    record { parent = codes ""; is_top = is_top; is_item = true; is_reached = true }
 
 abbrev pub in_group : TreePlace → TreePlace
-in_group p = record { parent = p.parent; is_top = false; is_item = false }
+in_group p = record { parent = p.parent; is_top = false; is_item = false; is_reached = false }
 
 abbrev pub in_module : List ℕ → Bool → TreePlace → TreePlace
-in_module name is_used p =
-    record { parent = name; is_top = p.is_top && is_used; is_item = p.is_item }
+in_module name is_used p = record {
+  parent = name;
+  is_top = p.is_top && is_used;
+  is_item = true;
+  is_reached = p.is_reached;
+}
 
 -- ---- definitions
 
@@ -85,13 +90,18 @@ in_module name is_used p =
 abbrev pub exports : MacroAttributes → MacroDefinition → Bool
 exports m d = m.is_exported && not m.is_builtin && not (is_item d.form)
 
+-- A `macro` item of a module, or of the root.
+abbrev pub is_module_item : TreePlace → MacroAttributes → MacroDefinition → Bool
+is_module_item p m d = p.is_item && is_item d.form && not m.is_builtin
+
 -- By what a definition is found. Paths of other crates find what is exported, and `macro` items
--- that are in no other group than modules. Paths also find a definition there that a `use` after it
--- in its group imports. Names of other files find one in no group.
+-- that are in no other group than modules. Paths also find a `macro` item of a module in another
+-- group, and a definition in a module that a `use` after it in its group imports. Names of other
+-- files find one in no group.
 abbrev pub visibility_of : TreePlace → MacroAttributes → MacroDefinition → Visibility
 visibility_of p m d =
-    if exports m d || (p.is_item && is_item d.form && not m.is_builtin) then Crates
-    else if p.is_item && is_imported_in d.name.sym d.rest then Paths
+    if exports m d || (is_module_item p m d && p.is_reached) then Crates
+    else if is_module_item p m d || (p.is_item && is_imported_in d.name.sym d.rest) then Paths
     else if p.is_top then Files else Text
 
 -- The name of the module in which paths find a definition. What is exported is at the root.
@@ -107,52 +117,51 @@ abbrev pub DefinesModule : Reading → TreePlace → Bool → ModuleItem → Sco
 DefinesModule within p is_used m s t =
     within (in_module m.name.sym is_used p) m.inside (with_module m.name.sym s) t
 
--- A leaf may begin a `use`, which declares names.
-abbrev pub DefinesTree : Reading → TreePlace → Tree → Scope → Scope → Type 0
-DefinesTree within p (Leaf_tree l) s t =
-    (names : List DeclaredName) × (t ≡ with_all_declared names s)
-DefinesTree within p (Group_tree d inside) s t = within (in_group p) inside s t
+-- The tree at the front of trees is read. With a leaf, a `use` may begin, which declares names.
+abbrev pub DefinesTree : Reading → TreePlace → Forest → Tree → Scope → Scope → Type 0
+DefinesTree within p f (Leaf_tree l) s t = t ≡ with_all_declared (names_of_use f) s
+DefinesTree within p f (Group_tree d inside) s t = within (in_group p) inside s t
 
 -- One front after another, with the attributes before it.
-pub data DefinesAll (edition : Edition) (within : Reading) (p : TreePlace) : MacroAttributes
+pub data DefinesAll (language : Language) (within : Reading) (p : TreePlace) : MacroAttributes
     → Forest → Scope → Scope
     → Type 0 where
-  ends : (m : MacroAttributes) (s : Scope) → DefinesAll edition within p m none s s
+  ends : (m : MacroAttributes) (s : Scope) → DefinesAll language within p m none s s
   at_definition : (m : MacroAttributes) (f : Forest) (d : MacroDefinition) (s t u : Scope) → front f
       ≡ Definition d
-      → IsReadAs edition d (visibility_of p m d) (parent_of p m d) s t
-      → DefinesAll edition within p (after_definition m) d.rest t u
-      → DefinesAll edition within p m f s u
+      → IsReadAs language d (visibility_of p m d) (parent_of p m d) s t
+      → DefinesAll language within p (after_definition m) d.rest t u
+      → DefinesAll language within p m f s u
   at_call : (m : MacroAttributes) (f : Forest) (c : MacroCall) (s t : Scope) → front f ≡ CallItem c
-      → DefinesAll edition within p m c.rest s t
-      → DefinesAll edition within p m f s t
+      → DefinesAll language within p m c.rest s t
+      → DefinesAll language within p m f s t
   at_module : (m : MacroAttributes) (f rest : Forest) (tree : Tree) (x : ModuleItem)
       (s t u : Scope) → front f ≡ Other tree rest
       → module_at f ≡ Some x
       → DefinesModule within p m.is_used x s t
-      → DefinesAll edition within p no_attributes x.rest t u
-      → DefinesAll edition within p m f s u
+      → DefinesAll language within p no_attributes x.rest t u
+      → DefinesAll language within p m f s u
   at_tree : (m : MacroAttributes) (f rest : Forest) (tree : Tree) (s t u : Scope) → front f
       ≡ Other tree rest
       → module_at f ≡ None
-      → DefinesTree within p tree s t
-      → DefinesAll edition within p (after_tree tree (with_front_attribute f m)) rest t u
-      → DefinesAll edition within p m f s u
+      → DefinesTree within p f tree s t
+      → DefinesAll language within p (after_tree tree (with_front_attribute f m)) rest t u
+      → DefinesAll language within p m f s u
 
 -- The definitions of trees at a place are read, where groups may still be nested that deep.
-unfoldable pub DefinesIn : Edition → ℕ → Reading
-DefinesIn edition zero p f s t = t ≡ s
-DefinesIn edition (suc levels) p f s t =
-    DefinesAll edition (DefinesIn edition levels) p no_attributes f s t
+unfoldable pub DefinesIn : Language → ℕ → Reading
+DefinesIn language zero p f s t = t ≡ s
+DefinesIn language (suc levels) p f s t =
+    DefinesAll language (DefinesIn language levels) p no_attributes f s t
 
 -- The same for the trees of a root.
-abbrev pub Defines : Edition → ℕ → Bool → Forest → Scope → Scope → Type 0
-Defines edition levels is_top = DefinesIn edition levels (root_place is_top)
+abbrev pub Defines : Language → ℕ → Bool → Forest → Scope → Scope → Type 0
+Defines language levels is_top = DefinesIn language levels (root_place is_top)
 
 -- The definitions of another crate's trees are read as definitions of that crate. The names that it
 -- declares don't count.
-abbrev pub DefinesExternCrate : Edition → ℕ → List ℕ → Forest → Scope → Scope → Type 0
-DefinesExternCrate edition levels name f s t =
-    (read : Scope) × Defines edition levels true f s read
+abbrev pub DefinesExternCrate : Language → ℕ → List ℕ → Forest → Scope → Scope → Type 0
+DefinesExternCrate language levels name f s t =
+    (read : Scope) × Defines language levels true f s read
     × (t ≡ with_crate name (length s.definitions)
     (with_first_declared (length s.declared) read))

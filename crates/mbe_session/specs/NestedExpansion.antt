@@ -68,7 +68,7 @@ pub record ReplacesCall (inner : Change) (d : Delimiter) (tree : Forest) (s : St
 -- A definition is unchanged. It is read, and is visible from here on.
 abbrev pub KeepsDefinition : Setting → Forest → MacroDefinition → State → Forest → State → Type 0
 KeepsDefinition e f d s out u = (f ≡ append out d.rest) × (read : Scope)
-    × IsRead e.edition d Text s.scope read
+    × IsRead e.language d Text s.scope read
     × (u ≡ shows s read)
 
 -- A call is not expanded, and keeps its attributes. If its macro is one of the standard library,

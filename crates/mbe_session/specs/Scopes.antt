@@ -1,16 +1,21 @@
 -- The scope of macros: the definitions that were read, and which of them a call resolves to.
 use Rattle.std.specs.Prelude.{◌≡◌, ℕ, zero, suc, Bool, true, false, not, ◌&&◌, ◌==◌, ◌-◌}
 use Rattle.std.specs.Prelude.{if◌then◌else◌, nat_le, nat_lt, List, [], ◌∷◌, ◌++◌, length, take}
-use Rattle.std.specs.Prelude.{Option, Some, None, option_map, option_and_then, codes}
+use Rattle.std.specs.Prelude.{Option, Some, None, option_and_then, codes}
 use Rattle.std.specs.List.{list_any, slice_get}
 use Rattle.std.specs.Str.{bytes_eq}
+use Rattle.mbe_tt.specs.declared.grammar.Dialect.{Dialect}
+use Rattle.mbe_tt.specs.declared.grammar.Dialect.TheVariants.{RustAnalyzer, Rustc}
 use Rattle.mbe_tt.specs.declared.span.Edition.{Edition}
 use Rattle.mbe_tt.specs.declared.span.Span.{Span}
 use Rattle.mbe_tt.specs.declared.span.SyntaxContext.{SyntaxContext}
+use Rattle.mbe_tt.specs.Trees.Tree.{Forest}
 use Rattle.mbe_semantics.specs.Expansion.Macro.{Macro}
 use Rattle.mbe_semantics.specs.Expansion.ParsedMacro.{IsParsedRules, IsParsedMacro}
 use Rattle.mbe_rewriter.specs.MacroItems.{DefinitionForm, Rules, Body, Arguments}
-use Rattle.mbe_rewriter.specs.MacroItems.{MacroDefinition}
+use Rattle.mbe_rewriter.specs.MacroItems.{MacroDefinition, is_item}
+use Rattle.mbe_rewriter.specs.DefiningWords.{defining_words, may_define, may_shadow}
+use Rattle.mbe_rewriter.specs.declared.defining_words.DefiningWords.{DefiningWords}
 use Rattle.mbe_rewriter.specs.Hygiene.Contexts.{contexts_in}
 use Rattle.mbe_rewriter.specs.WholeFragments.VariableParentheses.{parenthesized, parenthesize_rules}
 use Rattle.mbe_session.specs.declared.scope.Visibility.{Visibility}
@@ -35,7 +40,9 @@ pub record CrateDefinitions : Type 0 where
 
 -- A name that a module or a `use` declares. The first name of a module's is `mod`, and that of a
 -- `use` is the first name of its path. It is empty if the name means something else there: after
--- `as`, and for a second module of a name.
+-- `as`, and for a second module of a name. A definition declares `macro_rules` if a call of it may
+-- define a macro that is found outside of the call's group, and `macro_use` if names after a call,
+-- or in its expansion, may mean another macro than the last visible one; their first name is empty.
 pub record DeclaredName : Type 0 where
   pub first : List ℕ
   pub name : List ℕ
@@ -62,20 +69,49 @@ definition_at s n = slice_get s.definitions n
 abbrev pub IsEdition : Edition → SyntaxContext → Edition → Type 0
 IsEdition edition context answer = answer ≡ edition
 
--- What a definition of a form is read as. Types and receivers are in parentheses where their text
--- would be read otherwise.
-abbrev pub IsReadIn : Edition → DefinitionForm → MacroDefinition → Macro → Type 0
-IsReadIn edition Rules d m = IsParsedRules (IsEdition edition) (parenthesize_rules d.rules) m
-IsReadIn edition Body d m = IsParsedMacro (IsEdition edition) None (parenthesize_rules d.rules) m
-IsReadIn edition (Arguments k pattern) d m =
-    IsParsedMacro (IsEdition edition) (Some pattern) (parenthesized pattern d.rules) m
+-- The dialect and the edition in which definitions are read.
+pub record Language : Type 0 where
+  pub dialect : Dialect
+  pub edition : Edition
+
+-- The rules of a definition, and a template after its pattern, as they are parsed. In
+-- rust-analyzer's dialect, types and receivers are in parentheses where their text would be read
+-- otherwise. rustc keeps fragments whole.
+abbrev pub rules_in : Dialect → Forest → Forest
+rules_in RustAnalyzer rules = parenthesize_rules rules
+rules_in Rustc rules = rules
+
+abbrev pub template_in : Dialect → Forest → Forest → Forest
+template_in RustAnalyzer pattern template = parenthesized pattern template
+template_in Rustc pattern template = template
+
+-- What a definition of a form is read as.
+abbrev pub IsReadIn : Language → DefinitionForm → MacroDefinition → Macro → Type 0
+IsReadIn l Rules d m = IsParsedRules (IsEdition l.edition) (rules_in l.dialect d.rules) m
+IsReadIn l Body d m = IsParsedMacro (IsEdition l.edition) None (rules_in l.dialect d.rules) m
+IsReadIn l (Arguments k pattern) d m =
+    IsParsedMacro (IsEdition l.edition) (Some pattern) (template_in l.dialect pattern d.rules) m
+
+-- A name that a definition declares, if it does.
+abbrev pub declared_if : Bool → List ℕ → List DeclaredName
+declared_if true name = (record { first = codes ""; name = name }) ∷ []
+declared_if false name = []
+
+-- What a definition with those words declares.
+abbrev pub names_of_words : Bool → DefiningWords → List DeclaredName
+names_of_words is_macro_item words =
+    declared_if (may_define words) (codes "macro_rules")
+    ++ declared_if (may_shadow is_macro_item words) (codes "macro_use")
+
+abbrev pub names_of_definition : MacroDefinition → List DeclaredName
+names_of_definition d = names_of_words (is_item d.form) (defining_words d.rules)
 
 -- A scope with one definition more, which isn't visible yet, and which paths find in modules of
--- that name.
-pub record IsReadAs (edition : Edition) (d : MacroDefinition) (visibility : Visibility)
+-- that name. A macro that may define others declares names.
+pub record IsReadAs (language : Language) (d : MacroDefinition) (visibility : Visibility)
     (parent : List ℕ) (before after : Scope) : Type 0 where
   pub rules : Macro
-  pub read : IsReadIn edition d.form d rules
+  pub read : IsReadIn language d.form d rules
   pub definitions : after.definitions
       ≡ before.definitions ++ (record {
         name = d.name.sym;
@@ -87,11 +123,12 @@ pub record IsReadAs (edition : Edition) (d : MacroDefinition) (visibility : Visi
       }) ∷ []
   pub visible : after.visible ≡ before.visible
   pub crates : after.crates ≡ before.crates
-  pub declared : after.declared ≡ before.declared
+  pub declared : after.declared ≡ before.declared ++ names_of_definition d
 
 -- The same for a definition of an expansion, which counts as one of the root.
-abbrev pub IsRead : Edition → MacroDefinition → Visibility → Scope → Scope → Type 0
-IsRead edition d visibility before after = IsReadAs edition d visibility (codes "") before after
+abbrev pub IsRead : Language → MacroDefinition → Visibility → Scope → Scope → Type 0
+IsRead language d visibility before after =
+    IsReadAs language d visibility (codes "") before after
 
 -- ---- other crates
 
@@ -126,15 +163,14 @@ is_of_file file None = false
 is_of_file file (Some d) = d.place.file == file
 
 -- Among which definitions a lookup searches: those that are no other crate's; these without one; of
--- these the ones in modules of that name, without one, in any module, or in any other file; those
--- of all other crates; those of the crate of that name; or those of all other crates except the one
--- of a definition.
+-- these the ones in modules of that name, without one, or in any other file; those of all other
+-- crates; those of the crate of that name; or those of all other crates except the one of a
+-- definition.
 pub data CrateFilter : Type 0 where
   Own : CrateFilter
   OwnExcept : ℕ → CrateFilter
   Module : List ℕ → CrateFilter
   ModuleExcept : List ℕ → ℕ → CrateFilter
-  AnyModule : CrateFilter
   OtherFile : ℕ → CrateFilter
   Others : CrateFilter
   Crate : List ℕ → CrateFilter
@@ -149,7 +185,6 @@ is_admitted s (OwnExcept m) n = is_own s n && not (n == m)
 is_admitted s (Module name) n = is_own s n && is_of_module name (definition_at s n)
 is_admitted s (ModuleExcept name m) n =
     is_own s n && is_of_module name (definition_at s n) && not (n == m)
-is_admitted s AnyModule n = is_own s n && not (is_of_module (codes "") (definition_at s n))
 is_admitted s (OtherFile file) n = is_own s n && not (is_of_file file (definition_at s n))
 is_admitted s Others n = is_extern s.crates n
 is_admitted s (Crate name) n = is_in_crate name s.crates n
@@ -199,6 +234,10 @@ permits Files r = is_wide r
 permits Paths r = is_public r
 permits Crates r = is_offered r
 
+abbrev pub is_public_definition : Option Definition → Bool
+is_public_definition None = false
+is_public_definition (Some d) = permits Paths d.visibility
+
 -- Whether a definition has that name, and a lookup of the kind `asked` finds it.
 abbrev pub is_found : List ℕ → Visibility → Option Definition → Bool
 is_found name asked None = false
@@ -239,6 +278,11 @@ is_placed place (Some d) = d.place.file == place.file && d.place.start == place.
 -- The number of the definition whose name begins there.
 abbrev pub placed : Scope → Span → Option ℕ
 placed s place = last_below (λ n. is_placed place (definition_at s n)) (length s.definitions)
+
+-- Whether paths find the definition whose name begins there.
+abbrev pub is_placed_by_path : Scope → Span → Bool
+is_placed_by_path s place =
+    is_public_definition (option_and_then (definition_at s) (placed s place))
 
 -- ---- groups
 

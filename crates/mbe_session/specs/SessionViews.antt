@@ -1,5 +1,5 @@
 -- What scopes and expanders stand for, whatever memory holds them.
-use Rattle.std.specs.Prelude.{map}
+use Rattle.std.specs.Prelude.{map, option_map}
 use Rattle.std.specs.String.{string_bytes}
 use Rattle.mbe.specs.MacroViews.{macro_of}
 use Rattle.mbe_grammar.specs.Tables.Lawful.{grammar_of}
@@ -21,6 +21,7 @@ use Rattle.mbe_session.specs.declared.scope.CrateDefinitions.{CrateDefinitions}
 use Rattle.mbe_session.specs.declared.scope.Scope.{Scope}
 use Rattle.mbe_session.specs.declared.scope.resolution.DeclaredName.{DeclaredName}
 use Rattle.mbe_session.specs.declared.imports.ModuleItem.{ModuleItem}
+use Rattle.mbe_session.specs.declared.imports.UsedPath.{UsedPath}
 use Rattle.mbe_session.specs.declared.file_expander.collector.TreePlace.{TreePlace}
 use Rattle.mbe_session.specs.declared.file_expander.FileExpander.{FileExpander}
 
@@ -39,11 +40,20 @@ declared_name_of d = record { first = string_bytes d.first; name = string_bytes 
 
 -- The place of trees, and a module.
 abbrev pub place_of : TreePlace → collector.TreePlace
-place_of p = record { parent = p.parent.now; is_top = p.is_top; is_item = p.is_item }
+place_of p = record {
+  parent = p.parent.now;
+  is_top = p.is_top;
+  is_item = p.is_item;
+  is_reached = p.is_reached;
+}
 
 abbrev pub module_shown : {A : Type 0} → ModuleItem A → imports.ModuleItem
 module_shown m =
     record { name = ident_of m.name.now; inside = trees m.inside; rest = trees m.rest }
+
+abbrev pub used_path_of : UsedPath → imports.UsedPath
+used_path_of p =
+    record { first = option_map (λ s. s.now) p.first; follows_as = p.follows_as }
 
 abbrev pub crate_definitions_of : {A : Type 0} → CrateDefinitions A → spec.CrateDefinitions
 crate_definitions_of c = record { name = string_bytes c.name; first = c.first; count = c.count }
@@ -53,7 +63,6 @@ crate_filter_shown a.Own = spec.Own
 crate_filter_shown (a.OwnExcept n) = spec.OwnExcept n
 crate_filter_shown (a.Module name) = spec.Module name.now
 crate_filter_shown (a.ModuleExcept name n) = spec.ModuleExcept name.now n
-crate_filter_shown a.AnyModule = spec.AnyModule
 crate_filter_shown (a.OtherFile n) = spec.OtherFile n
 crate_filter_shown a.Others = spec.Others
 crate_filter_shown (a.Crate name) = spec.Crate name.now
@@ -71,7 +80,7 @@ abbrev pub setting_of : {A : Type 0} → FileExpander A → calls.Setting
 setting_of x = record {
   grammar = grammar_of x.grammar;
   conditions = x.conditions;
-  edition = x.scope.edition;
+  language = record { dialect = x.grammar.dialect; edition = x.scope.edition };
   depth = x.settings.depth;
 }
 

@@ -58,6 +58,7 @@ fn trees_text<A: Allocator + Copy>(
         Fragment::Tokens { tree, .. } => text_of(alloc, *tree, 0),
         Fragment::Expr(tree) | Fragment::Path(tree) => text_of(alloc, *tree, 0),
         Fragment::TokensOwned(tree) => text_of(alloc, tree.view(), 0),
+        Fragment::Whole { tree, .. } => text_of(alloc, *tree, 0),
     }
 }
 

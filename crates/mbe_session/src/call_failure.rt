@@ -3,7 +3,7 @@
 // The rules are tried in order. The error is at the furthest token that a rule reaches. Take the
 // rules `(a b c)` and `(a d)` on `a b e`. Rule 1 stops at `e` and rule 2 at `b`, so the error is
 // "no rules expected `e`". A rule that is ambiguous ends the search. So does a rule that matches,
-// since then its template is at fault.
+// since then its template is at fault, and a rule that rustc's dialect commits to.
 ghost use Rattle.std.specs.Prelude.{◌≡◌, IfOk, OnOk, map, max, option_map};
 ghost use Rattle.std.specs.String.{string_bytes};
 ghost use Rattle.mbe_semantics.specs.Expansion.Macro.{IsChecked};
@@ -39,6 +39,8 @@ pub enum CallFailure {
     ManyReadings,
     /// A rule matches, so its template is at fault.
     TemplateFault,
+    /// A fragment of a rule begins and has a fault inside, and no rule before it matches.
+    FragmentFault,
 }
 
 // Returns why no rule expands this argument.
@@ -55,7 +57,13 @@ fn call_failure<A: Allocator + Copy, G: FragmentGrammar>(
     let mut furthest = 0;
     for index in 0..rules.num_rules() {
         match rules.explain(alloc, grammar, argument, index)? {
-            Verdict::Stuck(offset) => furthest = later(furthest, offset),
+            Verdict::Stuck(offset) => {
+                let is_committed = rules.commits(alloc, grammar, argument, index)?;
+                if is_committed {
+                    return Ok(CallFailure::FragmentFault);
+                }
+                furthest = later(furthest, offset);
+            }
             Verdict::Ambiguous(offset) => return Ok(CallFailure::Ambiguity(offset)),
             Verdict::ManyReadings => return Ok(CallFailure::ManyReadings),
             Verdict::OneReading => return Ok(CallFailure::TemplateFault),
@@ -115,7 +123,7 @@ fn ambiguity_text<A: Allocator>(alloc: A, name: &str) -> Result<String<A>, Alloc
     format!(in alloc; "local ambiguity when calling macro `{name}`: multiple parsing options")
 }
 
-// Returns the message of a failure. It is `None` if a template is at fault.
+// Returns the message of a failure. It is `None` if a template or a fragment is at fault.
 fn failure_note<A: Allocator + Copy>(
     alloc: A,
     call: MacroCall<'_, A>,
@@ -140,7 +148,7 @@ fn failure_note<A: Allocator + Copy>(
             let message = in_call(alloc, name, "ambiguity: multiple successful parses")?;
             Ok(Some((place_at(call, argument, 0), message)))
         }
-        CallFailure::TemplateFault => Ok(None),
+        CallFailure::TemplateFault | CallFailure::FragmentFault => Ok(None),
     }
 }
 
@@ -180,11 +188,11 @@ impl<'g, A: Allocator + Copy> FileExpander<'g, A> {
         if let Some((span, message)) = failure_note(self.alloc, call, argument, failure)? {
             return self.note(Level::Error, span, message);
         }
-        self.note_template_fault(call, error)
+        self.note_expand_error(call, error)
     }
 
-    // Notes the error of a template.
-    fn note_template_fault(
+    // Notes the expander's error, which is that of a template or of a fragment.
+    fn note_expand_error(
         &mut self,
         call: MacroCall<'_, A>,
         error: &ExpandError<A>,

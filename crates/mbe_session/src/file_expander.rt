@@ -16,6 +16,7 @@ ghost use Rattle.mbe_rewriter.specs.MacroItemViews.{call_shown, macro_definition
 ghost use Rattle.mbe_grammar.specs.Tables.Lawful.{grammar_of};
 ghost use Rattle.mbe_text.specs.RustText.Printer as text;
 ghost use Rattle.mbe_session.specs.CallExpansion.{Allows, Applies, Tries, macro_contexts};
+ghost use Rattle.mbe_session.specs.CallExpansion.{settled_in};
 ghost use Rattle.mbe_session.specs.CallExpansion.{called_macro, next_context, with_step_contexts};
 ghost use Rattle.mbe_session.specs.CfgFaults as cfg_faults;
 ghost use Rattle.mbe_session.specs.Explanation.{note_seen};
@@ -39,8 +40,10 @@ use mbe_grammar::tables::peg_table::RuleTable;
 use mbe_rewriter::hygiene::contexts::{numbered, step_span};
 use mbe_rewriter::macro_items::{MacroCall, MacroDefinition};
 use mbe_rewriter::punct_spacing::spaced_buffer;
+use mbe_rewriter::whole_fragments::fragment_groups::open_fragments;
 use mbe_rewriter::whole_fragments::receivers::parenthesize_receivers;
 use mbe_text::rust_printer::RustPrinter;
+use mbe_tt::grammar::Dialect;
 use mbe_tt::span::Span;
 use mbe_tt::tt::{TokenTreesView, TopSubtree};
 use std::alloc::{AllocError, Allocator, Global};
@@ -75,7 +78,10 @@ impl<'g, A: Allocator + Copy> FileExpander<'g, A> {
         ensures setting { setting_of result ≡ record {
           grammar = grammar_of grammar.entry;
           conditions = conditions.entry;
-          edition = settings.edition;
+          language = record {
+            dialect = grammar.entry.dialect;
+            edition = settings.edition;
+          };
           depth = settings.depth;
         } }
         ensures state { state_of result ≡ record {
@@ -126,7 +132,7 @@ impl<'g, A: Allocator + Copy> FileExpander<'g, A> {
         visibility: Visibility,
         parent: &str,
     ) -> Result<usize, AllocError>
-        ensures read { OnOk result (IsReadAs (setting_of self.old).edition
+        ensures read { OnOk result (IsReadAs (setting_of self.old).language
             (macro_definition_shown defined.entry) visibility parent.now
             (scope_of self.old.scope) (scope_of self.new.scope)) }
         ensures number { IfOk result (λ n. n ≡ length (scope_of self.old.scope).definitions) }
@@ -135,7 +141,8 @@ impl<'g, A: Allocator + Copy> FileExpander<'g, A> {
         ensures contexts { OnOk result (self.new.contexts.items ≡ self.old.contexts.items) }
         ensures notes { OnOk result (self.new.notes.items ≡ self.old.notes.items) }
     {
-        self.scope.read(defined, visibility, parent)
+        self.scope
+            .read(self.grammar.dialect, defined, visibility, parent)
     }
 
     // Reads a definition, and notes what is wrong with it.
@@ -144,7 +151,7 @@ impl<'g, A: Allocator + Copy> FileExpander<'g, A> {
         defined: MacroDefinition<'_, A>,
         visibility: Visibility,
     ) -> Result<usize, AllocError>
-        ensures read { OnOk result (IsRead (setting_of self.old).edition
+        ensures read { OnOk result (IsRead (setting_of self.old).language
             (macro_definition_shown defined.entry) visibility
             (scope_of self.old.scope) (scope_of self.new.scope)) }
         ensures number { IfOk result (λ n. n ≡ length (scope_of self.old.scope).definitions) }
@@ -350,7 +357,7 @@ impl<'g, A: Allocator + Copy> FileExpander<'g, A> {
             return Ok(None);
         }
         let (written, _rule) = value;
-        let tree = parenthesize_receivers(self.alloc, &written)?;
+        let tree = settled_in(self.alloc, self.grammar.dialect, &written)?;
         self.note_expansion(call, &tree)?;
         self.explain(call, &argument, true)?;
         self.add_contexts(call)?;
@@ -386,6 +393,20 @@ impl<'g, A: Allocator + Copy> FileExpander<'g, A> {
         let text = text_of(self.alloc, tree.iter().remaining(), 0)?;
         let message = format!(in self.alloc; "to `{text}`")?;
         self.note(Level::Note, call.name.span, message)
+    }
+}
+
+// Returns an expansion as it is expanded further in the dialect.
+fn settled_in<A: Allocator + Copy>(
+    alloc: A,
+    dialect: Dialect,
+    tree: &TopSubtree<A>,
+) -> Result<TopSubtree<A>, AllocError>
+    ensures { IfOk result (λ t. t ≡ settled_in dialect tree.now) }
+{
+    match dialect {
+        Dialect::RustAnalyzer => parenthesize_receivers(alloc, tree),
+        Dialect::Rustc => open_fragments(alloc, tree),
     }
 }
 

@@ -1,10 +1,11 @@
 // The scope of macros: the definitions that were read, and which of them a call resolves to.
 //
 // A plain name resolves to the last definition before it that is visible in the groups around it;
-// else to one of a `#[macro_use]` module; else to the only one that paths find; else to the one
-// that another crate offers; else to one in no group of another file. A path resolves to the last
-// definition of that name that the crate at its start offers; else, if its first name is one of
-// these files, to the one in the module that it names, or to the only one that paths find.
+// else to the only one that paths find; else to the one that another crate offers; else to one in
+// no group of another file. The definitions of a `#[macro_use]` module are visible after it. A path
+// resolves to the last definition of that name that the crate at its start offers; else, if its
+// first name is one of these files, to the one in the module that it names, or to the only one that
+// paths find.
 //
 // Where more than one definition can be meant, a call resolves to none, and `doubt` says why.
 ghost use Rattle.std.specs.Prelude.{◌≡◌, ◌&&◌, ◌∷◌, [], length, IfOk, OnOk, option_map, false};
@@ -20,7 +21,7 @@ ghost use Rattle.mbe_session.specs.Resolution as resolution;
 ghost use Rattle.mbe_session.specs.Scopes as spec;
 ghost use Rattle.mbe_semantics.specs.Expansion.ParsedMacro.{IsParsedRules, IsParsedMacro};
 ghost use Rattle.mbe_session.specs.Scopes.{IsEdition, IsReadAs, IsReadIn, is_found, is_placed};
-ghost use Rattle.mbe_session.specs.Scopes.{permits};
+ghost use Rattle.mbe_session.specs.Scopes.{is_public_definition, permits};
 ghost use Rattle.mbe_session.specs.Scopes.{with_crate, with_shown, with_left};
 ghost use Rattle.mbe_session.specs.SessionViews.{crate_filter_shown, definition_of};
 ghost use Rattle.mbe_session.specs.SessionViews.{crate_definitions_of, scope_of};
@@ -29,12 +30,14 @@ ghost use Rattle.mbe_session.specs.declared.scope.Visibility.TheVariants.{Text};
 mod linker;
 pub(crate) mod resolution;
 
+use crate::imports::names_of_definition;
 use mbe::{DeclarativeMacro, ParseError};
 use mbe_rewriter::hygiene::contexts::contexts_in;
 use mbe_rewriter::macro_items::{DefinitionForm, MacroCall, MacroDefinition};
 use mbe_rewriter::whole_fragments::variable_parentheses::{
     parenthesize_rules, parenthesize_template,
 };
+use mbe_tt::grammar::Dialect;
 use mbe_tt::span::{Edition, Span};
 use mbe_tt::tt::{Delimiter, TokenTreesView, TopSubtree, TopSubtreeBuilder};
 use resolution::DeclaredName;
@@ -185,8 +188,6 @@ enum CrateFilter<'n> {
     Module(&'n str),
     /// The same, except the definition with this number.
     ModuleExcept(&'n str, usize),
-    /// The definitions of no other crate that are in a module.
-    AnyModule,
     /// The definitions of no other crate that are in another file than this one.
     OtherFile(u32),
     /// The definitions of all other crates.
@@ -207,7 +208,7 @@ pub struct Scope<A: Allocator + Copy = Global> {
     visible: Vec<usize, A>,
     // The definitions of other crates.
     crates: Vec<CrateDefinitions<A>, A>,
-    // The names that modules and `use`s declare.
+    // The names that modules and `use`s declare, and what definitions do.
     declared: Vec<DeclaredName<A>, A>,
 }
 
@@ -255,13 +256,47 @@ fn read_macro_item<A: Allocator + Copy>(
     DeclarativeMacro::parse_macro2(alloc, arguments.as_ref(), body, |_context| edition)
 }
 
+// Returns a buffer of the rules of a definition, as they are parsed in the dialect.
+fn rules_in<A: Allocator + Copy>(
+    alloc: A,
+    dialect: Dialect,
+    delimiter: Delimiter,
+    rules: TokenTreesView<'_, A>,
+) -> Result<TopSubtree<A>, AllocError>
+    ensures { IfOk result (λ tree. tree ≡ (delimiter, spec.rules_in dialect (trees rules.entry))) }
+{
+    match dialect {
+        Dialect::RustAnalyzer => parenthesize_rules(alloc, delimiter, rules),
+        Dialect::Rustc => buffer_of(alloc, delimiter, rules),
+    }
+}
+
+// Returns a buffer of the template after a pattern, as it is parsed in the dialect.
+fn template_in<A: Allocator + Copy>(
+    alloc: A,
+    dialect: Dialect,
+    delimiter: Delimiter,
+    pattern: TokenTreesView<'_, A>,
+    template: TokenTreesView<'_, A>,
+) -> Result<TopSubtree<A>, AllocError>
+    ensures { IfOk result (λ tree. tree
+        ≡ (delimiter, spec.template_in dialect (trees pattern.entry) (trees template.entry))) }
+{
+    match dialect {
+        Dialect::RustAnalyzer => parenthesize_template(alloc, delimiter, pattern, template),
+        Dialect::Rustc => buffer_of(alloc, delimiter, template),
+    }
+}
+
 // Reads the rules of a definition.
 fn rules_of<A: Allocator + Copy>(
     alloc: A,
+    dialect: Dialect,
     edition: Edition,
     defined: MacroDefinition<'_, A>,
 ) -> Result<DeclarativeMacro<A>, AllocError>
-    ensures { IfOk result (λ m. IsReadIn edition (definition_form_shown defined.entry.form)
+    ensures { IfOk result (λ m. IsReadIn (record { dialect = dialect; edition = edition })
+        (definition_form_shown defined.entry.form)
         (macro_definition_shown defined.entry) (macro_of m)) }
 {
     let (delimiter, rules) = (defined.group.delimiter, defined.rules);
@@ -269,16 +304,16 @@ fn rules_of<A: Allocator + Copy>(
         DefinitionForm::Rules => read_macro_rules(
             alloc,
             edition,
-            &parenthesize_rules(alloc, delimiter, rules)?,
+            &rules_in(alloc, dialect, delimiter, rules)?,
         ),
         DefinitionForm::Body => read_macro_item(
             alloc,
             edition,
             None,
-            &parenthesize_rules(alloc, delimiter, rules)?,
+            &rules_in(alloc, dialect, delimiter, rules)?,
         ),
         DefinitionForm::Arguments(group, pattern) => {
-            let body = parenthesize_template(alloc, delimiter, pattern, rules)?;
+            let body = template_in(alloc, dialect, delimiter, pattern, rules)?;
             let pattern = buffer_of(alloc, group.delimiter, pattern)?;
             read_macro_item(alloc, edition, Some(pattern), &body)
         }
@@ -302,20 +337,24 @@ impl<A: Allocator + Copy> Scope<A> {
     }
 
     /// Reads a definition, and returns its number. It isn't visible yet. Paths find it in modules
-    /// of the name `parent`, or at the root if that is empty. `AllocError` if out of memory.
+    /// of the name `parent`, or at the root if that is empty. A macro that may define others
+    /// declares that. `AllocError` if out of memory.
     pub fn read(
         &mut self,
+        dialect: Dialect,
         defined: MacroDefinition<'_, A>,
         visibility: Visibility,
         parent: &str,
     ) -> Result<usize, AllocError>
         ensures read { OnOk result
-            (IsReadAs self.old.edition (macro_definition_shown defined.entry) visibility parent.now
+            (IsReadAs (record { dialect = dialect; edition = self.old.edition })
+            (macro_definition_shown defined.entry) visibility parent.now
             (scope_of self.old) (scope_of self.new)) }
         ensures number { IfOk result (λ n. n ≡ length (scope_of self.old).definitions) }
         ensures edition { OnOk result (self.new.edition ≡ self.old.edition) }
     {
-        let rules = rules_of(self.alloc, self.edition, defined)?;
+        let rules = rules_of(self.alloc, dialect, self.edition, defined)?;
+        let mut declared = names_of_definition(self.alloc, defined.is_item(), defined.rules)?;
         let number = self.definitions.len();
         let name = String::from_str(self.alloc, defined.name.sym.as_str())?;
         self.definitions.push(Definition {
@@ -326,6 +365,7 @@ impl<A: Allocator + Copy> Scope<A> {
             parent: String::from_str(self.alloc, parent)?,
             place: defined.name.span,
         })?;
+        self.declared.append(&mut declared)?;
         Ok(number)
     }
 
@@ -359,6 +399,27 @@ impl<A: Allocator + Copy> Scope<A> {
     {
         match self.definition(number) {
             Some(found) => found.place.file == place.file && found.place.start == place.start,
+            None => false,
+        }
+    }
+
+    // Whether paths find the definition of that number.
+    fn is_public(&self, number: usize) -> bool
+        ensures { result ≡ is_public_definition (spec.definition_at (scope_of self.now) number) }
+    {
+        match self.definition(number) {
+            Some(found) => found.visibility.permits(Visibility::Paths),
+            None => false,
+        }
+    }
+
+    /// Returns whether paths find the definition whose name has that span in a file.
+    pub fn is_placed_by_path(&self, defined: MacroDefinition<'_, A>) -> bool
+        ensures { result ≡ spec.is_placed_by_path (scope_of self.now)
+            (macro_definition_shown defined.entry).name.span }
+    {
+        match self.placed(defined) {
+            Some(number) => self.is_public(number),
             None => false,
         }
     }
@@ -463,7 +524,6 @@ impl<A: Allocator + Copy> Scope<A> {
             CrateFilter::ModuleExcept(name, other) => !self.is_extern(number)
                 && self.is_of_module(name, number)
                 && number != other,
-            CrateFilter::AnyModule => !self.is_extern(number) && !self.is_of_module("", number),
             CrateFilter::OtherFile(file) => !self.is_extern(number)
                 && !self.is_of_file(file, number),
             CrateFilter::Others => self.is_extern(number),

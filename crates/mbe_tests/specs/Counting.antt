@@ -2,6 +2,7 @@
 use Rattle.std.specs.Prelude.{◌≡◌, ℕ, Bool, true, false, ◌||◌, ◌&&◌, ◌==◌, min, if◌then◌else◌}
 use Rattle.std.specs.Prelude.{length, refl}
 use Rattle.std.proofs.Common.{arith, ap, sym, ◌∙◌, true≢false}
+use Rattle.mbe_tt.specs.declared.grammar.Dialect.TheVariants.{RustAnalyzer}
 use Rattle.mbe_tt.specs.Grammars.Grammar.{Grammar, IsLawful}
 use Rattle.mbe_tt.specs.declared.grammar.PrefixEntryPoint.{PrefixEntryPoint}
 use Rattle.mbe_tt.specs.declared.grammar.PrefixEntryPoint.TheVariants.{Vis}
@@ -21,6 +22,7 @@ counting count fault = record {
             || ((n == 0) && (if may_be_empty entry then false else true));
       });
   is_keyword = λ text. false;
+  dialect = RustAnalyzer;
 }
 
 empty : (fault : Bool) (entry : PrefixEntryPoint) (n : ℕ)

@@ -4,6 +4,7 @@ use Rattle.std.specs.Str.{bytes_eq}
 use Rattle.std.proofs.Common.{arith, true≢false}
 use Rattle.mbe_tt.specs.Trees.Leaf.{literal, punct, ident}
 use Rattle.mbe_tt.specs.Trees.Tree.{FlatToken, token, opening, closing}
+use Rattle.mbe_tt.specs.declared.grammar.Dialect.TheVariants.{RustAnalyzer}
 use Rattle.mbe_tt.specs.Grammars.Grammar.{Grammar, IsLawful}
 use Rattle.mbe_tt.specs.declared.grammar.Front.{Front}
 
@@ -28,6 +29,7 @@ words = record {
   parse = λ entry tokens. word_front tokens;
   is_keyword = λ text. bytes_eq text
       (codes "let");
+  dialect = RustAnalyzer;
 }
 
 -- ---- it is lawful

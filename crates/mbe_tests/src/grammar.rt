@@ -3,7 +3,7 @@ ghost use Rattle.std.specs.Prelude.{◌≡◌};
 ghost use borrow.Author.Rules.{rules};
 ghost use Rattle.mbe_tests.specs.Counting.{may_be_empty};
 
-use mbe_tt::grammar::{FragmentGrammar, Front, PrefixEntryPoint};
+use mbe_tt::grammar::{Dialect, FragmentGrammar, Front, PrefixEntryPoint};
 use mbe_tt::tt::TokenTreesView;
 use std::alloc::{AllocError, Allocator};
 use test_rows::number;
@@ -60,6 +60,10 @@ impl FragmentGrammar for Counting {
 
     fn is_keyword(&self, _text: &str) -> bool {
         false
+    }
+
+    fn dialect(&self) -> Dialect {
+        Dialect::RustAnalyzer
     }
 }
 

@@ -3,8 +3,8 @@
 // `Debug` texts, allocation failures at any request, and writers that fail at any call.
 //
 // The tests call `mbe`, `mbe_tt` and `run` of `mbe_program`. `calling` has the examples of
-// docs/CALLING.md. `text` tests the crates of texts and of Rust files. What the program prints is
-// tested by tests/mbex.
+// docs/CALLING.md. `text` tests the crates of texts and of Rust files. What the programs print is
+// tested by tests/mbex and tests/expandm.
 #![tactic(auto)]
 
 #[cfg(test)]

@@ -2,7 +2,7 @@
 // unlawful grammar.
 ghost use borrow.Author.Rules.{rules};
 
-use mbe_tt::grammar::{FragmentGrammar, Front, PrefixEntryPoint};
+use mbe_tt::grammar::{Dialect, FragmentGrammar, Front, PrefixEntryPoint};
 use mbe_tt::tt::TokenTreesView;
 use std::alloc::{AllocError, Allocator};
 
@@ -12,6 +12,7 @@ pub struct OneToken;
 #[tactic(auto, using(mbe_tt::proofs::Offsets::CutLemmas::flat_length))]
 impl FragmentGrammar for OneToken {
     ghost use Rattle.std.specs.Prelude.{false, ◌==◌, min, length};
+    ghost use Rattle.mbe_tt.specs.declared.grammar.Dialect.TheVariants.{RustAnalyzer};
 
     ghost grammar = { λ _. record {
       parse = λ entry tokens. record {
@@ -19,6 +20,7 @@ impl FragmentGrammar for OneToken {
         fault = length tokens == 0;
       };
       is_keyword = λ text. false;
+      dialect = RustAnalyzer;
     } };
 
     fn parse<A: Allocator>(
@@ -34,6 +36,10 @@ impl FragmentGrammar for OneToken {
 
     fn is_keyword(&self, _text: &str) -> bool {
         false
+    }
+
+    fn dialect(&self) -> Dialect {
+        Dialect::RustAnalyzer
     }
 
     ghost lawful = { λ _. Prim.search rules };

@@ -5,3 +5,4 @@ pub mod Glue
 pub mod Literals
 pub mod Editions
 pub mod Top
+pub mod FragmentGroup

@@ -22,6 +22,15 @@ pub enum PrefixEntryPoint {
     Vis,
 }
 
+/// How fragments are matched and written: as rust-analyzer's expander does, or as rustc does.
+///
+/// rustc keeps most fragments whole: it writes them as one invisible group (`FragmentGroup`).
+#[derive(Clone, Copy, Debug, Drop, PartialEq, Eq)]
+pub enum Dialect {
+    RustAnalyzer,
+    Rustc,
+}
+
 /// What a grammar returns: how many flat tokens at the front are the fragment, and whether the
 /// grammar reports a fault.
 #[derive(Clone, Copy, Debug, Drop, PartialEq, Eq)]
@@ -36,6 +45,10 @@ pub struct Front {
 ///
 /// - It counts at most as many flat tokens as there are.
 /// - It counts none without a fault only for `Vis`.
+///
+/// In rustc's dialect, a call ends where a fragment begins and has a fault. So a grammar of that
+/// dialect counts none with a fault where the fragment doesn't begin, and at least one flat token
+/// where it begins and has a fault.
 pub trait FragmentGrammar {
     ghost use Rattle.mbe_tt.specs.Trees.Tree.{flat};
     ghost use Rattle.mbe_tt.specs.Views.View.{trees};
@@ -57,6 +70,10 @@ pub trait FragmentGrammar {
     /// Returns whether the text is a keyword. An identifier with this text must be raw.
     fn is_keyword(&self, text: &str) -> bool
         ensures { result ≡ (grammar self.now).is_keyword text.now };
+
+    /// Returns the dialect that the grammar is made for.
+    fn dialect(&self) -> Dialect
+        ensures { result ≡ (grammar self.now).dialect };
 
     ghost lawful: { (g : Self) → IsLawful (grammar g) };
 }

@@ -11,6 +11,7 @@ mod builder;
 mod cursor;
 mod display;
 mod entry;
+pub mod fragment_group;
 pub mod grammar;
 mod inline_str;
 mod iter;

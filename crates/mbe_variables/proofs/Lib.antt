@@ -2,3 +2,4 @@ pub mod FollowLemmas
 pub mod FragmentLemmas
 pub mod PathLemmas
 pub mod PutLemmas
+pub mod WholeLemmas

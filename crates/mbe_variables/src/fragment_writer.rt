@@ -26,6 +26,7 @@ ghost use Rattle.mbe_variables.specs.FragmentWriter.{Appends, plain_fragment};
 ghost use Rattle.mbe_semantics.specs.Transcription.FragmentTrees as spec;
 ghost use Rattle.mbe_semantics.specs.Transcription.FragmentTrees.{IsFragmentOutput, path_trees};
 
+use crate::whole_fragment::write_whole;
 use mbe_log::fragment::{Fragment, TokensOrigin};
 use mbe_semantics::fragment_kinds::{MetaVarKind, Missing};
 use mbe_tt::span::Span;
@@ -67,6 +68,7 @@ pub fn write_fragment<A: Allocator, M: Fn(Span) -> Span + Copy>(
         Fragment::Expr(tree) => write_expression(*tree, id, marker, builder),
         Fragment::Path(tree) => write_path(*tree, call_site, builder),
         Fragment::TokensOwned(tree) => builder.extend_with_tt_alone(tree.view()),
+        Fragment::Whole { tree, kind } => write_whole(*kind, *tree, id, builder),
     }
 }
 

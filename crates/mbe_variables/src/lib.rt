@@ -5,3 +5,4 @@
 pub mod fragment_writer;
 pub mod transcriber_fault;
 pub mod variable_lookup;
+pub mod whole_fragment;

@@ -14,9 +14,8 @@ use Rattle.mbe_semantics.specs.Syntax.Template.{Mode, Fault, empty_repetition}
 use Rattle.mbe_semantics.specs.Syntax.Nullable.{is_refused}
 use Rattle.mbe_semantics.specs.Syntax.Definition.{Rule}
 use Rattle.mbe_semantics.specs.Expansion.Macro.{Macro}
-use Rattle.mbe_parser.proofs.RuleReading.{macro_with}
 use Rattle.mbe_rewriter.specs.MacroItems.{DefinitionForm, Rules, Body, Arguments}
-use Rattle.mbe_parser.specs.FaultLocator.RefusedRepetitions as refused
+use Rattle.mbe_parser.specs.RefusedRepetitions as refused
 use Rattle.mbe_diagnostics.specs.declared.lints.error_location.ErrorLocation.{ErrorLocation}
 use Rattle.mbe_diagnostics.specs.Lints.ErrorLocation.{RefusedAt, not_refused, in_rules, in_body, in_part}
 use Rattle.mbe_diagnostics.specs.Lints.ErrorLocation.{rules_location, part_location}

@@ -9,7 +9,7 @@ use Rattle.mbe_semantics.specs.Syntax.Template.{Mode, pattern, template, Fault, 
 use Rattle.mbe_semantics.specs.Expansion.Macro.{Macro}
 use Rattle.mbe_rewriter.specs.MacroItems.{DefinitionForm, Rules, Body, Arguments}
 use Rattle.mbe_diagnostics.specs.SpanAt.{span_at}
-use Rattle.mbe_parser.specs.FaultLocator.RefusedRepetitions as refused
+use Rattle.mbe_parser.specs.RefusedRepetitions as refused
 use Rattle.mbe_diagnostics.specs.declared.lints.error_location.ErrorLocation.{ErrorLocation}
 
 -- The token at an offset among rules. `close` closes their group.

@@ -4,8 +4,7 @@ ghost use Rattle.std.specs.Prelude.{◌≡◌, IfOk, None, Some};
 ghost use Rattle.mbe_tt.specs.Views.View.{trees};
 ghost use Rattle.mbe_parser.specs.ParserResults.{mode_of};
 ghost use Rattle.mbe_parser.specs.RuleViews.{rules_seen};
-ghost use Rattle.mbe_ops.specs.Errors.ErrorViews.{parse_error_of};
-ghost use Rattle.mbe_parser.specs.FaultLocator.Refusals.{refusal_of};
+ghost use Rattle.mbe_parser.specs.Refusals.{refusal_of};
 ghost use Rattle.mbe_semantics.specs.Expansion.ParsedMacro.{IsParsedRules, IsParsedMacro};
 ghost use Rattle.mbe_rewriter.specs.MacroItems as fronts;
 ghost use Rattle.mbe_rewriter.specs.MacroItemViews.{macro_definition_shown, definition_form_shown};
@@ -18,11 +17,9 @@ ghost use Rattle.mbe_diagnostics.specs.Lints.ErrorLocation.{part_location};
 use crate::lints::error_location::ErrorLocation;
 use crate::span_at::span_at;
 use mbe_ops::errors::error::{ParseError, SyntaxFault};
-use mbe_parser::fault_locator::rule_faults::{
-    DefinitionRefusal, OneRuleFault, RulesFault, read_one_rule, read_rules as faulty_rules,
-};
 use mbe_parser::parser::Mode;
-use mbe_parser::rules::Rule;
+use mbe_parser::refusal::{DefinitionRefusal, OneRuleFault, RulesFault};
+use mbe_parser::rules::{Rule, parse_one_rule, parse_rules};
 use mbe_rewriter::macro_items::{DefinitionForm, MacroDefinition};
 use mbe_tt::span::{Edition, Span, SyntaxContext};
 use mbe_tt::tt::{Subtree, TokenTreesView};
@@ -71,19 +68,6 @@ fn part_location<A: Allocator>(
     ErrorLocation { rule: 0, span }
 }
 
-// Returns the error to report for a refusal.
-fn error_of<A: Allocator + Copy>(
-    alloc: A,
-    why: DefinitionRefusal,
-) -> Result<ParseError<A>, AllocError>
-    ensures { IfOk result (λ e. parse_error_of e ≡ refusal_of why) }
-{
-    match why {
-        DefinitionRefusal::Syntax(fault) => ParseError::from_fault(alloc, fault),
-        DefinitionRefusal::EmptyRepetition => Ok(ParseError::RepetitionEmptyTokenTree),
-    }
-}
-
 // Returns a refused definition with these rules.
 fn refused<A: Allocator + Copy>(
     alloc: A,
@@ -97,7 +81,7 @@ fn refused<A: Allocator + Copy>(
     }) }
     ensures location { IfOk result (λ m. m.location ≡ Some location) }
 {
-    let err = Some(error_of(alloc, why)?);
+    let err = Some(why.error(alloc)?);
     let location = Some(location);
     Ok(ParsedMacro {
         rules,
@@ -132,7 +116,7 @@ fn read_rules<A: Allocator + Copy, E: Copy + Fn(SyntaxContext) -> Edition>(
         (macro_read m) fronts.Rules m.location) }
 {
     let missing = SyntaxFault::ExpectedSemicolon;
-    let (rules, found) = faulty_rules(alloc, ctx_edition, body.iter(), &[';'], missing)?;
+    let (rules, found) = parse_rules(alloc, ctx_edition, body.iter(), &[';'], missing)?;
     let Some(found) = found else {
         return Ok(accepted(rules));
     };
@@ -154,7 +138,7 @@ fn read_body<A: Allocator + Copy, E: Copy + Fn(SyntaxContext) -> Edition>(
         (macro_read m) fronts.Body m.location) }
 {
     let missing = SyntaxFault::ExpectedSeparator;
-    let (rules, found) = faulty_rules(alloc, ctx_edition, body.iter(), &[';', ','], missing)?;
+    let (rules, found) = parse_rules(alloc, ctx_edition, body.iter(), &[';', ','], missing)?;
     let Some(found) = found else {
         return Ok(accepted(rules));
     };
@@ -179,7 +163,7 @@ fn read_one<A: Allocator + Copy, E: Copy + Fn(SyntaxContext) -> Edition>(
         (macro_read m) (fronts.Arguments pattern_group.now.delimiter (trees pattern.entry))
         m.location) }
 {
-    let (rules, found) = read_one_rule(alloc, ctx_edition, pattern.iter(), body.iter())?;
+    let (rules, found) = parse_one_rule(alloc, ctx_edition, pattern.iter(), body.iter())?;
     let Some(found) = found else {
         return Ok(accepted(rules));
     };

@@ -58,6 +58,7 @@ plain_terminal (terminals.Operators texts) =
     terminals.Operators (borrowed (map (λ t. borrowed t.now) texts.now))
 plain_terminal (terminals.Sign c) = terminals.Sign c
 plain_terminal (terminals.Group kinds) = terminals.Group (borrowed kinds.now)
+plain_terminal (terminals.Fragment groups) = terminals.Fragment (borrowed groups.now)
 plain_terminal terminals.Name = terminals.Name
 plain_terminal terminals.Identifier = terminals.Identifier
 plain_terminal terminals.Literal = terminals.Literal

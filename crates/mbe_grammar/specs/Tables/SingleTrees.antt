@@ -10,6 +10,8 @@ use Rattle.mbe_tt.specs.declared.tt.DelimiterKind.{DelimiterKind}
 use Rattle.mbe_tt.specs.declared.tt.LitKind.{LitKind}
 use Rattle.mbe_tt.specs.declared.tt.LitKind.TheVariants.{Byte, Char, Integer, Float, Str, StrRaw}
 use Rattle.mbe_tt.specs.declared.tt.LitKind.TheVariants.{ByteStr, ByteStrRaw, CStr, CStrRaw, Err}
+use Rattle.mbe_tt.specs.declared.fragment_group.FragmentGroup.{FragmentGroup}
+use Rattle.mbe_tt.specs.Trees.FragmentGroup.{is_around}
 use Rattle.mbe_grammar.specs.Tables.Editions.{edition_of, is_keyword_in}
 use Rattle.mbe_grammar.specs.declared.tables.peg_table.RuleTable.{RuleTable}
 
@@ -94,3 +96,8 @@ is_punct char (Group_tree d inside) = false
 abbrev pub is_group : List DelimiterKind → Tree → Bool
 is_group kinds (Leaf_tree x) = false
 is_group kinds (Group_tree d inside) = list_any (is_same_kind d.kind) kinds
+
+-- the group of a fragment that holds one of these
+abbrev pub is_fragment_of : List FragmentGroup → Tree → Bool
+is_fragment_of groups (Leaf_tree x) = false
+is_fragment_of groups (Group_tree d inside) = list_any (λ g. is_around g d) groups

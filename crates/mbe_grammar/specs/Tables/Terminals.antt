@@ -11,6 +11,7 @@ use Rattle.mbe_tt.specs.declared.span.Edition.{Edition}
 use Rattle.mbe_grammar.specs.Tables.Editions.{is_since, edition_of}
 use Rattle.mbe_grammar.specs.Tables.SingleTrees.{is_one_of, is_identifier, is_name, is_literal}
 use Rattle.mbe_grammar.specs.Tables.SingleTrees.{is_pointed, is_any, is_punct, is_group}
+use Rattle.mbe_grammar.specs.Tables.SingleTrees.{is_fragment_of}
 use Rattle.mbe_grammar.specs.declared.tables.node.Terminal.{Terminal}
 use Rattle.mbe_grammar.specs.declared.tables.node.Terminal.TheVariants as terminals
 use Rattle.mbe_grammar.specs.declared.tables.parse_result.ParseFailure.{ParseFailure}
@@ -61,6 +62,8 @@ terminal table (terminals.Operators texts) f =
     or_no_match (after_operator (map (λ t. t.now) texts.now) f)
 terminal table (terminals.Sign char) f = or_no_match (after_one (is_punct char) f)
 terminal table (terminals.Group kinds) f = or_no_match (after_one (is_group kinds.now) f)
+terminal table (terminals.Fragment groups) f =
+    or_no_match (after_one (is_fragment_of groups.now) f)
 terminal table terminals.Name f = or_no_match (after_one (is_name table) f)
 terminal table terminals.Identifier f = or_no_match (after_one is_identifier f)
 terminal table terminals.Literal f = or_no_match (after_one is_literal f)

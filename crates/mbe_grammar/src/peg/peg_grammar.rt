@@ -1,5 +1,6 @@
 // Reads a grammar's text. The result is the rules as data, which `RuleTable` borrows.
-ghost use Rattle.std.specs.Prelude.{◌≡◌, map};
+ghost use Rattle.std.specs.Prelude.{◌≡◌, map, None};
+ghost use Rattle.mbe_tt.specs.declared.grammar.Dialect.TheVariants.{RustAnalyzer};
 ghost use Rattle.mbe_grammar.specs.Peg.Grammar.{read_text};
 ghost use Rattle.mbe_grammar.specs.Peg.Grammar as spec;
 ghost use Rattle.mbe_grammar.specs.Peg.Views.{IsRead, plain_word, reader_model, grammar_model};
@@ -11,6 +12,7 @@ use crate::peg::peg_token::PegToken;
 use crate::peg::rule_names::names_in;
 use crate::tables::node::{Keyword, Node};
 use crate::tables::peg_table::{EntryRules, RuleTable};
+use mbe_tt::grammar::Dialect;
 use mbe_tt::span::Edition;
 use std::alloc::{Allocator, Global};
 
@@ -73,6 +75,8 @@ impl<'t, A: Allocator + Copy> PegGrammar<'t, A> {
         ensures nodes { result.nodes.now ≡ self.now.nodes.items }
         ensures keywords { result.keywords.now ≡ self.now.keywords.items }
         ensures starts { result.starts ≡ self.now.starts }
+        ensures begins { result.begins ≡ None }
+        ensures dialect { result.dialect ≡ RustAnalyzer }
         ensures edition { result.edition ≡ edition }
         ensures editions { result.editions.now ≡ editions.now }
     {
@@ -80,6 +84,8 @@ impl<'t, A: Allocator + Copy> PegGrammar<'t, A> {
             nodes: self.nodes.as_slice(),
             keywords: self.keywords.as_slice(),
             starts: self.starts,
+            begins: None,
+            dialect: Dialect::RustAnalyzer,
             edition,
             editions,
         }

@@ -1,12 +1,22 @@
 // The rules of Rust, as a table. `tools/rust-rules` writes it from `rust.peg`.
 use crate::rust::positions::*;
 use crate::tables::node::{Node, Terminal};
+use mbe_tt::fragment_group::FragmentGroup;
 use mbe_tt::span::Edition;
 use mbe_tt::tt::DelimiterKind;
 
 pub const NODES: &[Node<'static>] = &[
     Node::Terminal(Terminal::Group(&[DelimiterKind::Brace])), // brace
     Node::Terminal(Terminal::End), // end
+    Node::Terminal(Terminal::Fragment(&[FragmentGroup::Block])), // fragment_block
+    Node::Terminal(Terminal::Fragment(&[FragmentGroup::Expr])), // fragment_expr
+    Node::Terminal(Terminal::Fragment(&[FragmentGroup::Item])), // fragment_item
+    Node::Terminal(Terminal::Fragment(&[FragmentGroup::Meta])), // fragment_meta
+    Node::Terminal(Terminal::Fragment(&[FragmentGroup::Pat])), // fragment_pat
+    Node::Terminal(Terminal::Fragment(&[FragmentGroup::Path])), // fragment_path
+    Node::Terminal(Terminal::Fragment(&[FragmentGroup::Stmt])), // fragment_stmt
+    Node::Terminal(Terminal::Fragment(&[FragmentGroup::Ty])), // fragment_ty
+    Node::Terminal(Terminal::Fragment(&[FragmentGroup::Vis])), // fragment_vis
     Node::Terminal(Terminal::Identifier), // ident
     Node::Terminal(Terminal::Group(&[DelimiterKind::Invisible])), // invisible
     Node::Terminal(Terminal::Literal), // literal
@@ -16,6 +26,7 @@ pub const NODES: &[Node<'static>] = &[
     Node::Terminal(Terminal::Operator("|")), // operator_bar
     Node::Terminal(Terminal::Operator(":")), // operator_colon
     Node::Terminal(Terminal::Operator("::")), // operator_colon_colon
+    Node::Terminal(Terminal::Operator(",")), // operator_comma
     Node::Terminal(Terminal::Operator(".")), // operator_dot
     Node::Terminal(Terminal::Operator("..")), // operator_dot_dot
     Node::Terminal(Terminal::Operator("..=")), // operator_dot_dot_equal
@@ -85,6 +96,7 @@ pub const NODES: &[Node<'static>] = &[
     Node::Terminal(Terminal::Word("where")), // word_where
     Node::Terminal(Terminal::Word("while")), // word_while
     Node::Terminal(Terminal::Word("yeet")), // word_yeet
+    Node::Ahead(FRAGMENT_TY), // ahead_fragment_ty
     Node::Ahead(SIGN_MORE), // ahead_sign_more
     Node::Ahead(START), // ahead_start
     Node::Ahead(START_HEAD), // ahead_start_head
@@ -150,16 +162,39 @@ pub const NODES: &[Node<'static>] = &[
     Node::Terminal(Terminal::Group(&[DelimiterKind::Brace])), // variants
     Node::Terminal(Terminal::Group(&[DelimiterKind::Parenthesis])), // parameters
     Node::Terminal(Terminal::Group(&[DelimiterKind::Brace])), // use_group
+    Node::Terminal(Terminal::Fragment(&[
+        FragmentGroup::Path,
+        FragmentGroup::Ty,
+        FragmentGroup::Pat,
+        FragmentGroup::Stmt,
+        FragmentGroup::Block,
+        FragmentGroup::Meta,
+        FragmentGroup::Item,
+        FragmentGroup::Vis,
+        FragmentGroup::Expr,
+        FragmentGroup::LiteralExpr,
+        FragmentGroup::Literal,
+    ])), // fragment
+    Node::Then(OPEN_GROUP + 1, INVISIBLE), // open_group
+    Node::NotAhead(FRAGMENT),
+    Node::Or(FRAGMENT_PATH, TYPE_PATH_GROUP + 1), // type_path_group
+    Node::Then(AHEAD_FRAGMENT_TY, TYPE_PATH_GROUP + 2),
+    Node::Inside(DelimiterKind::Invisible, TYPE_PATH),
+    Node::Or(FRAGMENT_PATH, MOD_PATH_GROUP + 1), // mod_path_group
+    Node::Then(AHEAD_FRAGMENT_TY, MOD_PATH_GROUP + 2),
+    Node::Inside(DelimiterKind::Invisible, MOD_PATH),
+    Node::Terminal(Terminal::Fragment(&[FragmentGroup::LiteralExpr, FragmentGroup::Literal])), // literal_group
     Node::Then(SIGN_QUOTE, IDENT), // lifetime
     Node::Or(NAME, SEGMENT_NAME + 1), // segment_name
     Node::Terminal(Terminal::Words(&["self", "super", "crate", "Self"])),
     Node::Then(OPERATOR_COLON_COLON, PATH_SEP + 1), // path_sep
     Node::NotAhead(PATH_SEP + 2),
     Node::Or(OPERATOR_STAR, BRACE),
-    Node::Then(MAYBE_OPERATOR_COLON_COLON, MOD_PATH + 1), // mod_path
-    Node::Then(SEGMENT_NAME, MOD_PATH + 2),
-    Node::Repeated(MOD_PATH + 3),
-    Node::Then(PATH_SEP, MOD_PATH + 4),
+    Node::Or(MOD_PATH + 1, MOD_PATH_GROUP), // mod_path
+    Node::Then(MAYBE_OPERATOR_COLON_COLON, MOD_PATH + 2),
+    Node::Then(SEGMENT_NAME, MOD_PATH + 3),
+    Node::Repeated(MOD_PATH + 4),
+    Node::Then(PATH_SEP, MOD_PATH + 5),
     Node::Needed(SEGMENT_NAME),
     Node::Then(LESS + 1, SIGN_LESS), // less
     Node::Ahead(LESS + 2),
@@ -173,15 +208,18 @@ pub const NODES: &[Node<'static>] = &[
     Node::Or(GENERIC_ARG + 1, GENERIC_ARG + 2), // generic_arg
     Node::Then(LIFETIME, NO_SIGN_PLUS),
     Node::Or(CONST_ARG, GENERIC_ARG + 3),
-    Node::Then(TYPE, GENERIC_ARG + 4),
-    Node::Maybe(GENERIC_ARG + 5),
-    Node::Or(GENERIC_ARG + 6, GENERIC_ARG + 8),
-    Node::Then(SIGN_EQUAL, GENERIC_ARG + 7),
+    Node::Or(GENERIC_ARG + 4, GENERIC_ARG + 5),
+    Node::Terminal(Terminal::Fragment(&[FragmentGroup::Expr, FragmentGroup::Block])),
+    Node::Then(TYPE, GENERIC_ARG + 6),
+    Node::Maybe(GENERIC_ARG + 7),
+    Node::Or(GENERIC_ARG + 8, GENERIC_ARG + 10),
+    Node::Then(SIGN_EQUAL, GENERIC_ARG + 9),
     Node::Or(CONST_ARG, TYPE),
     Node::Then(OPERATOR_COLON, MAYBE_BOUNDS),
-    Node::Or(CONST_ARG + 1, CONST_ARG + 2), // const_arg
-    Node::Then(MAYBE_OPERATOR_MINUS, LITERAL),
-    Node::Or(CONST_ARG + 3, BRACES),
+    Node::Or(CONST_ARG + 1, CONST_ARG + 3), // const_arg
+    Node::Then(MAYBE_OPERATOR_MINUS, CONST_ARG + 2),
+    Node::Or(LITERAL, LITERAL_GROUP),
+    Node::Or(CONST_ARG + 4, BRACES),
     Node::Terminal(Terminal::Words(&["true", "false"])),
     Node::Then(TUPLE_TYPES, MAYBE_RETURN_TYPE), // fn_sugar
     Node::Or(ANGLE, FN_SUGAR), // path_args
@@ -192,16 +230,17 @@ pub const NODES: &[Node<'static>] = &[
     Node::Then(SEGMENT_NAME, TYPE_SEGMENT + 1), // type_segment
     Node::Maybe(TYPE_SEGMENT + 2),
     Node::Or(TURBOFISH, PATH_ARGS),
-    Node::Then(TYPE_PATH + 1, TYPE_PATH + 3), // type_path
-    Node::Or(TYPE_PATH + 2, INVISIBLE),
+    Node::Or(TYPE_PATH + 1, TYPE_PATH_GROUP), // type_path
+    Node::Then(TYPE_PATH + 2, TYPE_PATH + 4),
+    Node::Or(TYPE_PATH + 3, OPEN_GROUP),
     Node::Then(MAYBE_OPERATOR_COLON_COLON, TYPE_SEGMENT),
-    Node::Repeated(TYPE_PATH + 4),
+    Node::Repeated(TYPE_PATH + 5),
     Node::Then(PATH_SEP, NEEDED_TYPE_SEGMENT),
     Node::Then(SEGMENT_NAME, EXPR_SEGMENT + 1), // expr_segment
     Node::Maybe(TURBOFISH),
     Node::Or(EXPR_PATH + 1, EXPR_PATH + 6), // expr_path
     Node::Then(EXPR_PATH + 2, EXPR_PATH + 4),
-    Node::Or(EXPR_PATH + 3, INVISIBLE),
+    Node::Or(EXPR_PATH + 3, OPEN_GROUP),
     Node::Then(MAYBE_OPERATOR_COLON_COLON, EXPR_SEGMENT),
     Node::Repeated(EXPR_PATH + 5),
     Node::Then(PATH_SEP, NEEDED_EXPR_SEGMENT),
@@ -236,15 +275,16 @@ pub const NODES: &[Node<'static>] = &[
     Node::Then(DYN_2015, BOUNDS),
     Node::Or(TYPE_BASE + 3, TYPE_BASE + 4),
     Node::Then(TYPE_PATH, MAYBE_MACRO_END),
-    Node::Or(TUPLE_TYPES, TYPE_BASE + 5),
-    Node::Or(ARRAY_TYPE, TYPE_BASE + 6),
-    Node::Or(TYPE_WORD, TYPE_BASE + 7),
-    Node::Or(OPERATOR_BANG, TYPE_BASE + 8),
-    Node::Or(TYPE_BASE + 9, BARE_BOUNDS),
-    Node::Then(QSELF, TYPE_BASE + 10),
-    Node::Then(TYPE_BASE + 11, TYPE_BASE + 12),
+    Node::Or(FRAGMENT_TY, TYPE_BASE + 5),
+    Node::Or(TUPLE_TYPES, TYPE_BASE + 6),
+    Node::Or(ARRAY_TYPE, TYPE_BASE + 7),
+    Node::Or(TYPE_WORD, TYPE_BASE + 8),
+    Node::Or(OPERATOR_BANG, TYPE_BASE + 9),
+    Node::Or(TYPE_BASE + 10, BARE_BOUNDS),
+    Node::Then(QSELF, TYPE_BASE + 11),
+    Node::Then(TYPE_BASE + 12, TYPE_BASE + 13),
     Node::Then(OPERATOR_COLON_COLON, NEEDED_TYPE_SEGMENT),
-    Node::Repeated(TYPE_BASE + 13),
+    Node::Repeated(TYPE_BASE + 14),
     Node::Then(OPERATOR_COLON_COLON, NEEDED_TYPE_SEGMENT),
     Node::Or(WORD_UNDERSCORE, TYPE_WORD + 1), // type_word
     Node::Or(TYPE_WORD + 2, TYPE_WORD + 4),
@@ -266,13 +306,15 @@ pub const NODES: &[Node<'static>] = &[
     Node::Then(WORD_EXTERN, MAYBE_ABI),
     Node::Then(WORD_FN, FN_POINTER + 5),
     Node::Then(POINTER_PARAMETERS, MAYBE_RETURN_TYPE),
-    Node::Or(LITERAL, INVISIBLE), // abi
+    Node::Or(LITERAL, ABI + 1), // abi
+    Node::Or(OPEN_GROUP, LITERAL_GROUP),
     Node::Then(OPERATOR_MINUS_MORE, TYPE_ONE), // return_type
     Node::Then(WORD_UNSAFE, UNSAFE_BINDER + 1), // unsafe_binder
     Node::Then(GENERIC_PARAMS, TYPE),
     Node::Then(BARE_BOUNDS + 1, BOUNDS), // bare_bounds
     Node::Ahead(BARE_BOUNDS + 2),
-    Node::Or(SIGN_QUOTE, BARE_BOUNDS + 3),
+    Node::Or(BARE_BOUNDS + 3, BARE_BOUNDS + 4),
+    Node::Then(LIFETIME, SIGN_PLUS),
     Node::Terminal(Terminal::Operators(&["?", "~"])),
     Node::Then(BOUND, BOUNDS + 1), // bounds
     Node::Repeated(BOUNDS + 2),
@@ -357,13 +399,15 @@ pub const NODES: &[Node<'static>] = &[
     Node::Or(PATTERN_BASE + 1, PATTERN_BASE + 2), // pattern_base
     Node::Then(NAME, AT_PATTERN),
     Node::Or(PATH_PATTERN, PATTERN_BASE + 3),
-    Node::Or(WORD_UNDERSCORE, PATTERN_BASE + 4),
-    Node::Or(TUPLE_PATTERN, PATTERN_BASE + 5),
+    Node::Or(FRAGMENT_PAT, PATTERN_BASE + 4),
+    Node::Or(WORD_UNDERSCORE, PATTERN_BASE + 5),
+    Node::Or(TUPLE_PATTERN, PATTERN_BASE + 6),
     Node::Or(SLICE_PATTERN, OTHER_PATTERN),
-    Node::Then(EXPR_PATH, PATH_PATTERN + 1), // path_pattern
-    Node::Maybe(PATH_PATTERN + 2),
-    Node::Or(MACRO_END, PATH_PATTERN + 3),
-    Node::Or(TUPLE_PATTERN, PATH_PATTERN + 4),
+    Node::Then(PATH_PATTERN + 1, PATH_PATTERN + 2), // path_pattern
+    Node::Or(EXPR_PATH, FRAGMENT_PATH),
+    Node::Maybe(PATH_PATTERN + 3),
+    Node::Or(MACRO_END, PATH_PATTERN + 4),
+    Node::Or(TUPLE_PATTERN, PATH_PATTERN + 5),
     Node::Or(STRUCT_PATTERN, RANGE_TAIL),
     Node::Or(OTHER_PATTERN + 1, OTHER_PATTERN + 3), // other_pattern
     Node::Then(PATTERN_LITERAL, OTHER_PATTERN + 2),
@@ -381,8 +425,10 @@ pub const NODES: &[Node<'static>] = &[
     Node::Then(WORD_MUT, BINDING_MODE + 5),
     Node::Maybe(BINDING_MODE + 6),
     Node::Then(WORD_REF, MAYBE_WORD_MUT),
-    Node::Or(PATTERN_LITERAL + 1, PATTERN_LITERAL + 2), // pattern_literal
-    Node::Then(MAYBE_OPERATOR_MINUS, LITERAL),
+    Node::Or(PATTERN_LITERAL + 1, PATTERN_LITERAL + 3), // pattern_literal
+    Node::Then(MAYBE_OPERATOR_MINUS, PATTERN_LITERAL + 2),
+    Node::Or(LITERAL, LITERAL_GROUP),
+    Node::Or(PATTERN_LITERAL + 4, FRAGMENT_EXPR),
     Node::Terminal(Terminal::Words(&["true", "false"])),
     Node::Or(RANGE_TAIL + 1, RANGE_TAIL + 2), // range_tail
     Node::Then(OPERATOR_DOT_DOT, MAYBE_RANGE_END),
@@ -391,7 +437,8 @@ pub const NODES: &[Node<'static>] = &[
     Node::Or(RANGE_TO + 1, RANGE_TO + 2), // range_to
     Node::Then(OPERATOR_DOT_DOT, MAYBE_RANGE_END),
     Node::Then(OPERATOR_DOT_DOT_EQUAL, NEEDED_RANGE_END),
-    Node::Or(PATTERN_LITERAL, EXPR_PATH), // range_end
+    Node::Or(PATTERN_LITERAL, RANGE_END + 1), // range_end
+    Node::Or(EXPR_PATH, FRAGMENT_PATH),
     Node::Then(EXPR_FRAGMENT + 1, EXPR), // expr_fragment
     Node::NotAhead(EXPR_FRAGMENT + 2),
     Node::Terminal(Terminal::Words(&["use", "become"])),
@@ -462,14 +509,17 @@ pub const NODES: &[Node<'static>] = &[
     Node::Then(WORD_BREAK, ATOM + 8),
     Node::Then(MAYBE_LIFETIME, MAYBE_VALUE),
     Node::Or(LITERAL, PLAIN_ATOM + 1), // plain_atom
-    Node::Or(PLAIN_ATOM + 2, PLAIN_ATOM + 3),
+    Node::Or(LITERAL_GROUP, PLAIN_ATOM + 2),
+    Node::Or(PLAIN_ATOM + 3, PLAIN_ATOM + 4),
+    Node::Terminal(Terminal::Fragment(&[FragmentGroup::Expr, FragmentGroup::Path])),
+    Node::Or(PLAIN_ATOM + 5, PLAIN_ATOM + 6),
     Node::Terminal(Terminal::Words(&["true", "false", "_"])),
-    Node::Or(ARGUMENTS, PLAIN_ATOM + 4),
-    Node::Or(ARRAY, PLAIN_ATOM + 5),
-    Node::Or(JUMP, PLAIN_ATOM + 6),
-    Node::Or(PLAIN_ATOM + 7, OWN_BLOCK),
-    Node::Then(CLOSURE_HEAD, PLAIN_ATOM + 8),
-    Node::Then(OPERATOR_MINUS_MORE, PLAIN_ATOM + 9),
+    Node::Or(ARGUMENTS, PLAIN_ATOM + 7),
+    Node::Or(ARRAY, PLAIN_ATOM + 8),
+    Node::Or(JUMP, PLAIN_ATOM + 9),
+    Node::Or(PLAIN_ATOM + 10, OWN_BLOCK),
+    Node::Then(CLOSURE_HEAD, PLAIN_ATOM + 11),
+    Node::Then(OPERATOR_MINUS_MORE, PLAIN_ATOM + 12),
     Node::Then(TYPE, BRACES),
     Node::Then(NO_OPERATOR_MINUS_MORE, NEEDED_EXPR), // closure_body
     Node::Then(CLOSURE_HEAD + 1, CLOSURE_PARAMS), // closure_head
@@ -516,13 +566,18 @@ pub const NODES: &[Node<'static>] = &[
     Node::Or(NAME, START_HEAD + 1), // start_head
     Node::Or(LITERAL, START_HEAD + 2),
     Node::Or(START_HEAD + 3, START_HEAD + 4),
-    Node::Terminal(Terminal::Group(&[
-        DelimiterKind::Parenthesis,
-        DelimiterKind::Bracket,
-        DelimiterKind::Invisible,
-    ])),
-    Node::Or(START_WORD, START_HEAD + 5),
+    Node::Terminal(Terminal::Group(&[DelimiterKind::Parenthesis, DelimiterKind::Bracket])),
+    Node::Or(START_GROUP, START_HEAD + 5),
+    Node::Or(START_WORD, START_HEAD + 6),
     Node::Or(START_SIGN, SIGN_QUOTE),
+    Node::Or(OPEN_GROUP, START_GROUP + 1), // start_group
+    Node::Terminal(Terminal::Fragment(&[
+        FragmentGroup::Expr,
+        FragmentGroup::LiteralExpr,
+        FragmentGroup::Literal,
+        FragmentGroup::Path,
+        FragmentGroup::Block,
+    ])),
     Node::Or(PATH_WORD, START_WORD + 1), // start_word
     Node::Or(FLOW_WORD, START_WORD + 2),
     Node::Or(BLOCK_WORD, START_WORD + 3),
@@ -573,16 +628,17 @@ pub const NODES: &[Node<'static>] = &[
     Node::Then(NO_OPERATOR_MINUS_MORE, NEEDED_HEAD), // head_closure_body
     Node::Then(AHEAD_START_HEAD, NEEDED_EXPR), // head_value
     Node::Or(BRACES, BLOCK_LIKE + 1), // block_like
-    Node::Or(BLOCK_LIKE + 2, BLOCK_LIKE + 4),
-    Node::Then(BLOCK_LIKE + 3, BLOCK),
+    Node::Or(FRAGMENT_BLOCK, BLOCK_LIKE + 2),
+    Node::Or(BLOCK_LIKE + 3, BLOCK_LIKE + 5),
+    Node::Then(BLOCK_LIKE + 4, OWN_BRACES),
     Node::Terminal(Terminal::Words(&["unsafe", "const"])),
-    Node::Or(BLOCK_LIKE + 5, BLOCK_LIKE + 7),
-    Node::Then(SINCE_2018, BLOCK_LIKE + 6),
+    Node::Or(BLOCK_LIKE + 6, BLOCK_LIKE + 8),
+    Node::Then(SINCE_2018, BLOCK_LIKE + 7),
     Node::Then(WORD_TRY, BLOCK),
-    Node::Or(BLOCK_LIKE + 8, BLOCK_LIKE + 9),
-    Node::Then(LABEL, BLOCK),
-    Node::Or(BLOCK_LIKE + 10, BLOCK_LIKE + 12),
-    Node::Then(BLOCK_LIKE + 11, LOOP),
+    Node::Or(BLOCK_LIKE + 9, BLOCK_LIKE + 10),
+    Node::Then(LABEL, OWN_BRACES),
+    Node::Or(BLOCK_LIKE + 11, BLOCK_LIKE + 13),
+    Node::Then(BLOCK_LIKE + 12, LOOP),
     Node::Maybe(LABEL),
     Node::Or(IF, MATCH),
     Node::Then(LIFETIME, OPERATOR_COLON), // label
@@ -614,22 +670,27 @@ pub const NODES: &[Node<'static>] = &[
     Node::Then(WORD_MATCH, MATCH + 1), // match
     Node::Then(NEEDED_HEAD, NEEDED_ARMS),
     Node::Or(OPERATOR_SEMICOLON, STMT + 1), // stmt
-    Node::Or(STMT + 2, STMT + 8),
-    Node::Then(MANY_ATTRIBUTE, STMT + 3),
-    Node::Or(LET, STMT + 4),
-    Node::Or(STMT + 5, OWN_STMT),
-    Node::Then(STMT + 6, STMT + 7),
+    Node::Or(FRAGMENT_STMT, STMT + 2),
+    Node::Or(STMT + 3, STMT + 10),
+    Node::Then(MANY_ATTRIBUTE, STMT + 4),
+    Node::Or(FRAGMENT_ITEM, STMT + 5),
+    Node::Or(LET, STMT + 6),
+    Node::Or(STMT + 7, OWN_STMT),
+    Node::Then(STMT + 8, STMT + 9),
     Node::Ahead(ITEM_WORD),
     Node::Then(VIS, ITEM_KIND),
-    Node::Then(STMT + 9, EXPR),
-    Node::NotAhead(STMT + 10),
+    Node::Then(STMT + 11, EXPR),
+    Node::NotAhead(STMT + 12),
     Node::Then(WORD_ASYNC, WORD_FN),
-    Node::Then(OWN_STMT + 1, OWN_STMT + 4), // own_stmt
-    Node::Or(BLOCK_LIKE, OWN_STMT + 2),
-    Node::Then(EXPR_PATH, OWN_STMT + 3),
+    Node::Or(OWN_STMT + 1, OWN_STMT + 7), // own_stmt
+    Node::Then(OWN_STMT + 2, OWN_STMT + 5),
+    Node::Or(BLOCK_LIKE, OWN_STMT + 3),
+    Node::Then(EXPR_PATH, OWN_STMT + 4),
     Node::Then(OPERATOR_BANG, MACRO_BRACES),
-    Node::NotAhead(OWN_STMT + 5),
+    Node::NotAhead(OWN_STMT + 6),
     Node::Terminal(Terminal::Operators(&[".", "?"])),
+    Node::Then(FRAGMENT_PATH, OWN_STMT + 8),
+    Node::Or(MACRO_END, STRUCT_LITERAL),
     Node::Then(LET + 1, LET + 2), // let
     Node::Maybe(WORD_SUPER),
     Node::Then(WORD_LET, LET + 3),
@@ -648,21 +709,25 @@ pub const NODES: &[Node<'static>] = &[
     Node::Or(ITEM_BEGIN, ITEM_WORD + 1), // item_word
     Node::Or(ITEM_MARK, ITEM_WORD + 2),
     Node::Terminal(Terminal::Words(&["union", "macro_rules", "macro"])),
+    Node::Or(FRAGMENT_VIS, ITEM_BEGIN + 1), // item_begin
     Node::Terminal(Terminal::Words(&[
         "use", "fn", "mod", "type", "enum", "struct", "trait", "impl", "pub",
-    ])), // item_begin
+    ])),
     Node::Terminal(Terminal::Words(&[
         "const", "static", "unsafe", "extern", "async", "gen", "auto",
     ])), // item_mark
-    Node::Or(BRACES, INVISIBLE), // block
-    Node::Or(META + 1, META + 2), // meta
+    Node::Or(OWN_BRACES, FRAGMENT_BLOCK), // block
+    Node::Or(BRACES, OPEN_GROUP), // own_braces
+    Node::Or(FRAGMENT_META, META + 1), // meta
+    Node::Or(META + 2, META + 3),
     Node::Then(WORD_UNSAFE, UNSAFE_META),
-    Node::Then(MOD_PATH, META + 3),
-    Node::Maybe(META + 4),
-    Node::Or(MACRO_ARGUMENT, META + 5),
+    Node::Then(MOD_PATH, META + 4),
+    Node::Maybe(META + 5),
+    Node::Or(MACRO_ARGUMENT, META + 6),
     Node::Then(OPERATOR_EQUAL, NEEDED_EXPR),
     Node::Maybe(VIS + 1), // vis
-    Node::Then(WORD_PUB, VIS + 2),
+    Node::Or(FRAGMENT_VIS, VIS + 2),
+    Node::Then(WORD_PUB, VIS + 3),
     Node::Maybe(SCOPE),
     Node::Inside(DelimiterKind::Parenthesis, SCOPE + 1), // scope
     Node::Or(SCOPE + 2, SCOPE + 3),
@@ -671,12 +736,13 @@ pub const NODES: &[Node<'static>] = &[
     Node::Needed(SCOPE + 5),
     Node::Then(MOD_PATH, END),
     Node::Then(MANY_ATTRIBUTE, ITEM + 1), // item
-    Node::Or(ITEM + 2, ITEM_CALL),
-    Node::Then(VIS, ITEM + 3),
-    Node::Then(ITEM + 4, ITEM_KIND),
-    Node::Maybe(ITEM + 5),
-    Node::Then(WORD_DEFAULT, ITEM + 6),
-    Node::Then(ITEM + 7, ITEM + 8),
+    Node::Or(FRAGMENT_ITEM, ITEM + 2),
+    Node::Or(ITEM + 3, ITEM_CALL),
+    Node::Then(VIS, ITEM + 4),
+    Node::Then(ITEM + 5, ITEM_KIND),
+    Node::Maybe(ITEM + 6),
+    Node::Then(WORD_DEFAULT, ITEM + 7),
+    Node::Then(ITEM + 8, ITEM + 9),
     Node::NotAhead(WORD_AS),
     Node::Ahead(IDENT),
     Node::Or(FUNCTION, ITEM_KIND + 1), // item_kind
@@ -837,4 +903,60 @@ pub const NODES: &[Node<'static>] = &[
     Node::Then(OPERATOR_BANG, MACRO_REST),
     Node::Or(MACRO_BRACES, MACRO_REST + 1), // macro_rest
     Node::Then(MACRO_OTHER, OPERATOR_SEMICOLON),
+    Node::Terminal(Terminal::Any), // begin_any
+    Node::Or(OPERATOR_COLON_COLON, BEGIN_PATH + 1), // begin_path
+    Node::Or(IDENT, BEGIN_PATH + 2),
+    Node::Terminal(Terminal::Fragment(&[
+        FragmentGroup::Path,
+        FragmentGroup::Ty,
+        FragmentGroup::Pat,
+        FragmentGroup::Stmt,
+        FragmentGroup::Meta,
+        FragmentGroup::Expr,
+        FragmentGroup::LiteralExpr,
+        FragmentGroup::Literal,
+    ])),
+    Node::Or(NAME, BEGIN_TYPE + 1), // begin_type
+    Node::Or(PATH_WORD, BEGIN_TYPE + 2),
+    Node::Or(BEGIN_TYPE_WORD, BEGIN_TYPE + 3),
+    Node::Or(BEGIN_TYPE + 4, BEGIN_TYPE + 5),
+    Node::Terminal(Terminal::Group(&[DelimiterKind::Parenthesis, DelimiterKind::Bracket])),
+    Node::Or(BEGIN_TYPE_SIGN, BEGIN_TYPE + 6),
+    Node::Or(SIGN_QUOTE, BEGIN_TYPE + 7),
+    Node::Or(OPEN_GROUP, BEGIN_TYPE + 8),
+    Node::Terminal(Terminal::Fragment(&[FragmentGroup::Path, FragmentGroup::Ty])),
+    Node::Terminal(Terminal::Words(&[
+        "_", "impl", "dyn", "for", "fn", "unsafe", "extern", "typeof",
+    ])), // begin_type_word
+    Node::Terminal(Terminal::Operators(&["!", "*", "&", "&&", "?", "<", "<<", "::"])), // begin_type_sign
+    Node::Or(OPERATOR_BAR, BEGIN_PAT), // begin_pat_top
+    Node::Or(IDENT, BEGIN_PAT + 1), // begin_pat
+    Node::Or(LITERAL, BEGIN_PAT + 2),
+    Node::Or(BEGIN_PAT + 3, BEGIN_PAT + 4),
+    Node::Terminal(Terminal::Group(&[DelimiterKind::Parenthesis, DelimiterKind::Bracket])),
+    Node::Or(BEGIN_PAT_SIGN, BEGIN_PAT + 5),
+    Node::Or(OPEN_GROUP, BEGIN_PAT + 6),
+    Node::Terminal(Terminal::Fragment(&[
+        FragmentGroup::Path,
+        FragmentGroup::Ty,
+        FragmentGroup::Pat,
+        FragmentGroup::Meta,
+        FragmentGroup::Expr,
+        FragmentGroup::LiteralExpr,
+        FragmentGroup::Literal,
+    ])),
+    Node::Terminal(Terminal::Operators(&["-", "&", "&&", "..", "...", "::", "<", "<<"])), // begin_pat_sign
+    Node::Or(START, WORD_UNDERSCORE), // begin_expr
+    Node::Or(BRACE, BEGIN_BLOCK + 1), // begin_block
+    Node::Or(OPEN_GROUP, BEGIN_BLOCK + 2),
+    Node::Terminal(Terminal::Fragment(&[
+        FragmentGroup::Block,
+        FragmentGroup::Stmt,
+        FragmentGroup::Expr,
+        FragmentGroup::LiteralExpr,
+        FragmentGroup::Literal,
+    ])),
+    Node::Or(OPERATOR_COMMA, BEGIN_VIS + 1), // begin_vis
+    Node::Or(IDENT, BEGIN_VIS + 2),
+    Node::Or(FRAGMENT, BEGIN_TYPE),
 ];

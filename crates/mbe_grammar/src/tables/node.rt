@@ -1,5 +1,6 @@
 // The rules of a grammar, as data. The specification of what each rule consumes is in
 // `specs/Tables/Rule` and `specs/Tables/Terminals`.
+use mbe_tt::fragment_group::FragmentGroup;
 use mbe_tt::span::Edition;
 use mbe_tt::tt::DelimiterKind;
 
@@ -19,6 +20,8 @@ pub enum Terminal<'g> {
     Sign(char),
     /// A group of one of these kinds, with any content.
     Group(&'g [DelimiterKind]),
+    /// The group of a fragment that holds one of these, with any content.
+    Fragment(&'g [FragmentGroup]),
     /// An identifier other than `_` that is raw, or isn't a keyword in the edition of its span.
     Name,
     /// Any identifier, `_` and keywords included.

@@ -4,11 +4,12 @@ ghost use Rattle.std.specs.Prelude.{◌≡◌};
 ghost use Rattle.std.specs.List.{list_any};
 ghost use Rattle.mbe_tt.specs.Views.View.{trees};
 ghost use Rattle.mbe_grammar.specs.Tables.Editions as spec;
-ghost use Rattle.mbe_grammar.specs.Tables.Lawful.{entry_rule, answer};
+ghost use Rattle.mbe_grammar.specs.Tables.Lawful.{entry_rule, open_answer, committed_answer};
+ghost use Rattle.mbe_grammar.specs.Tables.Lawful.{answer, may_begin};
 
 use crate::tables::node::{Keyword, Node};
 use crate::tables::rule_parser::parse_rule;
-use mbe_tt::grammar::{FragmentGrammar, Front, PrefixEntryPoint};
+use mbe_tt::grammar::{Dialect, FragmentGrammar, Front, PrefixEntryPoint};
 use mbe_tt::span::{Edition, SyntaxContext};
 use mbe_tt::tt::TokenTreesView;
 use std::alloc::{AllocError, Allocator};
@@ -41,6 +42,10 @@ pub struct RuleTable<'g> {
     pub nodes: &'g [Node<'g>],
     pub keywords: &'g [Keyword<'g>],
     pub starts: EntryRules,
+    /// The rules of what a fragment may begin with: anything, if there are none. They are for
+    /// rustc's dialect alone.
+    pub begins: Option<EntryRules>,
+    pub dialect: Dialect,
     pub edition: Edition,
     pub editions: &'g [Edition],
 }
@@ -75,6 +80,13 @@ impl RuleTable<'_> {
             .unwrap_or(self.edition)
     }
 
+    /// The same table in a dialect.
+    pub fn with_dialect(self, dialect: Dialect) -> Self
+        ensures { result ≡ record self.entry { dialect = dialect } }
+    {
+        RuleTable { dialect, ..self }
+    }
+
     /// Whether a text is a keyword in this edition.
     pub fn is_keyword_in(&self, edition: Edition, text: &str) -> bool
         ensures { result ≡ spec.is_keyword_in self.now edition text.now }
@@ -105,12 +117,12 @@ fn year(edition: Edition) -> u32
 
 // How many flat tokens a fragment has. A fault has none. A fragment without tokens is a fault as
 // well, except for a visibility.
-fn front<A: Allocator>(
+fn open_front<A: Allocator>(
     table: &RuleTable<'_>,
     entry: PrefixEntryPoint,
     tokens: TokenTreesView<'_, A>,
 ) -> Front
-    ensures { result ≡ answer table.now entry (trees tokens.entry) }
+    ensures { result ≡ open_answer table.now entry (trees tokens.entry) }
 {
     match parse_rule(table, DEPTH, table.starts.of(entry), tokens) {
         Ok(rest) => {
@@ -124,6 +136,58 @@ fn front<A: Allocator>(
             count: 0,
             fault: true,
         },
+    }
+}
+
+// Whether a fragment may begin with the first tree.
+fn may_begin<A: Allocator>(
+    table: &RuleTable<'_>,
+    entry: PrefixEntryPoint,
+    tokens: TokenTreesView<'_, A>,
+) -> bool
+    ensures { result ≡ may_begin table.now.begins table.now entry (trees tokens.entry) }
+{
+    match &table.begins {
+        Some(begins) => parse_rule(table, DEPTH, begins.of(entry), tokens).is_ok(),
+        None => true,
+    }
+}
+
+// The same in rustc's dialect: where the fragment begins, a fault has one token.
+fn committed_front<A: Allocator>(
+    table: &RuleTable<'_>,
+    entry: PrefixEntryPoint,
+    tokens: TokenTreesView<'_, A>,
+) -> Front
+    ensures { result ≡ committed_answer table.now entry (trees tokens.entry) }
+{
+    if !may_begin(table, entry, tokens) {
+        return Front {
+            count: 0,
+            fault: true,
+        };
+    }
+    let front = open_front(table, entry, tokens);
+    if front.fault {
+        return Front {
+            count: tokens.flat_len().min(1),
+            fault: true,
+        };
+    }
+    front
+}
+
+// What the table returns in its dialect.
+fn front<A: Allocator>(
+    table: &RuleTable<'_>,
+    entry: PrefixEntryPoint,
+    tokens: TokenTreesView<'_, A>,
+) -> Front
+    ensures { result ≡ answer table.now entry (trees tokens.entry) }
+{
+    match table.dialect {
+        Dialect::RustAnalyzer => open_front(table, entry, tokens),
+        Dialect::Rustc => committed_front(table, entry, tokens),
     }
 }
 
@@ -142,6 +206,10 @@ impl FragmentGrammar for RuleTable<'_> {
 
     fn is_keyword(&self, text: &str) -> bool {
         self.is_keyword_in(self.edition, text)
+    }
+
+    fn dialect(&self) -> Dialect {
+        self.dialect
     }
 
     ghost lawful = { lawful_of };

@@ -14,14 +14,18 @@ ghost use Rattle.mbe_grammar.specs.Tables.Terminals.{at_end, if_since};
 ghost use Rattle.mbe_grammar.specs.Tables.SingleTrees.{is_word, is_one_of, is_name, is_keyword};
 ghost use Rattle.mbe_grammar.specs.Tables.SingleTrees.{is_identifier, is_literal, is_pointed};
 ghost use Rattle.mbe_grammar.specs.Tables.SingleTrees.{has_point, is_any, is_punct, is_group};
+ghost use Rattle.mbe_grammar.specs.Tables.SingleTrees.{is_fragment_of};
+ghost use Rattle.mbe_tt.specs.Trees.FragmentGroup.{is_around};
 ghost use Rattle.mbe_grammar.specs.Tables.ParseResult.{result_model};
 
 use crate::tables::node::Terminal;
 use crate::tables::parse_result::{ParseFailure, ParseResult};
 use crate::tables::peg_table::{RuleTable, is_since};
+use mbe_tt::fragment_group::FragmentGroup;
 use mbe_tt::span::Edition;
 use mbe_tt::tt::{
-    DelimiterKind, Ident, IdentIsRaw, Leaf, LitKind, Literal, Punct, TokenTreesView, TtElement,
+    Delimiter, DelimiterKind, Ident, IdentIsRaw, Leaf, LitKind, Literal, Punct, TokenTreesView,
+    TtElement,
 };
 use std::alloc::Allocator;
 
@@ -41,6 +45,7 @@ pub fn terminal<'t, A: Allocator>(
         Terminal::Operators(texts) => operator(tokens, texts),
         Terminal::Sign(char) => sign(tokens, char),
         Terminal::Group(kinds) => group(tokens, kinds),
+        Terminal::Fragment(groups) => fragment(tokens, groups),
         Terminal::Name => name(table, tokens),
         Terminal::Identifier => identifier(tokens),
         Terminal::Literal => literal(tokens),
@@ -210,6 +215,28 @@ pub fn group<'t, A: Allocator>(
         Ok((subtree, _inside)) if is_kind_of(subtree.delimiter.kind, kinds) => Ok(iter.remaining()),
         _ => Err(ParseFailure::NoMatch),
     }
+}
+
+// The trees after the group of a fragment that holds one of these.
+#[inline(never)]
+fn fragment<'t, A: Allocator>(
+    tokens: TokenTreesView<'t, A>,
+    groups: &[FragmentGroup],
+) -> ParseResult<'t, A>
+    ensures { result_model result
+        ≡ or_no_match (after_one (is_fragment_of groups.now) (trees tokens.entry)) }
+{
+    let mut iter = tokens.iter();
+    match iter.expect_subtree() {
+        Ok((subtree, _inside)) if is_around_one(subtree.delimiter, groups) => Ok(iter.remaining()),
+        _ => Err(ParseFailure::NoMatch),
+    }
+}
+
+fn is_around_one(delimiter: Delimiter, groups: &[FragmentGroup]) -> bool
+    ensures { result ≡ list_any (λ g. is_around g delimiter) groups.now }
+{
+    groups.iter().any(|g| g.is_around(delimiter))
 }
 
 fn is_kind_of(kind: DelimiterKind, kinds: &[DelimiterKind]) -> bool

@@ -12,7 +12,7 @@ use Rattle.mbe_semantics.specs.Syntax.Op as ops
 use Rattle.mbe_semantics.specs.Syntax.Op.{Name, Token, Expression, ignore, count, index, len, concat, Op, Ops, no_ops}
 use Rattle.mbe_semantics.specs.Syntax.Op.{op}
 use Rattle.mbe_semantics.specs.Syntax.Definition.{Rule}
-use Rattle.mbe_semantics.specs.Fragments.Kinds.{Style, plain, stripped, as_expression, as_path}
+use Rattle.mbe_semantics.specs.Fragments.Kinds.{Style, plain, stripped, as_expression, as_path, whole}
 use Rattle.mbe_semantics.specs.Bindings.Missing.{default_trees}
 use Rattle.mbe_semantics.specs.Readings.Ambiguity.{Fits}
 use Rattle.mbe_semantics.specs.Bindings.Environment.{Value, fragment, list, empty, missing, Environment, value_of}
@@ -40,6 +40,7 @@ module _ (g : Grammar) (Marks : Span → Span → Type 0) (call_site : Span) (fn
   written_same plain span f out other d e = d ∙ sym e
   written_same stripped span f out other d e = d ∙ sym e
   written_same as_path span f out other d e = d ∙ sym e
+  written_same (whole kind) span f out other d e = d ∙ sym e
   written_same as_expression span f out other d e =
       parenthesized_same (needs_parentheses (strip_invisible f)) span (alone (strip_invisible f)) out other d e
 
@@ -136,9 +137,9 @@ module _ (g : Grammar) (style : MacroCallStyle) (argument : Forest) where
       → FirstThatApplies g style argument rs n r a → (m : ℕ) (s : Rule)
       (b : Applies g style argument s) → FirstThatApplies g style argument rs m s b → (n ≡ m) × (r ≡ s)
   same_first (this_one r rs a) _ _ _ (this_one _ _ b) = (refl, refl)
-  same_first (this_one r rs a) _ _ _ (a_later_one _ s _ n m b not_r f e) = absurd (not_r a)
-  same_first (a_later_one r s rs n m a not_r f e) _ _ _ (this_one _ _ b) = absurd (not_r b)
-  same_first (a_later_one r s rs n m a not_r f e) k _ _ (a_later_one _ t _ i _ b un h d) =
+  same_first (this_one r rs a) _ _ _ (a_later_one _ s _ n m b not_r not_last f e) = absurd (not_r a)
+  same_first (a_later_one r s rs n m a not_r not_last f e) _ _ _ (this_one _ _ b) = absurd (not_r b)
+  same_first (a_later_one r s rs n m a not_r not_last f e) k _ _ (a_later_one _ t _ i _ b un unlast h d) =
       let p = same_first f i t b h in (e ∙ ap suc p.0 ∙ sym d, p.1)
 
   same_items : (r s : Rule) → r ≡ s → (a : Applies g style argument r) (b : Applies g style argument s)

@@ -19,7 +19,7 @@ first_contained : {g : Grammar} {style : MacroCallStyle} {argument : Forest} {rs
     {a : Applies g style argument r}
     → FirstThatApplies g style argument rs n r a → Contains rs r
 first_contained (this_one r rs a) = Contains-append_left (r ∷ []) rs r (Contains-push [] r)
-first_contained (a_later_one r s rs n m a not_r f e) = Contains-append_right (r ∷ []) rs s (first_contained f)
+first_contained (a_later_one r s rs n m a not_r not_last f e) = Contains-append_right (r ∷ []) rs s (first_contained f)
 
 module _ (Asked : SyntaxContext → Edition → Type 0) where
   only_one : (definition : Definition) (m other : Macro) → HasOneEdition Asked → IsMacroOf Asked definition m
@@ -39,9 +39,9 @@ module _ (Asked : SyntaxContext → Edition → Type 0) (Marks : Span → Span �
     fault = m.err;
     read = read;
     only = λ one other k. only_one Asked definition m other one read k;
-    exactly = (
+    exactly = λ h. (
       λ n. let s = a.sound n in (s.1.0, first_contained s.1.2, s.1.1),
-      λ p. a.complete p.0 p.1 p.2,
+      λ p. a.complete h p.0 p.1 p.2,
     );
     expands = a;
   }

@@ -8,7 +8,7 @@ use Rattle.mbe_semantics.specs.declared.fragment_kinds.RepeatKind.TheVariants.{Z
 use Rattle.mbe_tt.specs.Trees.Tree.{Forest, rest_at}
 use Rattle.mbe_tt.specs.Grammars.Grammar.{Grammar}
 use Rattle.mbe_tt.proofs.Offsets.CutLemmas.{no_true}
-use Rattle.mbe_semantics.specs.Readings.Fit.{separator_front}
+use Rattle.mbe_semantics.specs.Readings.Fit.{separator_front_in}
 use Rattle.mbe_semantics.specs.Syntax.Op.{Separator, Op, token, group, variable, repetition, expression, Ops, no_ops}
 use Rattle.mbe_semantics.specs.Syntax.Op.{op, has_no_repetition, names_of}
 use Rattle.mbe_semantics.specs.Readings.Item.{Item, matched, bound, grouped, skipped, rounds, Items, no_items, item}
@@ -26,7 +26,7 @@ use Rattle.mbe_semantics.specs.Readings.Ambiguity.{Ambiguous, StepsOver}
 use Rattle.mbe_semantics.specs.Laws.Laws.{one_repetition, ListsFitOnce}
 use Rattle.mbe_semantics.proofs.Parents.{From, parents}
 use Rattle.mbe_semantics.proofs.PlainLemmas.{plain_op, empty_same, empty_over, Steps, steps_one, same_move}
-use Rattle.mbe_semantics.proofs.MoveLemmas.{separator_moves}
+use Rattle.mbe_semantics.proofs.MoveLemmas.{separator_moves_in}
 use Rattle.mbe_semantics.proofs.InputLemmas.{length_from}
 
 abbrev op_count : Ops → ℕ
@@ -588,8 +588,8 @@ module _ (i : Input) (body : Ops) (s : Option Separator) (k : RepeatKind) (plain
 separators_move : (g : Grammar) (argument : Forest) (c : Separator) (p w : ℕ)
     → (input_of g argument).separator_at c p ≡ Some w → 0 < w
 separators_move g argument c p w e =
-    let r = length_from (separator_front c (rest_at argument p)) w e in
-    let m = separator_moves c (rest_at argument p) r.0 r.1 in
+    let r = length_from (separator_front_in g.dialect c (rest_at argument p)) w e in
+    let m = separator_moves_in g.dialect c (rest_at argument p) r.0 r.1 in
     let n = r.2 in
     omega (arith, m, n)
 

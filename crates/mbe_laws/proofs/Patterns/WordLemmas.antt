@@ -14,7 +14,8 @@ use Rattle.mbe_tt.proofs.Offsets.CutLemmas.{no_true, both_left, both_right}
 use Rattle.mbe_semantics.specs.Syntax.Op as ops
 use Rattle.mbe_semantics.specs.Syntax.Op.{Token, Separator, Op, token, group, variable, repetition, expression, Ops}
 use Rattle.mbe_semantics.specs.Syntax.Op.{no_ops, op}
-use Rattle.mbe_semantics.specs.Readings.Fit.{ident_text_front}
+use Rattle.mbe_semantics.specs.Readings.Fit.{ident_text_front, unless, token_front_in, separator_front_in}
+use Rattle.mbe_semantics.specs.Readings.Fit.{is_other_token, is_other_separator}
 use Rattle.mbe_semantics.specs.Readings.Item.{Items, no_items, item, Rounds}
 use Rattle.mbe_semantics.specs.Readings.Input.{Input, length_of, input_of}
 use Rattle.mbe_semantics.specs.Readings.Reading.{ReadsFirst, Frame, inside, within, PartialReading, partial, body_of}
@@ -58,6 +59,11 @@ ident_one text (tree.leaf (leaves.ident i) (tree.leaf l rest)) n h = if_one (byt
 ident_one text (tree.leaf (leaves.ident i) (tree.group d content rest)) n h = if_one (bytes_eq i.sym text) _ n refl h
 ident_one text _ n h = absurd (none-some n h)
 
+unless_one : (b : Bool) (text : _) (f : Forest) (n : ℕ) → length_of (unless b (ident_text_front text f)) ≡ Some n
+    → n ≡ 1
+unless_one true text f n e = absurd (none-some n e)
+unless_one false text f n e = ident_one text f n e
+
 when_one : (b : Bool) (y : PartialReading) → IsOne (when b (move 1 false y))
 unfolding IsOne
 when_one true y = (refl, refl)
@@ -85,14 +91,16 @@ separator_one : (g : Grammar) (f : Forest) (q : ℕ) (s : Option Separator) (k :
 unfolding IsOne
 separator_one g f q None k b rest js rs up is h = tt
 separator_one g f q (Some (ops.ident_separator x)) k b rest js rs up is h =
-    round_one k (length_of (ident_text_front x.sym (rest_at f q))) b (Some (ops.ident_separator x)) rest js rs up is
-    (λ n e. ident_one x.sym (rest_at f q) n e)
+    let s = ops.ident_separator x in
+    round_one k (length_of (separator_front_in g.dialect s (rest_at f q))) b (Some s) rest js rs up is
+    (λ n e. unless_one (is_other_separator g.dialect s (rest_at f q)) x.sym (rest_at f q) n e)
 separator_one g f q (Some _) k b rest js rs up is h = no_true h
 
 token_one : (g : Grammar) (f : Forest) (q : ℕ) (t : Token) (rest : Ops) (is : Items) (up : List Frame)
     → IsTrue (is_word t) → IsOne (over_of false (matched_item ((input_of g f).token_at t q)) rest is up)
 token_one g f q (ops.ident x) rest is up h =
-    over_one (length_of (ident_text_front x.sym (rest_at f q))) rest is up (λ n e. ident_one x.sym (rest_at f q) n e)
+    over_one (length_of (token_front_in g.dialect (ops.ident x) (rest_at f q))) rest is up
+    (λ n e. unless_one (is_other_token g.dialect (ops.ident x) (rest_at f q)) x.sym (rest_at f q) n e)
 token_one g f q _ rest is up h = no_true h
 
 next_one : (g : Grammar) (f : Forest) (pat : Ops) (q : ℕ) (x : PartialReading) → IsPartialReading (input_of g f) pat x

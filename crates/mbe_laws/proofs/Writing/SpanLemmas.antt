@@ -17,26 +17,33 @@ use Rattle.mbe_semantics.specs.declared.fragment_kinds.Missing.TheVariants as de
 use Rattle.mbe_semantics.specs.Syntax.Op as ops
 use Rattle.mbe_semantics.specs.Syntax.Op.{Name, Token, Separator, Expression, ignore, count, index, len, concat, Op}
 use Rattle.mbe_semantics.specs.Syntax.Op.{Ops, no_ops, op}
-use Rattle.mbe_semantics.specs.Fragments.Kinds.{facts, Style, plain, stripped, as_expression, as_path}
+use Rattle.mbe_semantics.specs.Fragments.Kinds.{facts, Style, plain, stripped, as_expression, as_path, whole}
+use Rattle.mbe_semantics.specs.Fragments.Kinds.{style_of}
+use Rattle.mbe_semantics.specs.declared.fragment_kinds.MetaVarKind.TheVariants as kinds
 use Rattle.mbe_semantics.specs.Readings.Item.{Fragment}
 use Rattle.mbe_semantics.specs.Readings.Input.{input_of}
 use Rattle.mbe_semantics.specs.Bindings.Missing.{missing_trees, default_trees}
-use Rattle.mbe_semantics.specs.Fragments.FragmentFront.{fragment_front}
+use Rattle.mbe_semantics.specs.Fragments.FragmentFront.{fragment_front, is_rustc}
 use Rattle.mbe_semantics.specs.Bindings.Environment.{Value, fragment, list, empty, missing, Environment, value_of}
 use Rattle.mbe_semantics.specs.Bindings.Environment.{environment_of}
 use Rattle.mbe_semantics.specs.Transcription.Rounds.{Path, Extent, finite, endless, kept_rounds, follow, followed}
 use Rattle.mbe_semantics.specs.Transcription.Rounds.{level}
 use Rattle.mbe_semantics.specs.Transcription.Concat.{concat_text}
 use Rattle.mbe_semantics.specs.Transcription.FragmentTrees.{needs_parentheses, path_trees, double_colon}
-use Rattle.mbe_semantics.specs.Transcription.FragmentTrees.{IsParenthesized, IsFragmentOutput}
+use Rattle.mbe_semantics.specs.Transcription.FragmentTrees.{IsParenthesized, IsFragmentOutput, inside_group}
+use Rattle.mbe_semantics.specs.Transcription.FragmentTrees.{group_for}
 use Rattle.mbe_semantics.specs.Transcription.Substitution.{separator_trees, AreRounds, AreKeptRounds, AreMarkedPuncts}
 use Rattle.mbe_semantics.specs.Transcription.Substitution.{IsMarked, IsVariable, IsConcat, IsExpression, Writes}
 use Rattle.mbe_semantics.specs.Transcription.Substitution.{Substitutes}
 use Rattle.mbe_semantics.specs.Laws.Laws.{IsSpanIn, WrittenInPlace, unbound_span, kept_spans_of_op, kept_spans}
 use Rattle.mbe_semantics.specs.Laws.Laws.{spans_of_token, spans_of_expression, marked_spans_of_op, marked_spans}
-use Rattle.mbe_semantics.specs.Laws.Laws.{SpansHaveSources}
+use Rattle.mbe_semantics.specs.Laws.Laws.{SpansHaveSources, IsGroupSpan}
+use Rattle.mbe_tt.specs.declared.fragment_group.FragmentGroup.{FragmentGroup}
+use Rattle.mbe_tt.specs.declared.grammar.Dialect.{Dialect}
+use Rattle.mbe_tt.specs.declared.grammar.Dialect.TheVariants.{RustAnalyzer, Rustc}
+use Rattle.mbe_tt.specs.Trees.FragmentGroup.{is_around, span_around}
 use Rattle.mbe_semantics.proofs.FrontLemmas.{takes_cut}
-use Rattle.mbe_semantics.proofs.InputLemmas.{fragment_from}
+use Rattle.mbe_semantics.proofs.InputLemmas.{fragment_from, fragment_style}
 use Rattle.mbe_laws.proofs.Writing.SourceLemmas as sources
 
 -- ---- spans of trees
@@ -162,6 +169,17 @@ module _ (Q : Span → Type 0) where
       go false k = (h.1.0, k)
   each_path s q (group d inside rest) h = (h.0, h.1, h.2, each_path s q rest h.3)
 
+  each_inside : (k : FragmentGroup) (f : Forest) → Each f → Each (inside_group k f)
+  each_inside k none h = h
+  each_inside k (leaf l rest) h = h
+  each_inside k (group d inside none) h = go (is_around k d)
+    where
+      go : (b : Bool) → Each (if b then inside else group d inside none)
+      go true = h.1
+      go false = h
+  each_inside k (group d inside (leaf l rest)) h = h
+  each_inside k (group d inside (group e more rest)) h = h
+
   each_missing : (missing : Missing) (s : Span) → Q s → Each (missing_trees missing s)
   each_missing defaults.Nothing s q = tt
   each_missing defaults.Semicolon s q = (q, tt)
@@ -182,7 +200,7 @@ in_offset : (g : Grammar) (argument : Forest) (kind : Option MetaVarKind) (p : �
     → (input_of g argument).fragment_at kind p ≡ Some x → InPlace argument x
 unfolding InPlace
 in_offset g argument kind p x e =
-    let r = fragment_from kind (fragment_front g kind (rest_at argument p)) x e in
+    let r = fragment_from g.dialect kind (fragment_front g kind (rest_at argument p)) x e in
     let c : Cut = r.0 in
     (p, c.back, sym (takes_cut g kind (rest_at argument p) c r.1) ∙ ap (λ t. append t c.back) r.2)
 
@@ -202,11 +220,35 @@ written_in_place Marks g call_site pattern argument is path name kind span x out
         subst (λ y. IsFragmentOutput Marks call_site y span x.trees out) s
         (subst (λ u. IsVariable g Marks call_site (environment_of is) name span (Some v) u out) e k)
 
+-- a fragment is emitted whole in rustc's dialect alone
+abbrev IsWholeInRustc : Grammar → Fragment → Type 0
+IsWholeInRustc g x = (kind : MetaVarKind) → x.style ≡ whole kind → is_rustc g.dialect ≡ true
+
+whole_in_rustc : (d : Dialect) (kind : Option MetaVarKind) (k : MetaVarKind) → style_of d kind ≡ whole k
+    → is_rustc d ≡ true
+whole_in_rustc Rustc kind k e = refl
+whole_in_rustc RustAnalyzer None k e = cc
+whole_in_rustc RustAnalyzer (Some kinds.Path) k e = cc
+whole_in_rustc RustAnalyzer (Some kinds.Ty) k e = cc
+whole_in_rustc RustAnalyzer (Some kinds.Pat) k e = cc
+whole_in_rustc RustAnalyzer (Some kinds.PatParam) k e = cc
+whole_in_rustc RustAnalyzer (Some kinds.Stmt) k e = cc
+whole_in_rustc RustAnalyzer (Some kinds.Block) k e = cc
+whole_in_rustc RustAnalyzer (Some kinds.Meta) k e = cc
+whole_in_rustc RustAnalyzer (Some kinds.Item) k e = cc
+whole_in_rustc RustAnalyzer (Some kinds.Vis) k e = cc
+whole_in_rustc RustAnalyzer (Some (kinds.Expr x)) k e = cc
+whole_in_rustc RustAnalyzer (Some kinds.Ident) k e = cc
+whole_in_rustc RustAnalyzer (Some kinds.Tt) k e = cc
+whole_in_rustc RustAnalyzer (Some kinds.Lifetime) k e = cc
+whole_in_rustc RustAnalyzer (Some kinds.Literal) k e = cc
+
 -- ---- what a template writes
 
 module _ (g : Grammar) (Marks : Span → Span → Type 0) (call_site : Span) (env : Environment) (Q : Span → Type 0)
     (T : Span → Type 0) (marks : (s t : Span) → T s → Marks s t → Q t) (site : Q call_site)
-    (has : sources.EnvironmentHas (λ x. Each Q x.trees) env) where
+    (around : is_rustc g.dialect ≡ true → (s : Span) (k : FragmentGroup) → T s → Q (span_around k s))
+    (has : sources.EnvironmentHas (λ x. Each Q x.trees × IsWholeInRustc g x) env) where
   puncts_each : (ps : List Punct) (out : Forest) → ((s : Span) → IsSpanIn s (map (λ p. p.span) ps) → T s)
       → AreMarkedPuncts g Marks call_site env ps out → Each Q out
   puncts_each [] out own e = subst (Each Q) (sym e) tt
@@ -231,24 +273,33 @@ module _ (g : Grammar) (Marks : Span → Span → Type 0) (call_site : Span) (en
       marks span marked own m in subst (Each Q) (sym e) (q, h, q, tt)
 
   written_each : (style : Style) (span : Span) (f out : Forest) → T span → Each Q f
+      → ((kind : MetaVarKind) → style ≡ whole kind → is_rustc g.dialect ≡ true)
       → IsFragmentOutput Marks call_site style span f out → Each Q out
-  written_each plain span f out own h e = subst (Each Q) (sym e) (each_alone Q f h)
-  written_each stripped span f out own h e =
+  written_each (whole kind) span f out own h r e =
+      let q = around (r kind refl) span (group_for kind f) own in
+      subst (Each Q) (sym e) (
+        q,
+        each_alone Q (inside_group (group_for kind f) f) (each_inside Q (group_for kind f) f h),
+        q,
+        tt,
+      )
+  written_each plain span f out own h r e = subst (Each Q) (sym e) (each_alone Q f h)
+  written_each stripped span f out own h r e =
       subst (Each Q) (sym e) (each_alone Q (strip_invisible f) (each_strip Q f h))
-  written_each as_path span f out own h e = subst (Each Q) (sym e) (each_path Q call_site site f h)
-  written_each as_expression span f out own h w =
+  written_each as_path span f out own h r e = subst (Each Q) (sym e) (each_path Q call_site site f h)
+  written_each as_expression span f out own h r w =
       parenthesized_each (needs_parentheses (strip_invisible f)) span (alone (strip_invisible f)) out own
       (each_alone Q (strip_invisible f) (each_strip Q f h)) w
 
   variable_each : (name : Name) (span : Span) (v w : Option Value) (out : Forest) → T span
       → ((s : Span) → IsSpanIn s (unbound_span v span) → Q s) →
-      ((u : Value) → w ≡ Some u → sources.ValueHas (λ x. Each Q x.trees) u)
+      ((u : Value) → w ≡ Some u → sources.ValueHas (λ x. Each Q x.trees × IsWholeInRustc g x) u)
       → IsVariable g Marks call_site env name span v w out → Each Q out
   variable_each name span None w out own kept h e = let q : Q span =
       kept span (inl refl) in subst (Each Q) (sym e) (q, (q, tt))
   variable_each name span (Some v) None out own kept h e = absurd e
   variable_each name span (Some v) (Some (fragment x)) out own kept h e =
-      written_each x.style span x.trees out own (h (fragment x) refl) e
+      let k = h (fragment x) refl in written_each x.style span x.trees out own k.0 k.1 e
   variable_each name span (Some v) (Some (missing kind)) out own kept h (marked, m, e) =
       subst (Each Q) (sym e) (each_default Q kind marked (marks span marked own m))
   variable_each name span (Some v) (Some (list vs)) out own kept h e = absurd e
@@ -298,7 +349,7 @@ module _ (g : Grammar) (Marks : Span → Span → Type 0) (call_site : Span) (en
         )
     writes_each (ops.variable name kind span) path out own kept w =
         variable_each name span (value_of env name) (followed env path name) out (own span (inl refl)) kept
-        (λ u e. sources.followed_has (λ x. Each Q x.trees) env path name u has e) w
+        (λ u e. sources.followed_has (λ x. Each Q x.trees × IsWholeInRustc g x) env path name u has e) w
     writes_each (ops.repetition body separator repeat) path out own kept w =
         kept_each (separator_trees separator) (λ i n. Substitutes g Marks call_site env (level i n path) body)
         (kept_rounds repeat env path body) out
@@ -319,9 +370,10 @@ module _ (g : Grammar) (Marks : Span → Span → Type 0) (call_site : Span) (en
         (substitutes_each os path rest (λ s k. own s (in_right s (marked_spans_of_op o) (marked_spans os) k))
         (λ s k. kept s (in_right s (kept_spans_of_op env o) (kept_spans env os) k)) b))
 
-abbrev Source : (Span → Span → Type 0) → Span → List Span → List Span → List Span → Span → Type 0
-Source Marks call_site marked kept spans s =
-    ((t : Span) × IsSpanIn t marked × Marks t s) ⊎ ((s ≡ call_site) ⊎ (IsSpanIn s kept ⊎ IsSpanIn s spans))
+abbrev Source : Grammar → (Span → Span → Type 0) → Span → List Span → List Span → List Span → Span → Type 0
+Source g Marks call_site marked kept spans s =
+    ((t : Span) × IsSpanIn t marked × Marks t s)
+    ⊎ ((s ≡ call_site) ⊎ (IsSpanIn s kept ⊎ (IsSpanIn s spans ⊎ IsGroupSpan g marked s)))
 
 pub spans_have_sources : (Marks : Span → Span → Type 0) → SpansHaveSources Marks
 unfolding InPlace
@@ -332,22 +384,27 @@ spans_have_sources Marks g style argument call_site rs n out (r, a, first, (insi
     env = environment_of a.items
 
     Q : Span → Type 0
-    Q = Source Marks call_site (marked_spans r.writes) (kept_spans env r.writes) (spans_of argument)
+    Q = Source g Marks call_site (marked_spans r.writes) (kept_spans env r.writes) (spans_of argument)
 
     site : Q call_site
     site = inr (inl refl)
 
     argument_each : Each Q argument
-    argument_each = each_of Q argument (λ s h. inr (inr (inr h)))
+    argument_each = each_of Q argument (λ s h. inr (inr (inr (inl h))))
 
     taken : (kind : Option MetaVarKind) (p : ℕ) (x : Fragment) → (input_of g argument).fragment_at kind p ≡ Some x
-        → Each Q x.trees
-    taken kind p x f = let h = in_offset g argument kind p x f in
-        each_front Q x.trees h.1 (subst (Each Q) h.2 (each_rest Q argument h.0 argument_each))
+        → Each Q x.trees × IsWholeInRustc g x
+    taken kind p x f = let h = in_offset g argument kind p x f in (
+      each_front Q x.trees h.1 (subst (Each Q) h.2 (each_rest Q argument h.0 argument_each)),
+      λ k q. whole_in_rustc g.dialect kind k
+          (sym (fragment_style g.dialect kind (fragment_front g kind (rest_at argument p)) x f) ∙ q),
+    )
 
-    has : sources.EnvironmentHas (λ x. Each Q x.trees) env
-    has = sources.reading_has (λ x. Each Q x.trees) (input_of g argument) taken a.items r.reads (a.fits).1.0.0
+    has : sources.EnvironmentHas (λ x. Each Q x.trees × IsWholeInRustc g x) env
+    has = sources.reading_has (λ x. Each Q x.trees × IsWholeInRustc g x) (input_of g argument) taken a.items r.reads
+        (a.fits).1.0.0
 
     inner : Each Q inside
     inner = substitutes_each g Marks call_site env Q (λ s. IsSpanIn s (marked_spans r.writes))
-        (λ s t o m. inl (s, o, m)) site has r.writes [] inside (λ s h. h) (λ s h. inr (inr (inl h))) b
+        (λ s t o m. inl (s, o, m)) site (λ r s k o. inr (inr (inr (inr (r, (s, k, o, refl)))))) has r.writes [] inside
+        (λ s h. h) (λ s h. inr (inr (inl h))) b

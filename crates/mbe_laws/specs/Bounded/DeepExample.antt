@@ -6,7 +6,7 @@ use Rattle.mbe_tt.specs.Grammars.Grammar.{Grammar}
 use Rattle.mbe_semantics.specs.declared.fragment_kinds.RepeatKind.TheVariants.{ZeroOrMore}
 use Rattle.mbe_semantics.specs.declared.fragment_kinds.RepeatKind.TheVariants.{OneOrMore}
 use Rattle.mbe_semantics.specs.Syntax.Op.{Ops, no_ops, op, repetition, Separator, punct_separator}
-use Rattle.mbe_semantics.specs.Examples.Sample.{at, punct_of, alone_at}
+use Rattle.mbe_semantics.specs.Examples.Sample.{at, punct_of, alone_at, open_grammar}
 use Rattle.mbe_semantics.specs.Readings.Verdict.{many_readings}
 use Rattle.mbe_semantics.specs.Matching.States.{state_count}
 use Rattle.mbe_laws.specs.Bounded.Run.{verdict_bounded}
@@ -28,4 +28,4 @@ semicolons (suc n) = alone_at 1 n 59 (semicolons n)
 
 pub record DeepExample : Type 0 where
   pub places : state_count deep ≡ 7
-  pub many : (g : Grammar) → verdict_bounded g deep (semicolons 15) ≡ many_readings
+  pub many : (g : Grammar) → verdict_bounded (open_grammar g) deep (semicolons 15) ≡ many_readings

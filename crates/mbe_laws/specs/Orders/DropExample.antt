@@ -8,7 +8,7 @@ use Rattle.mbe_tt.specs.Trees.Tree.{Forest, none}
 use Rattle.mbe_tt.specs.Grammars.Grammar.{Grammar}
 use Rattle.mbe_semantics.specs.Syntax.Op.{Separator, ident_separator, Token, ident, Op, Ops, no_ops}
 use Rattle.mbe_semantics.specs.Syntax.Op.{op, token, variable, repetition}
-use Rattle.mbe_semantics.specs.Examples.Sample.{at, alone_at, ident_at, ident_of, word}
+use Rattle.mbe_semantics.specs.Examples.Sample.{at, alone_at, ident_at, ident_of, open_grammar, word}
 use Rattle.mbe_semantics.specs.Readings.Input.{Input, input_of}
 use Rattle.mbe_semantics.specs.Readings.Reading.{PartialReading, partial, start}
 use Rattle.mbe_semantics.specs.Syntax.Nullable.{Checked}
@@ -59,11 +59,11 @@ comma = alone_at 1 0 44 none
 -- expects `x`.
 pub record DropExample : Type 0 where
   pub checked : Checked three_partial
-  pub verdict : (g : Grammar) → verdict_reversed g three_partial comma ≡ stuck 0
-  pub all : (g : Grammar) → bound_in (last_that (fails (input_of g comma) 0)
-      (closure (input_of g comma) 0 (start three_partial ∷ []))) ≡ Some ((codes "x", empty) ∷ [])
-  pub two : (g : Grammar) → bound_in (last_that (fails (input_of g comma) 0)
-      (closure_two_each (input_of g comma) (state_count three_partial) 0 (start three_partial
+  pub verdict : (g : Grammar) → verdict_reversed (open_grammar g) three_partial comma ≡ stuck 0
+  pub all : (g : Grammar) → bound_in (last_that (fails (input_of (open_grammar g) comma) 0)
+      (closure (input_of (open_grammar g) comma) 0 (start three_partial ∷ []))) ≡ Some ((codes "x", empty) ∷ [])
+  pub two : (g : Grammar) → bound_in (last_that (fails (input_of (open_grammar g) comma) 0)
+      (closure_two_each (input_of (open_grammar g) comma) (state_count three_partial) 0 (start three_partial
       ∷ [])))
       ≡ Some ((codes "x", list (value empty no_values)) ∷ [])
 
@@ -104,18 +104,18 @@ waits_for _ = None
 -- `b`", and the other "expected ident: `c`".
 pub record DropFirstExample : Type 0 where
   pub checked : Checked many_partial
-  pub verdict : (g : Grammar) → verdict_reversed g many_partial one_c ≡ stuck 1
-  pub none_fails : (g : Grammar) → first_that (fails (input_of g one_c) 0)
-      (closure (input_of g one_c) 0 (start many_partial ∷ [])) ≡ None
-  pub all : (g : Grammar) → waits_for (first_that (fails (input_of g one_c) 1)
-      (closure (input_of g one_c) 1
-      (reversed_targets (input_of g one_c) 0 (closure (input_of g one_c) 0 (start many_partial
+  pub verdict : (g : Grammar) → verdict_reversed (open_grammar g) many_partial one_c ≡ stuck 1
+  pub none_fails : (g : Grammar) → first_that (fails (input_of (open_grammar g) one_c) 0)
+      (closure (input_of (open_grammar g) one_c) 0 (start many_partial ∷ [])) ≡ None
+  pub all : (g : Grammar) → waits_for (first_that (fails (input_of (open_grammar g) one_c) 1)
+      (closure (input_of (open_grammar g) one_c) 1
+      (reversed_targets (input_of (open_grammar g) one_c) 0 (closure (input_of (open_grammar g) one_c) 0 (start many_partial
       ∷ [])))))
       ≡ Some (ident (ident_of (codes "b") (at 0 0 1)))
   pub two : (g : Grammar) →
-      waits_for (first_that (fails (input_of g one_c) 1)
-      (closure_two_each (input_of g one_c) (state_count many_partial) 1
-      (reversed_targets (input_of g one_c) 0
-      (closure_two_each (input_of g one_c) (state_count many_partial) 0
+      waits_for (first_that (fails (input_of (open_grammar g) one_c) 1)
+      (closure_two_each (input_of (open_grammar g) one_c) (state_count many_partial) 1
+      (reversed_targets (input_of (open_grammar g) one_c) 0
+      (closure_two_each (input_of (open_grammar g) one_c) (state_count many_partial) 0
       (start many_partial ∷ [])))))
       ≡ Some (ident (ident_of (codes "c") (at 0 0 1)))

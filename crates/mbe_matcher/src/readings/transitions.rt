@@ -17,7 +17,7 @@ use crate::token_widths::{between_width, opens, token_width};
 use mbe_ops::ops::{Op, Separator};
 use mbe_semantics::fragment_kinds::{MetaVarKind, RepeatKind};
 use mbe_threads::source::Source;
-use mbe_tt::grammar::FragmentGrammar;
+use mbe_tt::grammar::{Dialect, FragmentGrammar};
 use std::alloc::{AllocError, Allocator};
 
 fn only(one: Option<Transition>) -> Transitions
@@ -67,33 +67,38 @@ fn over_fragment<'a, A: Allocator, G: FragmentGrammar>(
 
 // Returns the transition into another round, to the state before the body.
 fn again<'a, A: Allocator>(
+    dialect: Dialect,
     source: &Source<'a, A>,
     separator: Option<&Separator<A>>,
     kind: RepeatKind,
     number: usize,
 ) -> Option<Transition>
-    ensures { (g : Grammar) → option_map transition_seen result
+    ensures { (g : Grammar) → g.dialect ≡ dialect → option_map transition_seen result
         ≡ again kind (over number (between_at
         (input_of g (trees source.now.whole)) source.now.offset
         (option_map (λ s. separator_seen s.now) separator.entry))) }
 {
-    over(number, between_width(kind, separator, &source.here()))
+    over(
+        number,
+        between_width(dialect, kind, separator, &source.here()),
+    )
 }
 
 // Returns the transitions at the end of a round: out of the repetition, and into another round.
 fn round_transitions<'a, A: Allocator>(
+    dialect: Dialect,
     source: &Source<'a, A>,
     separator: Option<&Separator<A>>,
     kind: RepeatKind,
     state_count: usize,
     front: usize,
 ) -> Result<Transitions, AllocError>
-    ensures { (g : Grammar) → IfOk result (λ w. transitions_seen w
+    ensures { (g : Grammar) → g.dialect ≡ dialect → IfOk result (λ w. transitions_seen w
         ≡ round_transitions (input_of g (trees source.now.whole)) source.now.offset
         (option_map (λ s. separator_seen s.now) separator.entry) kind state_count front) }
 {
     let number = front.checked_add(state_count).ok_or(AllocError)?;
-    let again = again(source, separator, kind, number);
+    let again = again(dialect, source, separator, kind, number);
     let out = Some(Transition {
         number: front,
         width: 0,
@@ -148,11 +153,13 @@ fn op_transitions<'a, A: Allocator, G: FragmentGrammar>(
     match op {
         Op::Var { kind, .. } => Ok(only(over_fragment(grammar, source, *kind, front)?)),
         Op::Subtree { delimiter, .. } => {
-            Ok(only(over_one(front, opens(delimiter.get().kind, &source.here()))))
+            let opens = opens(grammar.dialect(), delimiter.get().kind, &source.here());
+            Ok(only(over_one(front, opens)))
         }
         Op::Repeat { kind, .. } => Ok(repetition_transitions(*kind, state_count, front)),
         Op::Literal(_) | Op::Ident(_) | Op::Punct(_) => {
-            Ok(only(over(front, token_width(op, &source.here()))))
+            let width = token_width(grammar.dialect(), op, &source.here());
+            Ok(only(over(front, width)))
         }
         Op::Expression(_) => Ok(only(None)),
     }
@@ -177,7 +184,14 @@ fn transitions<'a, A: Allocator, G: FragmentGrammar>(
             separator,
             kind,
             state_count,
-        } => round_transitions(source, *separator, *kind, *state_count, front),
+        } => round_transitions(
+            grammar.dialect(),
+            source,
+            *separator,
+            *kind,
+            *state_count,
+            front,
+        ),
         PatternState::Before { op, state_count } => op_transitions(
             grammar,
             source,

@@ -1,6 +1,7 @@
 -- What a macro that was read makes of arguments.
-use Rattle.std.proofs.Common.{◌≡◌, inl, inr, List, [], ℕ, Option, Result, Ok, Err, subst, sym, refl}
+use Rattle.std.proofs.Common.{◌≡◌, inl, inr, List, [], ℕ, Option, None, Result, Ok, Err, subst, sym, refl}
 use Rattle.std.specs.Prelude.{IfOk}
+use Rattle.mbe_tt.specs.declared.grammar.Dialect.TheVariants.{RustAnalyzer}
 use Rattle.mbe_tt.specs.declared.span.Edition.{Edition}
 use Rattle.mbe_tt.specs.declared.span.Span.{Span}
 use Rattle.mbe_tt.specs.Trees.Top.{Top, top_group}
@@ -56,6 +57,8 @@ table_of edition rules = record {
   nodes = borrowed rules.nodes.items;
   keywords = borrowed rules.keywords.items;
   starts = rules.starts;
+  begins = None;
+  dialect = RustAnalyzer;
   edition = edition;
   editions = borrowed [];
 }
@@ -75,6 +78,7 @@ grammar_read s text (fragments.Text rules) (e, is_text, read) =
         record {
           is_text = is_text;
           read = read;
+          its_dialect = refl;
           its_edition = refl;
           no_others = refl;
         },
@@ -123,15 +127,16 @@ by_rust m table site argument a e h text definition is =
 pub by_text : {A : Type 0} (m : ReadMacro A) (rules : PegGrammar A) (t : RuleTable) (site : Span) (argument : Top)
     (a : Answer)
     → m.fragments ≡ fragments.Text rules → t.nodes.now ≡ rules.nodes.items → t.keywords.now ≡ rules.keywords.items
-    → t.starts ≡ rules.starts
+    → t.starts ≡ rules.starts → t.dialect ≡ RustAnalyzer
     → t.edition ≡ m.asked.edition → t.editions.now ≡ [] → OrOutOfMemory (IsExpansionOf (grammar_of t) m argument site) a
     → AnswersTreesBy m argument site a
-by_text m rules t site argument a e nodes keywords starts edition editions h text definition is =
+by_text m rules t site argument a e nodes keywords starts dialect edition editions h text definition is =
     let found = subst (AreFragments m.asked text) e is.0 in
     let g = grammar_of t in
     let its : IsTableOf m.asked.edition text t = record {
       is_text = found.1;
       read = table_read text rules.nodes.items rules.keywords.items rules.starts t found.2 nodes keywords starts;
+      its_dialect = dialect;
       its_edition = edition;
       no_others = editions;
     } in

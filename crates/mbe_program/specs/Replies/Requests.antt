@@ -1,6 +1,7 @@
 -- The answer to each request: what it shows, or why there is no result.
 use Rattle.std.specs.Prelude.{◌≡◌, ◌<◌, ◌≤◌, ◌^◌, ◌⊎◌, ℕ, true, List, [], length, map, IsUtf8}
 use Rattle.std.specs.Prelude.{Option, Some, None, Ok, Err}
+use Rattle.mbe_tt.specs.declared.grammar.Dialect.TheVariants.{RustAnalyzer}
 use Rattle.mbe_tt.specs.declared.span.Edition.{Edition}
 use Rattle.mbe_tt.specs.Trees.Top.{Top, top_group}
 use Rattle.mbe_tt.specs.Trees.Tree.{Forest}
@@ -129,11 +130,12 @@ pub data HasNoTrees (dialect : Dialect) (s : Source) (a : Answer) : Type 0 where
 
 -- ---- the grammar of fragments
 
--- A table of Rust's rules, in that edition.
+-- A table of Rust's rules, in that edition and rust-analyzer's dialect.
 pub record IsRustTable (edition : Edition) (t : RuleTable) : Type 0 where
   pub keywords : rows t.keywords.now ≡ rust_keywords
   pub starts : t.starts ≡ rust_entry_rules
   pub closed : all_defined t.nodes.now ≡ true
+  pub its_dialect : t.dialect ≡ RustAnalyzer
   pub its_edition : t.edition ≡ edition
   pub no_others : t.editions.now ≡ []
 
@@ -145,10 +147,11 @@ table_seen t = record {
   starts = t.starts;
 }
 
--- The table of a grammar's text, in that edition.
+-- The table of a grammar's text, in that edition and rust-analyzer's dialect.
 pub record IsTableOf (edition : Edition) (text : List ℕ) (t : RuleTable) : Type 0 where
   pub is_text : IsText text
   pub read : read_text text ≡ Ok (table_seen t)
+  pub its_dialect : t.dialect ≡ RustAnalyzer
   pub its_edition : t.edition ≡ edition
   pub no_others : t.editions.now ≡ []
 

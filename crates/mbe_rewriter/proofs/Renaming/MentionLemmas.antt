@@ -1,11 +1,11 @@
 -- Names that a text mentions: what is at its front, and its runs, one after another.
-use Rattle.std.proofs.Common.{◌≡◌, ℕ, zero, suc, ◌+◌, ◌<◌, ◌≤◌, Bool, true, false, cond, not, eqb, add-one, List, []}
+use Rattle.std.proofs.Common.{◌≡◌, ℕ, suc, ◌<◌, ◌≤◌, Bool, true, false, cond, not, List, []}
 use Rattle.std.proofs.Common.{◌∷◌, ◌++◌, length, take, drop, get_or, Option, Some, None, option_map, MatchOption, Bor}
-use Rattle.std.proofs.Common.{refl, sym, ap, ◌∙◌, ◌⊎◌, inl, inr, subst, arith, ltb, append_assoc, append-nil}
+use Rattle.std.proofs.Common.{refl, sym, ap, ◌∙◌, inl, inr, subst, arith, ltb, append_assoc, append-nil}
 use Rattle.std.proofs.Common.{length-drop}
 use Rattle.std.specs.Prelude.{◌==◌, if◌then◌else◌}
 use Rattle.std.specs.Prelude.{unwrap_or}
-use Rattle.std.specs.List.{prefix_len, position, position_or_len}
+use Rattle.std.specs.List.{position}
 use Rattle.std.specs.Str.{IsUtf8, IsCharBoundary}
 use Rattle.std.specs.Str.Pattern.{FindsTextPrefix, StripsPrefix}
 use Rattle.std.proofs.Math.Nat.{eq-or-lt_of_le}
@@ -14,7 +14,7 @@ use Rattle.std.proofs.lemmas.List.Sums.{prefix_len-le-length, prefix_len_stops}
 use Rattle.std.proofs.lemmas.Str.{IsCharBoundary-end, IsCharBoundary-before_ascii, IsCharBoundary-after_ascii}
 use Rattle.mbe_rewriter.specs.Hygiene.FormatNames.{after_prefix, is_name_byte, run_len, first_byte, found_at}
 use Rattle.mbe_rewriter.specs.Hygiene.FormatNames.{next_before, names_from}
-use Rattle.mbe_rewriter.proofs.Renaming.SameLemmas.{true_or_false, both}
+use Rattle.mbe_rewriter.proofs.Renaming.SameLemmas.{true_or_false}
 
 -- ---- a prefix
 

@@ -2,12 +2,15 @@
 use Rattle.std.specs.Prelude.{ℕ, ◌+◌, Bool, false, ◌==◌, ◌||◌, min, if◌then◌else◌, codes, List, []}
 use Rattle.std.specs.Prelude.{◌∷◌, ◌++◌}
 use Rattle.mbe_tt.specs.Trees.Leaf.{Leaf, literal, punct, ident, is_text}
+use Rattle.mbe_tt.specs.Trees.Top.{Top}
 use Rattle.mbe_tt.specs.Trees.Tree.{Forest, none, leaf, group}
 use Rattle.mbe_tt.specs.declared.span.Span.{Span}
+use Rattle.mbe_rewriter.specs.declared.hygiene.local_names.UndecidedUse.{UndecidedUse}
 use Rattle.mbe_rewriter.specs.declared.hygiene.scan_state.TokenRole.{TokenRole}
 use Rattle.mbe_rewriter.specs.Hygiene.FormatNames.{format_names}
 use Rattle.mbe_rewriter.specs.Hygiene.LocalNames.{is_string_role}
-use Rattle.mbe_rewriter.specs.Hygiene.Renamer.{renamed_trees}
+use Rattle.mbe_rewriter.specs.Hygiene.PatternCalls.{pattern_doubts}
+use Rattle.mbe_rewriter.specs.Hygiene.Renamer.{renamed_trees, undecided_in}
 use Rattle.mbe_rewriter.specs.Hygiene.ScanState.{start}
 use Rattle.mbe_rewriter.specs.Hygiene.TreeEvents.{TreeEvent, token, opening, closing, events}
 
@@ -98,3 +101,12 @@ abbrev pub apply_hygiene : List ℕ → ℕ → Forest → Forest → Forest
 apply_hygiene contexts mark left out =
     renamed_trees (reserved_names out left) (record { contexts = contexts; mark = numbered mark })
     out
+
+-- What isn't decided about an expansion: the uses that keep locals from being renamed where they
+-- meet others of their names, and the uses of names that are the expansion's own if it is a
+-- pattern.
+abbrev pub undecided_of : List ℕ → ℕ → Forest → Top → List UndecidedUse
+undecided_of contexts mark left out =
+    undecided_in (reserved_names out.1 left) (record { contexts = contexts; mark = numbered mark })
+    out
+    ++ pattern_doubts (numbered mark) (apply_hygiene contexts mark left out.1) left

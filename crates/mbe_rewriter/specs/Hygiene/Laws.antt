@@ -4,9 +4,10 @@ use Rattle.std.specs.Prelude.{◌++◌, length}
 use Rattle.mbe_tt.specs.Trees.Leaf.{Leaf, literal, punct, ident}
 use Rattle.mbe_tt.specs.Trees.Tree.{Forest, none, leaf, group}
 use Rattle.mbe_rewriter.specs.declared.hygiene.local_names.BindingState.TheVariants.{Unbound}
+use Rattle.mbe_rewriter.specs.declared.hygiene.local_names.UndecidedUse.{UndecidedUse}
 use Rattle.mbe_rewriter.specs.Hygiene.LocalNames.{Word, Naming, is_same, is_same_namespace}
 use Rattle.mbe_rewriter.specs.Hygiene.LocalNames.{is_shared, has_undecided_use, locals, new_name}
-use Rattle.mbe_rewriter.specs.Hygiene.LocalNames.{ContextParents}
+use Rattle.mbe_rewriter.specs.Hygiene.LocalNames.{ContextParents, is_met, undecided}
 use Rattle.mbe_rewriter.specs.Hygiene.Renamer.{new_name_of, words_in, namings_in, renamed_trees}
 use Rattle.mbe_rewriter.specs.Hygiene.ScanState.{start}
 use Rattle.mbe_rewriter.specs.Hygiene.TreeEvents.{TreeEvent, token, opening, closing, events}
@@ -91,3 +92,17 @@ NoNameAround = (names : List (List ℕ)) (ns : ContextParents) (f : Forest) (b v
     → IsDecided names (words_in ns f) b → 2 * length (words_in ns f) + length names < 2 ^ 63
     → is_same b v ≡ true
     → ¬ IsIn (new_name (namings_in names ns f) v) names
+
+-- ---- what becomes of each local
+
+-- One of the local's uses is listed as undecided.
+abbrev pub IsListed : List (List ℕ) → List Word → Word → Type 0
+IsListed names ws b = (u : UndecidedUse) × IsIn u (undecided ws names) × (u.bound ≡ b.span)
+
+-- Each local of a step is decided, or listed, or no token in its scope has its name in another
+-- context.
+abbrev pub EachIsSettled : Type 0
+EachIsSettled = (names : List (List ℕ)) (ns : ContextParents) (f : Forest) (b : Word)
+    → IsIn b (locals (words_in ns f))
+    → IsDecided names (words_in ns f) b
+    ⊎ (IsListed names (words_in ns f) b ⊎ (is_met names b Unbound (words_in ns f) ≡ false))

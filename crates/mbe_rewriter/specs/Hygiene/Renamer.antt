@@ -46,7 +46,7 @@ renamed_trees names ns f = renamed (namings_in names ns f) start f
 abbrev pub renamed_tree : List (List ℕ) → ContextParents → Top → Top
 renamed_tree names ns t = (t.0, renamed_trees names ns t.1)
 
--- The uses that keep locals from being renamed.
+-- The uses that keep locals from being renamed, where such a local meets another of its name.
 abbrev pub undecided_in : List (List ℕ) → ContextParents → Top → List UndecidedUse
 undecided_in names ns t = undecided (words_in ns t.1) names
 

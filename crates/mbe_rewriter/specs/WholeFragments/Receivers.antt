@@ -12,8 +12,7 @@ use Rattle.mbe_tt.specs.Trees.Tree.{rest_of, one_leaf}
 use Rattle.mbe_tt.specs.declared.span.Span.{Span}
 use Rattle.mbe_tt.specs.declared.tt.Delimiter.{Delimiter}
 use Rattle.mbe_tt.specs.declared.tt.DelimiterKind.{DelimiterKind}
-use Rattle.mbe_tt.specs.declared.tt.DelimiterKind.TheVariants.{Parenthesis, Brace, Bracket}
-use Rattle.mbe_tt.specs.declared.tt.DelimiterKind.TheVariants.{Invisible}
+use Rattle.mbe_tt.specs.declared.tt.DelimiterKind.TheVariants.{Parenthesis, Brace}
 use Rattle.mbe_tt.specs.declared.tt.Spacing.TheVariants.{Alone}
 use Rattle.mbe_rewriter.specs.WholeFragments.FrontTokens.{is_char, is_char_leaf, is_single_dot}
 use Rattle.mbe_rewriter.specs.WholeFragments.FrontTokens.{is_word}

@@ -264,8 +264,11 @@ pub fn apply_hygiene<A: Allocator + Copy>(
     contexts: &[u32],
     mark: usize,
 ) -> Result<Renamed<A>, AllocError>
-    ensures { IfOk result (λ r. r.tree.1
+    ensures delimiter { IfOk result (λ r. r.tree.0 ≡ tree.now.0) }
+    ensures trees { IfOk result (λ r. r.tree.1
         ≡ spec.apply_hygiene contexts.now mark (trees left.entry) tree.now.1) }
+    ensures undecided { IfOk result (λ r. r.undecided.items
+        ≡ spec.undecided_of contexts.now mark (trees left.entry) tree.now) }
 {
     let names = reserved_names(alloc, tree, left)?;
     let context_parents = ContextParents {

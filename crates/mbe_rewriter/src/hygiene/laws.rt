@@ -1,6 +1,6 @@
 // The laws of renaming: what it keeps, and what it keeps apart. These functions do nothing.
 ghost use Rattle.mbe_rewriter.specs.Hygiene.Laws.{KeepsShapes, RenamesEach, OneNameEach};
-ghost use Rattle.mbe_rewriter.specs.Hygiene.Laws.{NoNameAround};
+ghost use Rattle.mbe_rewriter.specs.Hygiene.Laws.{NoNameAround, EachIsSettled};
 
 /// Renaming changes nothing but the texts of words.
 pub fn keeps_shapes()
@@ -23,4 +23,10 @@ pub fn one_name_each()
 /// trees.
 pub fn no_name_around()
     ensures { NoNameAround }
+{}
+
+/// A local that a step binds is decided, or one of its uses is listed as undecided, or no token in
+/// its scope has its name in another context.
+pub fn each_is_settled()
+    ensures { EachIsSettled }
 {}

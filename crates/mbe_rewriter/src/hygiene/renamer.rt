@@ -25,7 +25,7 @@ use std::alloc::{AllocError, Allocator, Global};
 #[derive(Drop)]
 pub struct Renamed<A: Allocator = Global> {
     pub tree: TopSubtree<A>,
-    /// The uses that kept locals from being renamed.
+    /// The uses that kept locals from being renamed where they meet others of their names.
     pub undecided: Vec<UndecidedUse, A>,
 }
 
@@ -107,7 +107,8 @@ fn write<A: Allocator>(
     Ok(())
 }
 
-// The new names of locals, and the uses that keep other locals from being renamed.
+// The new names of locals, and the uses that keep other locals from being renamed where they meet
+// others of their names.
 #[derive(Drop)]
 struct RenamePlan<'t, A: Allocator = Global> {
     given: Vec<Naming<'t, A>, A>,
@@ -156,8 +157,8 @@ fn rewritten<A: Allocator + Copy>(
 ///
 /// A local is identified by its name and its context: the end of its block is ignored. A word that
 /// isn't surely bound isn't renamed, such as a parameter of a function. A local isn't renamed
-/// either if it can't be decided whether a word is that local. `undecided` lists these uses.
-/// Returns `AllocError` if memory runs out.
+/// either if it can't be decided whether a word is that local. `undecided` lists these uses of a
+/// local that meets another of its name. Returns `AllocError` if memory runs out.
 pub fn rename<A: Allocator + Copy>(
     alloc: A,
     tree: &TopSubtree<A>,

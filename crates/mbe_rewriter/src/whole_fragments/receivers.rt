@@ -79,7 +79,7 @@ fn is_one_literal<A: Allocator>(tokens: TokenTreesView<'_, A>) -> bool
 }
 
 // Returns whether the trees are a `-` and a literal.
-fn is_negative<A: Allocator>(tokens: TokenTreesView<'_, A>) -> bool
+pub(crate) fn is_negative<A: Allocator>(tokens: TokenTreesView<'_, A>) -> bool
     ensures { result ≡ spec.is_negative (trees tokens.entry) }
 {
     is_char('-', tokens) && is_one_literal(after_first(tokens))
@@ -180,7 +180,7 @@ fn prefix_after_char(char: char) -> TreePrefix
     }
 }
 
-fn prefix_after<A: Allocator>(leaf: &Leaf<A>, prefix: TreePrefix) -> TreePrefix
+pub(crate) fn prefix_after<A: Allocator>(leaf: &Leaf<A>, prefix: TreePrefix) -> TreePrefix
     ensures { result ≡ spec.prefix_after (leaf_of leaf.now) prefix }
 {
     match leaf {
@@ -191,7 +191,7 @@ fn prefix_after<A: Allocator>(leaf: &Leaf<A>, prefix: TreePrefix) -> TreePrefix
 }
 
 // Returns what surrounds the trees of a group.
-fn surroundings_in(
+pub(crate) fn surroundings_in(
     surroundings: Surroundings,
     prefix: TreePrefix,
     kind: DelimiterKind,
@@ -228,7 +228,7 @@ fn is_found_leaf<A: Allocator>(search: Search, leaf: &Leaf<A>, rest: TokenTreesV
     }
 }
 
-fn has_no_tree<A: Allocator>(tokens: TokenTreesView<'_, A>) -> bool
+pub(crate) fn has_no_tree<A: Allocator>(tokens: TokenTreesView<'_, A>) -> bool
     ensures { result ≡ spec.has_no_tree (trees tokens.entry) }
 {
     tokens.iter().next().is_none()
@@ -248,7 +248,7 @@ fn is_found<A: Allocator>(
 }
 
 // Returns whether what is searched for is among the trees.
-fn has<A: Allocator>(search: Search, tokens: TokenTreesView<'_, A>) -> bool
+pub(crate) fn has<A: Allocator>(search: Search, tokens: TokenTreesView<'_, A>) -> bool
     ensures { result ≡ spec.has search (trees tokens.entry) }
 {
     let mut rest = tokens.iter();
@@ -261,7 +261,7 @@ fn has<A: Allocator>(search: Search, tokens: TokenTreesView<'_, A>) -> bool
 }
 
 // Returns whether a sign before the trees would apply to a part of them.
-fn is_split<A: Allocator>(prefix: TreePrefix, tokens: TokenTreesView<'_, A>) -> bool
+pub(crate) fn is_split<A: Allocator>(prefix: TreePrefix, tokens: TokenTreesView<'_, A>) -> bool
     ensures { result ≡ spec.is_split prefix (trees tokens.entry) }
 {
     match prefix {
@@ -287,7 +287,7 @@ fn is_unwrapped<A: Allocator>(
 }
 
 // Returns whether statements may be in those surroundings.
-fn may_hold_statements(surroundings: Surroundings) -> bool
+pub(crate) fn may_hold_statements(surroundings: Surroundings) -> bool
     ensures { result ≡ spec.may_hold_statements surroundings }
 {
     matches!(surroundings, Surroundings::Statements)
@@ -322,7 +322,7 @@ fn semicolon_leaf<A: Allocator>(span: Span) -> Leaf<A>
 }
 
 // Writes a `;`, if one is needed.
-fn write_semicolon<A: Allocator>(
+pub(crate) fn write_semicolon<A: Allocator>(
     builder: &mut TopSubtreeBuilder<A>,
     is_needed: bool,
     span: Span,

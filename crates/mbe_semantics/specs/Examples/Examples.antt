@@ -31,6 +31,7 @@ use Rattle.mbe_semantics.specs.Examples.Sample.{delimiter_of, text_at, number_at
 use Rattle.mbe_semantics.specs.Examples.Sample.{joint_at, arrow_at, parens, braces, typed_at}
 use Rattle.mbe_semantics.specs.Examples.Sample.{named_at, reads_at, writes_at, ident_at, ident_of}
 use Rattle.mbe_semantics.specs.Examples.Sample.{fn_like, Defines, ExpandsBy}
+use Rattle.mbe_semantics.specs.Examples.Sample.{open_grammar}
 
 -- ---- `($x:ident) => {$($x)*}; ($x:ident) => {$x}` on `a`
 
@@ -57,10 +58,12 @@ one_a = text_at 1 0 (codes "a") none
 pub record EndlessExample : Type 0 where
   pub defines : Defines endless_definition (endless_rule ∷ simple_rule ∷ [])
   -- the first rule fits, but its substitution is endless
-  pub expands : (g : Grammar) → ExpandsBy g (endless_rule ∷ simple_rule ∷ []) one_a 1 1 one_a
+  pub expands : (g : Grammar)
+      → ExpandsBy (open_grammar g) (endless_rule ∷ simple_rule ∷ []) one_a 1 1 one_a
   -- as the only rule it is the closest one, and the result has an error
-  pub alone : (g : Grammar) → IsClosest g FnLike one_a (endless_rule ∷ []) 0
-  pub refused : (g : Grammar) (inside : Forest) → ExpandsBy g (endless_rule ∷ []) one_a 1 0 inside
+  pub alone : (g : Grammar) → IsClosest (open_grammar g) FnLike one_a (endless_rule ∷ []) 0
+  pub refused : (g : Grammar) (inside : Forest)
+      → ExpandsBy (open_grammar g) (endless_rule ∷ []) one_a 1 0 inside
       → ⊥
 
 -- ---- `attr() () => {A}; () => {B}` on nothing
@@ -81,7 +84,7 @@ plain_rule = fn_like no_ops (op (ident_at 25 (codes "B")) no_ops)
 pub record StyledExample : Type 0 where
   pub defines : Defines styled_definition (attr_rule ∷ plain_rule ∷ [])
   pub styles : style_bits (attr_rule ∷ plain_rule ∷ []) ≡ 3
-  pub expands : (g : Grammar) → ExpandsBy g (attr_rule ∷ plain_rule
+  pub expands : (g : Grammar) → ExpandsBy (open_grammar g) (attr_rule ∷ plain_rule
       ∷ []) none 0 1 (text_at 0 25 (codes "B") none)
 
 -- ---- `($p:path) => {$p}` on `Vec<u8>`, by a grammar that matches all of it
@@ -103,7 +106,7 @@ pub record PathExample : Type 0 where
   pub defines : Defines path_definition (path_rule ∷ [])
   pub expands : (g : Grammar) → g.parse entries.Path (flat path_argument)
       ≡ record { count = 4; fault = false } →
-      ExpandsBy g (path_rule ∷ []) path_argument 7 0
+      ExpandsBy (open_grammar g) (path_rule ∷ []) path_argument 7 0
       (text_at 1 0 (codes "Vec") (mark 58 Joint (at 1 0 7)
       (mark 58 Alone (at 1 0 7) (alone_at 1 3 60
       (text_at 1 4 (codes "u8") (alone_at 1 6 62 none))))))
@@ -128,7 +131,7 @@ raw_rule = fn_like (op (ident_at 1 (codes "foo")) no_ops) no_ops
 pub record TextExample : Type 0 where
   pub defines_literal : Defines literal_definition (literal_rule ∷ [])
   pub expands_literal : (g : Grammar) →
-      ExpandsBy g (literal_rule ∷ []) (leaf
+      ExpandsBy (open_grammar g) (literal_rule ∷ []) (leaf
       (literal (record {
         text_and_suffix = codes "1";
         suffix_len = 0;
@@ -137,7 +140,7 @@ pub record TextExample : Type 0 where
       })) none) 3 0 none
   pub defines_raw : Defines raw_definition (raw_rule ∷ [])
   pub expands_raw : (g : Grammar) →
-      ExpandsBy g (raw_rule ∷ [])
+      ExpandsBy (open_grammar g) (raw_rule ∷ [])
       (leaf (ident (record { sym = codes "foo"; is_raw = raw.Yes; span = at 1 0 5 })) none)
       5 0 none
 
@@ -152,7 +155,7 @@ unbound_rule = fn_like no_ops (op (writes_at 8 (codes "y")) no_ops)
 
 pub record UnboundExample : Type 0 where
   pub defines : Defines unbound_definition (unbound_rule ∷ [])
-  pub expands : (g : Grammar) → ExpandsBy g (unbound_rule ∷ []) none 0 0
+  pub expands : (g : Grammar) → ExpandsBy (open_grammar g) (unbound_rule ∷ []) none 0 0
       (alone_at 0 8 36 (text_at 0 8 (codes "y") none))
 
 -- ---- definitions that are refused
@@ -220,7 +223,8 @@ twice_rule =
 pub record TwiceExample : Type 0 where
   pub defines : Defines twice_definition (twice_rule ∷ [])
   pub expands : (g : Grammar) →
-      ExpandsBy g (twice_rule ∷ []) (text_at 1 0 (codes "a") (text_at 1 2 (codes "b") none)) 3 0
+      ExpandsBy (open_grammar g) (twice_rule ∷ [])
+      (text_at 1 0 (codes "a") (text_at 1 2 (codes "b") none)) 3 0
       (text_at 1 2 (codes "b") none)
 
 -- ---- `($a:tt $b:tt) => {$a $b}` on `;+`
@@ -240,7 +244,7 @@ puncts_rule =
 pub record PunctsExample : Type 0 where
   pub defines : Defines puncts_definition (puncts_rule ∷ [])
   pub expands : (g : Grammar) →
-      ExpandsBy g (puncts_rule ∷ []) (joint_at 1 0 59 (alone_at 1 1 43 none)) 2 0
+      ExpandsBy (open_grammar g) (puncts_rule ∷ []) (joint_at 1 0 59 (alone_at 1 1 43 none)) 2 0
       (alone_at 1 0 59 (alone_at 1 1 43 none))
 
 -- ---- `($e:expr) => {$e * 2}` on `1 + 2`, by a grammar that matches all of it
@@ -266,7 +270,7 @@ pub record DoubleExample : Type 0 where
   pub defines : Defines double_definition (double_rule ∷ [])
   pub expands : (g : Grammar) → g.parse entries.Expr (flat sum_argument)
       ≡ record { count = 3; fault = false } →
-      ExpandsBy g (double_rule ∷ []) sum_argument 5 0
+      ExpandsBy (open_grammar g) (double_rule ∷ []) sum_argument 5 0
       (group (delimiter_of Parenthesis (at 0 15 16) (at 0 15 16)) sum_argument
       (alone_at 0 17 42 (number_at 0 19 (codes "2") none)))
 
@@ -284,8 +288,10 @@ let_argument = leaf (ident (record { sym = codes "let"; is_raw = raw.Yes; span =
 
 pub record LetExample : Type 0 where
   pub defines : Defines let_definition (let_rule ∷ [])
-  pub verdict : (g : Grammar) → IsLawful g → IsVerdict g let_rule.reads let_argument (stuck 0)
-  pub closest : (g : Grammar) → IsLawful g → IsClosest g FnLike let_argument (let_rule ∷ []) 0
+  pub verdict : (g : Grammar) → IsLawful (open_grammar g)
+      → IsVerdict (open_grammar g) let_rule.reads let_argument (stuck 0)
+  pub closest : (g : Grammar) → IsLawful (open_grammar g)
+      → IsClosest (open_grammar g) FnLike let_argument (let_rule ∷ []) 0
 
 -- ---- `($($x:ident),*) => {$($x);*}` on `a, b`
 
@@ -314,8 +320,8 @@ list_argument = text_at 1 0 (codes "a") (alone_at 1 1 44 (text_at 1 3 (codes "b"
 
 pub record ListExample : Type 0 where
   pub defines : Defines list_definition (list_rule ∷ [])
-  pub expands : (g : Grammar) → IsLawful g →
-      ExpandsBy g (list_rule ∷ []) list_argument 4 0
+  pub expands : (g : Grammar) → IsLawful (open_grammar g) →
+      ExpandsBy (open_grammar g) (list_rule ∷ []) list_argument 4 0
       (text_at 1 0 (codes "a") (joint_at 0 25 59 (text_at 1 3 (codes "b") none)))
 
 -- ---- `($($x:ident)*) => {$(${index()} ${len()} $x)*}` on `a b`
@@ -349,7 +355,8 @@ counted end text rest = leaf (literal (integer_of text (at 1 0 end))) rest
 
 pub record IndexExample : Type 0 where
   pub defines : Defines index_definition (index_rule ∷ [])
-  pub expands : (g : Grammar) → IsLawful g → ExpandsBy g (index_rule ∷ []) two_words 3 0
+  pub expands : (g : Grammar) → IsLawful (open_grammar g)
+      → ExpandsBy (open_grammar g) (index_rule ∷ []) two_words 3 0
       (counted 3 (codes "0") (counted 3 (codes "2")
       (text_at 1 0 (codes "a") (counted 3 (codes "1")
       (counted 3 (codes "2") (text_at 1 2 (codes "b") none))))))
@@ -374,8 +381,8 @@ any_rule =
 
 pub record UnknownExample : Type 0 where
   pub defines : Defines unknown_definition (unknown_rule ∷ any_rule ∷ [])
-  pub expands : (g : Grammar) → IsLawful g
-      → ExpandsBy g (unknown_rule ∷ any_rule ∷ []) one_a 1 1 none
+  pub expands : (g : Grammar) → IsLawful (open_grammar g)
+      → ExpandsBy (open_grammar g) (unknown_rule ∷ any_rule ∷ []) one_a 1 1 none
 
 -- ---- `($($v:vis),*) => {}` on nothing, by a grammar where `vis` may be empty
 
@@ -398,12 +405,12 @@ empty_rule =
 -- it has two readings: no round, and one empty round
 pub record EmptyExample : Type 0 where
   pub defines : Defines empty_definition (empty_rule ∷ [])
-  pub verdict : (g : Grammar) → IsLawful g → g.parse entries.Vis []
+  pub verdict : (g : Grammar) → IsLawful (open_grammar g) → g.parse entries.Vis []
       ≡ record { count = 0; fault = false }
-      → IsVerdict g empty_rule.reads none many_readings
-  pub closest : (g : Grammar) → IsLawful g → g.parse entries.Vis []
+      → IsVerdict (open_grammar g) empty_rule.reads none many_readings
+  pub closest : (g : Grammar) → IsLawful (open_grammar g) → g.parse entries.Vis []
       ≡ record { count = 0; fault = false }
-      → IsClosest g FnLike none (empty_rule ∷ []) 0
+      → IsClosest (open_grammar g) FnLike none (empty_rule ∷ []) 0
 
 -- ---- `($($a:ident)* ; $($b:ident)*) => {$($a $b)*}` on `p q r ; s t`
 
@@ -436,8 +443,9 @@ zip_argument =
 pub record ZipExample : Type 0 where
   pub items : Items
   pub defines : Defines zip_definition (zip_rule ∷ [])
-  pub reads : (g : Grammar) → IsReading g zip_rule.reads zip_argument items
-  pub expands : (g : Grammar) → IsLawful g → ExpandsBy g (zip_rule ∷ []) zip_argument 11 0
+  pub reads : (g : Grammar) → IsReading (open_grammar g) zip_rule.reads zip_argument items
+  pub expands : (g : Grammar) → IsLawful (open_grammar g)
+      → ExpandsBy (open_grammar g) (zip_rule ∷ []) zip_argument 11 0
       (text_at 1 0 (codes "p") (text_at 1 8 (codes "s")
       (text_at 1 2 (codes "q") (text_at 1 10 (codes "t") none))))
 
@@ -475,9 +483,9 @@ count_argument =
 pub record CountExample : Type 0 where
   pub items : Items
   pub defines : Defines count_definition (count_rule ∷ [])
-  pub reads : (g : Grammar) → IsReading g count_rule.reads count_argument items
-  pub expands : (g : Grammar) → IsLawful g
-      → ExpandsBy g (count_rule ∷ []) count_argument 6 0
+  pub reads : (g : Grammar) → IsReading (open_grammar g) count_rule.reads count_argument items
+  pub expands : (g : Grammar) → IsLawful (open_grammar g)
+      → ExpandsBy (open_grammar g) (count_rule ∷ []) count_argument 6 0
       (counted 6 (codes "2") (counted 6 (codes "3") none))
 
 -- ---- `(a b) => {}; (a c d) => {}` on `a c`
@@ -505,12 +513,14 @@ near_argument = text_at 1 0 (codes "a") (text_at 1 2 (codes "c") none)
 -- the second rule matches further, so it is the closest
 pub record NearestExample : Type 0 where
   pub defines : Defines nearest_definition (far_rule ∷ near_rule ∷ [])
-  pub far : (g : Grammar) → IsLawful g → IsVerdict g far_rule.reads near_argument (stuck 1)
-  pub near : (g : Grammar) → IsLawful g → IsVerdict g near_rule.reads near_argument (stuck 2)
-  pub closest : (g : Grammar) → IsLawful g
-      → IsClosest g FnLike near_argument (far_rule ∷ near_rule ∷ []) 1
-  pub only : (g : Grammar) → IsLawful g
-      → IsClosest g FnLike near_argument (far_rule ∷ near_rule ∷ []) 0 → ⊥
+  pub far : (g : Grammar) → IsLawful (open_grammar g)
+      → IsVerdict (open_grammar g) far_rule.reads near_argument (stuck 1)
+  pub near : (g : Grammar) → IsLawful (open_grammar g)
+      → IsVerdict (open_grammar g) near_rule.reads near_argument (stuck 2)
+  pub closest : (g : Grammar) → IsLawful (open_grammar g)
+      → IsClosest (open_grammar g) FnLike near_argument (far_rule ∷ near_rule ∷ []) 1
+  pub only : (g : Grammar) → IsLawful (open_grammar g)
+      → IsClosest (open_grammar g) FnLike near_argument (far_rule ∷ near_rule ∷ []) 0 → ⊥
 
 -- ---- `($x:ident) => {${concat($x, _bar)}}` on `foo`
 
@@ -539,11 +549,11 @@ foo = text_at 1 0 (codes "foo") none
 pub record ConcatExample : Type 0 where
   pub defines : Defines concat_definition (concat_rule ∷ [])
   pub expands : (g : Grammar) → g.is_keyword (codes "foo_bar") ≡ false →
-      ExpandsBy g (concat_rule ∷ []) foo 3 0
+      ExpandsBy (open_grammar g) (concat_rule ∷ []) foo 3 0
       (leaf (ident (ident_of (codes "foo_bar") (at 0 17 23))) none)
   -- with `"-"` for `_bar` the joined text isn't an identifier
   pub refused : (g : Grammar) (inside : Forest) →
-      ExpandsBy g (concat_of (ops.literal_element
+      ExpandsBy (open_grammar g) (concat_of (ops.literal_element
       (record { text_and_suffix = codes "-"; suffix_len = 0; kind = Str; span = at 0 28 31 }))
       ∷ []) foo 3 0 inside
       → ⊥

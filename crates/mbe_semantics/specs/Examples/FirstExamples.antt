@@ -42,6 +42,7 @@ use Rattle.mbe_semantics.specs.Examples.Sample.{ident_at, text_at, alone_at, joi
 use Rattle.mbe_semantics.specs.Examples.Sample.{parens, braces, typed_at, at, ident_of, punct_of}
 use Rattle.mbe_semantics.specs.Examples.Sample.{integer_of, word, mark, number, delimiter_of}
 use Rattle.mbe_semantics.specs.Examples.Sample.{same_span}
+use Rattle.mbe_semantics.specs.Examples.Sample.{open_grammar}
 
 -- ---- `($x:ident = $t:tt;) => { pair ($t) $x }` on `a = 1;`
 
@@ -109,10 +110,12 @@ pair_result =
 
 pub record PairExample : Type 0 where
   pub parsed : IsMacroRules is_2024 pair_definition (pair_rule ∷ []) None
-  pub read : (g : Grammar) → IsReading g pair_rule.reads pair_argument pair_items
+  pub read : (g : Grammar) → IsReading (open_grammar g) pair_rule.reads pair_argument pair_items
   pub written : (g : Grammar) →
-      IsSubstitution g same_span (at 1 0 6) (environment_of pair_items) pair_rule.writes pair_result
-  pub expands : (g : Grammar) → IsExpansion g FnLike pair_argument same_span (at 1 0 6) (pair_rule
+      IsSubstitution (open_grammar g) same_span (at 1 0 6) (environment_of pair_items)
+      pair_rule.writes pair_result
+  pub expands : (g : Grammar)
+      → IsExpansion (open_grammar g) FnLike pair_argument same_span (at 1 0 6) (pair_rule
       ∷ []) 0 pair_result
 
 -- ---- `($($t:ident),* as $ty:ident) => {}` on `as u32`
@@ -140,8 +143,8 @@ cast_argument = text_at 1 0 (codes "as") (text_at 1 3 (codes "u32") none)
 -- `as` is the token. `$t` could match it too, but then no partial reading goes on.
 pub record CastExample : Type 0 where
   pub defines : Defines cast_definition (cast_rule ∷ [])
-  pub verdict : (g : Grammar) → IsVerdict g cast_pattern cast_argument (ambiguous 0)
-  pub closest : (g : Grammar) → IsClosest g FnLike cast_argument (cast_rule ∷ []) 0
+  pub verdict : (g : Grammar) → IsVerdict (open_grammar g) cast_pattern cast_argument (ambiguous 0)
+  pub closest : (g : Grammar) → IsClosest (open_grammar g) FnLike cast_argument (cast_rule ∷ []) 0
 
 -- ---- `($(a)? $(a)?) => {}` on `a`
 
@@ -170,10 +173,11 @@ pub record OptionalExample : Type 0 where
   pub one : Items
   pub other : Items
   pub different : one ≢ other
-  pub read_one : (g : Grammar) → IsReading g twice_pattern twice_argument one
-  pub read_other : (g : Grammar) → IsReading g twice_pattern twice_argument other
-  pub verdict : (g : Grammar) → IsVerdict g twice_pattern twice_argument many_readings
-  pub closest : (g : Grammar) → IsClosest g FnLike twice_argument (twice_rule ∷ []) 0
+  pub read_one : (g : Grammar) → IsReading (open_grammar g) twice_pattern twice_argument one
+  pub read_other : (g : Grammar) → IsReading (open_grammar g) twice_pattern twice_argument other
+  pub verdict : (g : Grammar)
+      → IsVerdict (open_grammar g) twice_pattern twice_argument many_readings
+  pub closest : (g : Grammar) → IsClosest (open_grammar g) FnLike twice_argument (twice_rule ∷ []) 0
 
 -- ---- `($(b $(')?)'a*) => {}` on `b 'a b`
 
@@ -206,9 +210,11 @@ quote_argument =
 -- After `b` the quote is a token, or the first of the two tokens of the separator.
 pub record QuoteExample : Type 0 where
   pub defines : Defines quote_definition (quote_rule ∷ [])
-  pub offset : (g : Grammar) → IsAmbiguousAt g quote_pattern quote_argument 1
-  pub verdict : (g : Grammar) → IsLawful g → IsVerdict g quote_pattern quote_argument (ambiguous 1)
-  pub closest : (g : Grammar) → IsLawful g → IsClosest g FnLike quote_argument (quote_rule ∷ []) 0
+  pub offset : (g : Grammar) → IsAmbiguousAt (open_grammar g) quote_pattern quote_argument 1
+  pub verdict : (g : Grammar) → IsLawful (open_grammar g)
+      → IsVerdict (open_grammar g) quote_pattern quote_argument (ambiguous 1)
+  pub closest : (g : Grammar) → IsLawful (open_grammar g)
+      → IsClosest (open_grammar g) FnLike quote_argument (quote_rule ∷ []) 0
 
 -- ---- `($( b $(x)? )x*) => {}` on `b x b`
 
@@ -243,8 +249,10 @@ bx_items = item no_items (rounds (round no_rounds bx_round 1) bx_round)
 
 pub record RoundsExample : Type 0 where
   pub defines : Defines bx_definition (bx_rule ∷ [])
-  pub fits : (g : Grammar) → IsLawful g → Fits g bx_pattern bx_argument bx_items
-  pub expands : (g : Grammar) → IsLawful g → ExpandsBy g (bx_rule ∷ []) bx_argument 5 0 none
+  pub fits : (g : Grammar) → IsLawful (open_grammar g)
+      → Fits (open_grammar g) bx_pattern bx_argument bx_items
+  pub expands : (g : Grammar) → IsLawful (open_grammar g)
+      → ExpandsBy (open_grammar g) (bx_rule ∷ []) bx_argument 5 0 none
 
 -- ---- the expansions of templates
 
@@ -298,21 +306,21 @@ pub record TemplateExamples : Type 0 where
   pub no_round : faults some_values [] (op (ops.repetition no_ops None OneOrMore) no_ops) ≡ true
   -- `$($a $b)*` has as many rounds as the shorter list
   pub shorter : (g : Grammar) →
-      IsSubstitution g same_span (at 1 0 9) some_values
+      IsSubstitution (open_grammar g) same_span (at 1 0 9) some_values
       (op (star (op (plain_variable (codes "a")) (op (plain_variable (codes "b")) no_ops))) no_ops)
       (group (delimiter_of Invisible (at 1 0 9) (at 1 0 9)) (words (codes "p" ∷ codes "s"
       ∷ codes "q" ∷ codes "t" ∷ []))
       none)
   -- `${count($n)} ${count($n, 1)}`
   pub counts : (g : Grammar) →
-      IsSubstitution g same_span (at 1 0 6) some_values
+      IsSubstitution (open_grammar g) same_span (at 1 0 6) some_values
       (op (ops.expression (ops.count (codes "n") 0))
       (op (ops.expression (ops.count (codes "n") 1)) no_ops))
       (group (delimiter_of Invisible (at 1 0 6) (at 1 0 6))
       (number (codes "2") (at 1 0 6) (number (codes "3") (at 1 0 6) none)) none)
   -- `$(${index()} $b)*`
   pub indexes : (g : Grammar) →
-      IsSubstitution g same_span (at 1 0 3) some_values
+      IsSubstitution (open_grammar g) same_span (at 1 0 3) some_values
       (op (star (op (ops.expression (ops.index 0)) (op (plain_variable (codes "b")) no_ops)))
       no_ops)
       (group (delimiter_of Invisible (at 1 0 3) (at 1 0 3))
@@ -320,7 +328,7 @@ pub record TemplateExamples : Type 0 where
       (number (codes "1") (at 1 0 3) (word (codes "t") (at 1 0 1) none)))) none)
   -- `${index(1)}` in one level of rounds
   pub far_index : (g : Grammar) →
-      IsSubstitution g same_span (at 1 0 3) some_values
+      IsSubstitution (open_grammar g) same_span (at 1 0 3) some_values
       (op (star (op (ops.expression (ops.index 1)) (op (plain_variable (codes "b")) no_ops)))
       no_ops)
       (group (delimiter_of Invisible (at 1 0 3) (at 1 0 3))
@@ -328,7 +336,7 @@ pub record TemplateExamples : Type 0 where
       (number (codes "0") (at 1 0 3) (word (codes "t") (at 1 0 1) none)))) none)
   -- `$($b)?` emits one of two rounds
   pub first_only : (g : Grammar) →
-      IsSubstitution g same_span (at 1 0 9) some_values
+      IsSubstitution (open_grammar g) same_span (at 1 0 9) some_values
       (op (ops.repetition (op (plain_variable (codes "b")) no_ops) None ZeroOrOne) no_ops)
       (group (delimiter_of Invisible (at 1 0 9) (at 1 0 9)) (words (codes "s" ∷ [])) none)
   -- 65535 rounds are emitted, 65536 are a fault
@@ -346,7 +354,7 @@ pub record TemplateExamples : Type 0 where
   pub bindings : binding_total some_values ≡ 9
   -- an unbound name is emitted as it is
   pub unbound : (g : Grammar) →
-      IsSubstitution g same_span (at 1 0 0) []
+      IsSubstitution (open_grammar g) same_span (at 1 0 0) []
       (op (ops.variable (codes "y") None (at 0 8 9)) no_ops)
       (group (delimiter_of Invisible (at 1 0 0) (at 1 0 0))
       (mark 36 Alone (at 0 8 9) (word (codes "y") (at 0 8 9) none)) none)
@@ -466,7 +474,7 @@ pub record DefinitionExamples : Type 0 where
   -- `$($v:vis),*` has two readings of nothing, by a grammar where `vis` may be empty: no round, and
   -- one empty round
   pub empty_rounds : (g : Grammar) → (g.parse Vis []) ≡ record { count = 0; fault = false } →
-      IsReading g
+      IsReading (open_grammar g)
       (op (ops.repetition (op (ops.variable (codes "v") (Some kinds.Vis) (at 0 0 1)) no_ops)
       (Some (punct_separator (punct_of 44 Joint (at 0 0 1) ∷ []))) ZeroOrMore) no_ops)
       none (item no_items (rounds no_rounds
@@ -520,68 +528,83 @@ arrow_pattern =
 
 pub record VerdictExamples (g : Grammar) : Type 0 where
   -- `($x:ident)` on `(a)`, `()`, `(a a)`, `(a) a` and `{a}`
-  pub group_one : IsVerdict g group_pattern (in_parentheses (a_then none) none) one_reading
-  pub group_none : IsVerdict g group_pattern (in_parentheses none none) (stuck 1)
-  pub group_two : IsVerdict g group_pattern (in_parentheses (a_then (a_then none)) none) (stuck 2)
-  pub group_more : IsVerdict g group_pattern (in_parentheses (a_then none) (a_then none)) (stuck 3)
-  pub group_other : IsVerdict g group_pattern
+  pub group_one : IsVerdict (open_grammar g) group_pattern (in_parentheses (a_then none) none)
+      one_reading
+  pub group_none : IsVerdict (open_grammar g) group_pattern (in_parentheses none none) (stuck 1)
+  pub group_two : IsVerdict (open_grammar g) group_pattern
+      (in_parentheses (a_then (a_then none)) none) (stuck 2)
+  pub group_more : IsVerdict (open_grammar g) group_pattern
+      (in_parentheses (a_then none) (a_then none)) (stuck 3)
+  pub group_other : IsVerdict (open_grammar g) group_pattern
       (group (delimiter_of Brace (at 1 0 1) (at 1 0 1)) (a_then none) none)
       (stuck 0)
   -- `$($x:ident),*` on nothing, `a, a`, `a,` and `a a`
-  pub list_none : IsVerdict g list_pattern none one_reading
-  pub list_two : IsVerdict g list_pattern (a_then (comma_then (a_then none))) one_reading
-  pub list_comma : IsVerdict g list_pattern (a_then (comma_then none)) (stuck 2)
-  pub list_missing : IsVerdict g list_pattern (a_then (a_then none)) (stuck 1)
+  pub list_none : IsVerdict (open_grammar g) list_pattern none one_reading
+  pub list_two : IsVerdict (open_grammar g) list_pattern (a_then (comma_then (a_then none)))
+      one_reading
+  pub list_comma : IsVerdict (open_grammar g) list_pattern (a_then (comma_then none)) (stuck 2)
+  pub list_missing : IsVerdict (open_grammar g) list_pattern (a_then (a_then none)) (stuck 1)
   -- `$(a)* $x:ident` on `a`, `$(a)* b` on `a a b`, `$(a)* $(a)*` on `a`, `$(a)+` on nothing,
   -- `$(a)?` on `a a`
-  pub or_variable : IsVerdict g (op (ops.repetition (op (token_of (codes "a")) no_ops) None
+  pub or_variable : IsVerdict (open_grammar g)
+      (op (ops.repetition (op (token_of (codes "a")) no_ops) None
       ZeroOrMore)
       (op x_variable no_ops)) (a_then none) (ambiguous 0)
-  pub then_b : IsVerdict g (op (ops.repetition (op (token_of (codes "a")) no_ops) None ZeroOrMore)
+  pub then_b : IsVerdict (open_grammar g)
+      (op (ops.repetition (op (token_of (codes "a")) no_ops) None ZeroOrMore)
       (op (token_of (codes "b")) no_ops)) (a_then (a_then (word (codes "b") (at 1 0 1) none)))
       one_reading
-  pub two_lists : IsVerdict g (op (ops.repetition (op (token_of (codes "a")) no_ops) None
+  pub two_lists : IsVerdict (open_grammar g)
+      (op (ops.repetition (op (token_of (codes "a")) no_ops) None
       ZeroOrMore)
       (op (ops.repetition (op (token_of (codes "a")) no_ops) None ZeroOrMore) no_ops)) (a_then none)
       many_readings
-  pub at_least_one : IsVerdict g (op (ops.repetition (op (token_of (codes "a")) no_ops) None
+  pub at_least_one : IsVerdict (open_grammar g)
+      (op (ops.repetition (op (token_of (codes "a")) no_ops) None
       OneOrMore) no_ops) none
       (stuck 0)
-  pub at_most_one : IsVerdict g (op (ops.repetition (op (token_of (codes "a")) no_ops) None
+  pub at_most_one : IsVerdict (open_grammar g)
+      (op (ops.repetition (op (token_of (codes "a")) no_ops) None
       ZeroOrOne) no_ops)
       (a_then (a_then none)) (stuck 1)
   -- `$(),*` on nothing and on `,`
-  pub empty_body : IsVerdict g (op (ops.repetition no_ops comma ZeroOrMore) no_ops) none
+  pub empty_body : IsVerdict (open_grammar g) (op (ops.repetition no_ops comma ZeroOrMore) no_ops)
+      none
       many_readings
-  pub empty_bodies : IsVerdict g (op (ops.repetition no_ops comma ZeroOrMore) no_ops)
+  pub empty_bodies : IsVerdict (open_grammar g) (op (ops.repetition no_ops comma ZeroOrMore) no_ops)
       (comma_then none) one_reading
   -- `$($x:ident)* $x:ident` on `a`: two fragments
-  pub two_fragments : IsVerdict g
+  pub two_fragments : IsVerdict (open_grammar g)
       (op (ops.repetition (op x_variable no_ops) None ZeroOrMore) (op x_variable no_ops))
       (a_then none) (ambiguous 0)
   -- `(a b)` on `(a c)`
-  pub group_inside : IsVerdict g (op (ops.group (delimiter_of Parenthesis (at 0 0 1) (at 0 0 1))
+  pub group_inside : IsVerdict (open_grammar g)
+      (op (ops.group (delimiter_of Parenthesis (at 0 0 1) (at 0 0 1))
       (op (token_of (codes "a")) (op (token_of (codes "b")) no_ops))) no_ops)
       (in_parentheses (a_then (word (codes "c") (at 1 0 1) none)) none) (stuck 2)
   -- `$x:expr_2021` on `_` and on `const`: the grammar isn't called
-  pub old_underscore : IsVerdict g (op (of_kind (kinds.Expr exprs.Expr2021)) no_ops)
+  pub old_underscore : IsVerdict (open_grammar g) (op (of_kind (kinds.Expr exprs.Expr2021)) no_ops)
       (word (codes "_") (at 1 0 1) none)
       (stuck 0)
-  pub old_const : IsVerdict g (op (of_kind (kinds.Expr exprs.Expr2021)) no_ops)
+  pub old_const : IsVerdict (open_grammar g) (op (of_kind (kinds.Expr exprs.Expr2021)) no_ops)
       (word (codes "const") (at 1 0 5) none)
       (stuck 0)
   -- `$x:ident` on `_`, `$x:lifetime` on `'a`, `$x:tt` on `'a` and on `'`, `$x:literal` on `-true`
-  pub no_underscore : IsVerdict g (op x_variable no_ops) (word (codes "_") (at 1 0 1) none)
+  pub no_underscore : IsVerdict (open_grammar g) (op x_variable no_ops)
+      (word (codes "_") (at 1 0 1) none)
       (stuck 0)
-  pub lifetime : IsVerdict g (op (of_kind kinds.Lifetime) no_ops) (quote_then (a_then none))
+  pub lifetime : IsVerdict (open_grammar g) (op (of_kind kinds.Lifetime) no_ops)
+      (quote_then (a_then none))
       one_reading
-  pub tree_lifetime : IsVerdict g (op (of_kind kinds.Tt) no_ops) (quote_then (a_then none))
+  pub tree_lifetime : IsVerdict (open_grammar g) (op (of_kind kinds.Tt) no_ops)
+      (quote_then (a_then none))
       one_reading
-  pub tree_quote : IsVerdict g (op (of_kind kinds.Tt) no_ops) (quote_then none) (stuck 0)
-  pub signed_truth : IsVerdict g (op (of_kind kinds.Literal) no_ops)
+  pub tree_quote : IsVerdict (open_grammar g) (op (of_kind kinds.Tt) no_ops) (quote_then none)
+      (stuck 0)
+  pub signed_truth : IsVerdict (open_grammar g) (op (of_kind kinds.Literal) no_ops)
       (mark 45 Alone (at 1 0 1) (word (codes "true") (at 1 1 5) none)) one_reading
   -- `$(a)"true"*` on `a true a`, `$(a);;*` on `a;;a`, `$(a),?` on `a,`
-  pub truth_separator : IsVerdict g (op (list_between
+  pub truth_separator : IsVerdict (open_grammar g) (op (list_between
       (ops.literal_separator (record {
         text_and_suffix = codes "true";
         suffix_len = 0;
@@ -590,15 +613,17 @@ pub record VerdictExamples (g : Grammar) : Type 0 where
       }))
       ZeroOrMore) no_ops)
       (a_then (word (codes "true") (at 1 2 6) (a_then none))) one_reading
-  pub never_glued : IsVerdict g (op (list_between
+  pub never_glued : IsVerdict (open_grammar g) (op (list_between
       (punct_separator (punct_of 59 Joint (at 0 0 1) ∷ punct_of 59 Alone (at 0 1 2) ∷ []))
       ZeroOrMore) no_ops)
       (a_then (mark 59 Joint (at 1 1 2) (mark 59 Alone (at 1 2 3) (a_then none)))) (stuck 1)
-  pub one_round : IsVerdict g (op (list_between (punct_separator (punct_of 44 Joint (at 0 0 1)
+  pub one_round : IsVerdict (open_grammar g)
+      (op (list_between (punct_separator (punct_of 44 Joint (at 0 0 1)
       ∷ [])) ZeroOrOne) no_ops)
       (a_then (comma_then none)) (stuck 1)
   -- `=>` on `=>` and on `= >`
-  pub arrow : IsVerdict g arrow_pattern (mark 61 Joint (at 1 0 1) (mark 62 Alone (at 1 1 2) none))
+  pub arrow : IsVerdict (open_grammar g) arrow_pattern
+      (mark 61 Joint (at 1 0 1) (mark 62 Alone (at 1 1 2) none))
       one_reading
-  pub no_arrow : IsVerdict g arrow_pattern
+  pub no_arrow : IsVerdict (open_grammar g) arrow_pattern
       (mark 61 Alone (at 1 0 1) (mark 62 Alone (at 1 2 3) none)) (stuck 0)

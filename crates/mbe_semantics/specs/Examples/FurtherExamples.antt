@@ -34,6 +34,7 @@ use Rattle.mbe_semantics.specs.Examples.Sample.{delimiter_of, text_at, number_at
 use Rattle.mbe_semantics.specs.Examples.Sample.{joint_at, arrow_at, parens, braces, typed_at}
 use Rattle.mbe_semantics.specs.Examples.Sample.{named_at, reads_at, writes_at, ident_at, fn_like}
 use Rattle.mbe_semantics.specs.Examples.Sample.{Defines, ExpandsBy}
+use Rattle.mbe_semantics.specs.Examples.Sample.{open_grammar}
 
 -- ---- `(-1) => {-1}; (- 2) => {- 2}; (- 3.0) => {- 3.0}; (@$lit:literal) => {$lit}`, with a line
 -- break before each rule
@@ -100,11 +101,11 @@ spaced_argument = alone_at 1 0 45 (number_at 1 2 (codes "1") none)
 pub record SignExample : Type 0 where
   pub defines : Defines sign_definition sign_rules
   -- the sign belongs to the fragment of `$lit`
-  pub taken : (g : Grammar) → IsLawful g
-      → ExpandsBy g sign_rules signed_argument 3 3
+  pub taken : (g : Grammar) → IsLawful (open_grammar g)
+      → ExpandsBy (open_grammar g) sign_rules signed_argument 3 3
       (alone_at 1 1 45 (number_at 1 2 (codes "1") none))
   -- spaces between tokens don't count
-  pub spaced : (g : Grammar) → ExpandsBy g sign_rules spaced_argument 3 0
+  pub spaced : (g : Grammar) → ExpandsBy (open_grammar g) sign_rules spaced_argument 3 0
       (alone_at 0 10 45 (number_at 0 11 (codes "1") none))
 
 -- ---- `($(a)+*) => {}` on `a *`
@@ -126,7 +127,8 @@ star_argument = text_at 1 0 (codes "a") (alone_at 1 2 42 none)
 -- The first of `*`, `+` and `?` ends the suffix. The `*` after it is a token of the pattern.
 pub record PlusExample : Type 0 where
   pub defines : Defines plus_definition (plus_rule ∷ [])
-  pub expands : (g : Grammar) → IsLawful g → ExpandsBy g (plus_rule ∷ []) star_argument 3 0 none
+  pub expands : (g : Grammar) → IsLawful (open_grammar g)
+      → ExpandsBy (open_grammar g) (plus_rule ∷ []) star_argument 3 0 none
 
 -- ---- invisible groups
 
@@ -150,12 +152,13 @@ hidden_rule = fn_like (op (ops.group (delimiter_of Invisible (at 0 0 0) (at 0 1 
 
 pub record InvisibleExample : Type 0 where
   -- `$x:tt` matches the group, and emits its content
-  pub opened : (g : Grammar) → ExpandsBy g (tree_rule ∷ []) hidden_a 1 0
+  pub opened : (g : Grammar) → ExpandsBy (open_grammar g) (tree_rule ∷ []) hidden_a 1 0
       (text_at 1 0 (codes "a") none)
   -- `$x:ident` doesn't match inside the group
-  pub closed : (g : Grammar) → IsLawful g → IsVerdict g ident_rule.reads hidden_a (stuck 0)
+  pub closed : (g : Grammar) → IsLawful (open_grammar g)
+      → IsVerdict (open_grammar g) ident_rule.reads hidden_a (stuck 0)
   -- a group of the pattern does
-  pub entered : (g : Grammar) → ExpandsBy g (hidden_rule ∷ []) hidden_a 1 0
+  pub entered : (g : Grammar) → ExpandsBy (open_grammar g) (hidden_rule ∷ []) hidden_a 1 0
       (text_at 1 0 (codes "a") none)
 
 -- ---- a name that occurs twice
@@ -198,28 +201,29 @@ a_at start rest = text_at 1 start (codes "a") rest
 
 pub record NamesExample : Type 0 where
   -- on `a b c`: rounds don't change a fragment
-  pub stays : (g : Grammar) → IsLawful g →
-      ExpandsBy g (one_then_list ∷ [])
+  pub stays : (g : Grammar) → IsLawful (open_grammar g) →
+      ExpandsBy (open_grammar g) (one_then_list ∷ [])
       (a_at 0 (text_at 1 2 (codes "b") (text_at 1 4 (codes "c") none))) 5 0
       (a_at 0 none)
   -- on `a b ; c`: a later fragment replaces the list
-  pub replaces : (g : Grammar) → IsLawful g →
-      ExpandsBy g (list_then_one ∷ []) (a_at 0
+  pub replaces : (g : Grammar) → IsLawful (open_grammar g) →
+      ExpandsBy (open_grammar g) (list_then_one ∷ []) (a_at 0
       (text_at 1 2 (codes "b") (alone_at 1 4 59 (text_at 1 6 (codes "c") none)))) 7 0
       (text_at 1 6 (codes "c") none)
   -- on `a ; b, c`: later rounds come after the earlier ones
-  pub appended : (g : Grammar) → IsLawful g →
-      ExpandsBy g (two_lists ∷ []) (a_at 0 (alone_at 1 2 59
+  pub appended : (g : Grammar) → IsLawful (open_grammar g) →
+      ExpandsBy (open_grammar g) (two_lists ∷ []) (a_at 0 (alone_at 1 2 59
       (text_at 1 4 (codes "b") (alone_at 1 5 44 (text_at 1 7 (codes "c") none))))) 8 0
       (a_at 0 (text_at 1 4 (codes "b") (text_at 1 7 (codes "c") none)))
   -- `($x:ident ($y:ident)) => {$x $y}` on `a (b)`: the items of a group bind beside those before it
-  pub beside : (g : Grammar) → ExpandsBy g (beside_rule ∷ [])
+  pub beside : (g : Grammar) → ExpandsBy (open_grammar g) (beside_rule ∷ [])
       (a_at 0 (group (delimiter_of Parenthesis (at 1 2 3) (at 1 4 5)) (text_at 1 3 (codes "b") none)
       none)) 5 0
       (a_at 0 (text_at 1 3 (codes "b") none))
   -- on `; b`: rounds don't change the empty value of a skipped repetition
-  pub skipped : (g : Grammar) → IsLawful g
-      → ExpandsBy g (two_lists ∷ []) (alone_at 1 0 59 (text_at 1 2 (codes "b") none)) 3 0 none
+  pub skipped : (g : Grammar) → IsLawful (open_grammar g)
+      → ExpandsBy (open_grammar g) (two_lists ∷ [])
+      (alone_at 1 0 59 (text_at 1 2 (codes "b") none)) 3 0 none
 
 -- ---- `(p $x:tt) => {$($x)*}; ($x:tt $y:tt) => {$($x)*}` on `p q`: both fit, and both fault
 
@@ -241,8 +245,10 @@ abbrev pub pq_argument : Forest
 pq_argument = text_at 1 0 (codes "p") (text_at 1 2 (codes "q") none)
 
 pub record MostBindingsExample : Type 0 where
-  pub closest : (g : Grammar) → IsClosest g FnLike pq_argument (one_binding ∷ two_bindings ∷ []) 1
-  pub only : (g : Grammar) → IsClosest g FnLike pq_argument (one_binding ∷ two_bindings ∷ []) 0 → ⊥
+  pub closest : (g : Grammar)
+      → IsClosest (open_grammar g) FnLike pq_argument (one_binding ∷ two_bindings ∷ []) 1
+  pub only : (g : Grammar)
+      → IsClosest (open_grammar g) FnLike pq_argument (one_binding ∷ two_bindings ∷ []) 0 → ⊥
 
 -- ---- `($x:tt) => {$($x)*}; ($y:tt) => {$($y)*}` on `p`: both fit and fault, and bind as much
 
@@ -257,8 +263,10 @@ abbrev pub p_argument : Forest
 p_argument = text_at 1 0 (codes "p") none
 
 pub record EarliestExample : Type 0 where
-  pub closest : (g : Grammar) → IsClosest g FnLike p_argument (earlier_rule ∷ later_rule ∷ []) 0
-  pub only : (g : Grammar) → IsClosest g FnLike p_argument (earlier_rule ∷ later_rule ∷ []) 1 → ⊥
+  pub closest : (g : Grammar)
+      → IsClosest (open_grammar g) FnLike p_argument (earlier_rule ∷ later_rule ∷ []) 0
+  pub only : (g : Grammar)
+      → IsClosest (open_grammar g) FnLike p_argument (earlier_rule ∷ later_rule ∷ []) 1 → ⊥
 
 -- ---- a marker that sets a context
 
@@ -282,7 +290,7 @@ result_at end inside = group (delimiter_of Invisible (at 1 0 end) (at 1 0 end)) 
 pub record MarkedExample : Type 0 where
   -- `pair ($x)` with one value: a token and a group are marked. The fragment isn't, nor is the
   -- whole.
-  pub tokens : (g : Grammar) → IsSubstitution g (sets_context 7) (at 1 0 3)
+  pub tokens : (g : Grammar) → IsSubstitution (open_grammar g) (sets_context 7) (at 1 0 3)
       ((codes "x", fragment (record { trees = text_at 1 0 (codes "a") none; style = stripped }))
       ∷ [])
       (op (ident_at 25 (codes "pair"))
@@ -291,14 +299,15 @@ pub record MarkedExample : Type 0 where
       (group (delimiter_of Parenthesis (in_context 7 (at 0 30 31)) (in_context 7 (at 0 33 34)))
       (text_at 1 0 (codes "a") none) none)))
   -- `$(${index()} $x);*`: integers and separators aren't marked
-  pub separator : (g : Grammar) → IsSubstitution g (sets_context 7) (at 1 0 3) two_values
+  pub separator : (g : Grammar)
+      → IsSubstitution (open_grammar g) (sets_context 7) (at 1 0 3) two_values
       (op (ops.repetition (op (ops.expression (ops.index 0)) (op (writes_at 23 (codes "x")) no_ops))
       (Some (punct_separator (punct_of 59 Joint (at 0 25 26) ∷ []))) ZeroOrMore) no_ops)
       (result_at 3 (leaf (literal (integer_of (codes "0") (at 1 0 3)))
       (text_at 1 0 (codes "a") (joint_at 0 25 59
       (leaf (literal (integer_of (codes "1") (at 1 0 3))) (text_at 1 2 (codes "b") none))))))
   -- `$y`, which is unbound, isn't marked
-  pub unbound : (g : Grammar) → IsSubstitution g (sets_context 7) (at 1 0 0) []
+  pub unbound : (g : Grammar) → IsSubstitution (open_grammar g) (sets_context 7) (at 1 0 0) []
       (op (writes_at 8 (codes "y")) no_ops)
       (result_at 0 (alone_at 0 8 36 (text_at 0 8 (codes "y") none)))
   -- the parentheses of an expression are marked, by the variable's span

@@ -12,6 +12,7 @@ use Rattle.mbe_tt.specs.declared.tt.Spacing.TheVariants.{Alone, Joint}
 use Rattle.mbe_tt.specs.Trees.Leaf.{Ident, Literal, ident, literal, punct}
 use Rattle.mbe_tt.specs.Trees.Tree.{Forest, none, leaf, group}
 use Rattle.mbe_tt.specs.Grammars.Grammar.{Grammar}
+use Rattle.mbe_tt.specs.declared.grammar.Dialect.TheVariants.{RustAnalyzer}
 use Rattle.mbe_semantics.specs.declared.fragment_kinds.MetaVarKind.{MetaVarKind}
 use Rattle.mbe_semantics.specs.declared.macro_call_style.MacroCallStyle.TheVariants.{FnLike}
 use Rattle.mbe_semantics.specs.Syntax.Op as ops
@@ -24,6 +25,14 @@ use Rattle.mbe_tt.specs.declared.span.Edition.{Edition}
 use Rattle.mbe_tt.specs.declared.span.Edition.TheVariants.{Edition2024}
 use Rattle.mbe_tt.specs.declared.span.SyntaxContext.{SyntaxContext}
 use Rattle.mbe_semantics.specs.Expansion.Expansion.{IsExpansion}
+
+-- the grammar in rust-analyzer's dialect, of which the examples are
+abbrev pub open_grammar : Grammar → Grammar
+open_grammar g = record {
+  parse = g.parse;
+  is_keyword = g.is_keyword;
+  dialect = RustAnalyzer;
+}
 
 abbrev pub at : ℕ → ℕ → ℕ → Span
 at file start end =

@@ -11,7 +11,7 @@ use Rattle.mbe_semantics.specs.declared.macro_call_style.MacroCallStyle.{MacroCa
 use Rattle.mbe_semantics.specs.Syntax.Template.{Fault}
 use Rattle.mbe_semantics.specs.Syntax.Definition.{Rule}
 use Rattle.mbe_semantics.specs.Expansion.Error.{ExpandError}
-use Rattle.mbe_semantics.specs.Expansion.Expansion.{Applies}
+use Rattle.mbe_semantics.specs.Expansion.Expansion.{Applies, NoneEnds}
 use Rattle.mbe_semantics.specs.Expansion.Macro.{Macro, IsChecked, Expands}
 use Rattle.mbe_semantics.specs.Expansion.ParsedMacro.{IsParsedRules, IsParsedMacro}
 use Rattle.mbe_semantics.specs.Laws.Laws.{HasOneEdition}
@@ -29,10 +29,11 @@ module _ (Asked : SyntaxContext → Edition → Type 0) where
   IsMacroOf (declaration arguments body) m = IsParsedMacro Asked arguments body m
 
 module _ (Asked : SyntaxContext → Edition → Type 0) (Marks : Span → Span → Type 0) where
-  -- The result has no error exactly when some rule applies that the grammar of definitions reads
-  -- from the definition. Then the result names the first such rule, and its tree is the
-  -- substitution of that rule. With an error, the result names the closest rule of the style, if
-  -- there is one. If each context has one edition, the grammar of definitions reads no other rules.
+  -- If no rule ends the call, the result has no error exactly when some rule applies that the
+  -- grammar of definitions reads from the definition. Then the result names the first such rule,
+  -- and its tree is the substitution of that rule. With an error, the result names the closest rule
+  -- of the style, if there is one. If each context has one edition, the grammar of definitions
+  -- reads no other rules.
   pub record IsAnswerTo (g : Grammar) (definition : Definition) (argument : Forest)
       (style : MacroCallStyle)
       (call_site : Span) (out : Forest) (index : Option ℕ) (err : Option ExpandError) : Type 0 where
@@ -41,7 +42,8 @@ module _ (Asked : SyntaxContext → Edition → Type 0) (Marks : Span → Span �
     pub read : IsMacroOf Asked definition (record { rules = rules; err = fault })
     pub only : HasOneEdition Asked → (other : Macro) → IsMacroOf Asked definition other
         → other.rules ≡ rules
-    pub exactly : IsNone err ↔ ((r : Rule) × Contains rules r × Applies g style argument r)
+    pub exactly : NoneEnds g style argument rules
+        → IsNone err ↔ ((r : Rule) × Contains rules r × Applies g style argument r)
     pub expands : Expands g Marks rules style argument call_site out index err
 
   -- Each call of `expand`, on a macro that `parse_macro_rules` or `parse_macro2` returned, has such

@@ -1,6 +1,6 @@
 -- The contracts of the public calls, over values of the specification.
 use Rattle.std.specs.Prelude.{◌≡◌, ◌≢◌, ◌⊎◌, ◌+◌, ◌^◌, ℕ, Bool, true, false, nat_lt, if◌then◌else◌}
-use Rattle.std.specs.Prelude.{List, [], ◌∷◌, Contains, Option, Some, None, IsNone, IsTrue}
+use Rattle.std.specs.Prelude.{List, [], ◌∷◌, Contains, Option, Some, None, IsNone, IsSome, IsTrue}
 use Rattle.std.specs.List.{list_any}
 use Rattle.mbe_tt.specs.declared.span.Span.{Span}
 use Rattle.mbe_tt.specs.declared.tt.DelimiterKind.TheVariants.{Invisible}
@@ -13,7 +13,7 @@ use Rattle.mbe_semantics.specs.Syntax.Template.{Fault, empty_repetition}
 use Rattle.mbe_semantics.specs.Syntax.Definition.{Rule}
 use Rattle.mbe_semantics.specs.Syntax.Nullable.{is_refused}
 use Rattle.mbe_semantics.specs.Expansion.Error.{ExpandError, no_matching_rule}
-use Rattle.mbe_semantics.specs.Expansion.Expansion.{Applies, IsExpansion}
+use Rattle.mbe_semantics.specs.Expansion.Expansion.{Applies, IsExpansion, FirstThatEnds, NoneEnds}
 use Rattle.mbe_semantics.specs.Expansion.Recovery.{HasStyle, IsClosest}
 
 -- a parsed definition: its rules, and its error
@@ -75,15 +75,19 @@ empty_tree span = group (record { opening = span; close = span; kind = Invisible
 
 -- A result without an error is the expansion by the first rule that applies. If some rule applies
 -- there is no error. With an error the result names the closest rule. Without a rule of the style
--- it names none.
+-- it names none. In rustc's dialect a rule may end the call: then there is an error, and the result
+-- names that rule.
 pub record Expands (g : Grammar) (Marks : Span → Span
     → Type 0) (rules : List Rule) (style : MacroCallStyle)
     (argument : Forest) (call_site : Span) (out : Forest) (index : Option ℕ)
     (err : Option ExpandError) : Type 0 where
   pub sound : IsNone err → (n : ℕ) × IsExpansion g style argument Marks call_site rules n out
       × (index ≡ arm_of n)
-  pub complete : (r : Rule) → Contains rules r → Applies g style argument r → IsNone err
-  pub recovers : (e : ExpandError) → err ≡ Some e → HasStyle rules style →
-      (n : ℕ) × IsClosest g style argument rules n × (index ≡ arm_of n)
+  pub complete : NoneEnds g style argument rules → (r : Rule) → Contains rules r
+      → Applies g style argument r → IsNone err
+  pub recovers : NoneEnds g style argument rules → (e : ExpandError) → err ≡ Some e
+      → HasStyle rules style → (n : ℕ) × IsClosest g style argument rules n × (index ≡ arm_of n)
+  pub ended : (n : ℕ) (r : Rule) → FirstThatEnds g style argument rules n r
+      → IsSome err × (index ≡ arm_of n)
   pub no_rule : (HasStyle rules style → ⊥) → (out ≡ empty_tree call_site) × (index ≡ None)
       × (err ≡ Some (record { span = call_site; kind = no_matching_rule }))

@@ -5,6 +5,7 @@ use Rattle.std.specs.Prelude.{if◌then◌else◌}
 use Rattle.std.specs.Char.{encode_utf8}
 use Rattle.mbe_tt.specs.declared.span.DelimSpan.{DelimSpan}
 use Rattle.mbe_tt.specs.declared.tt.Punct.{Punct}
+use Rattle.mbe_tt.specs.declared.grammar.Dialect.{Dialect}
 use Rattle.mbe_tt.specs.declared.grammar.PrefixEntryPoint.{PrefixEntryPoint}
 use Rattle.mbe_tt.specs.Trees.Leaf.{punct as punct_leaf}
 use Rattle.mbe_tt.specs.Trees.Literals.{ident_text, literal_output}
@@ -74,17 +75,18 @@ match_error g (repetition b s k) f around = None
 match_error g (expression e) f around = None
 
 -- the variable is bound to the trees, or is missing if there are none
-abbrev pub bound_if_some : Name → MetaVarKind → Forest → Command
-bound_if_some name kind none = misses name kind
-bound_if_some name kind (leaf l rest) =
-    binds name (record { trees = leaf l rest; style = style_of (Some kind) })
-bound_if_some name kind (group d inside rest) =
-    binds name (record { trees = group d inside rest; style = style_of (Some kind) })
+abbrev pub bound_if_some : Dialect → Name → MetaVarKind → Forest → Command
+bound_if_some dialect name kind none = misses name kind
+bound_if_some dialect name kind (leaf l rest) =
+    binds name (record { trees = leaf l rest; style = style_of dialect (Some kind) })
+bound_if_some dialect name kind (group d inside rest) =
+    binds name (record { trees = group d inside rest; style = style_of dialect (Some kind) })
 
 -- what a variable is bound to if the grammar faults its fragment
 abbrev pub bad_front : Grammar → Name → MetaVarKind → Option PrefixEntryPoint → Forest → Command
 bad_front g name kind None f = misses name kind
-bad_front g name kind (Some entry) f = bound_if_some name kind (front g entry f).front
+bad_front g name kind (Some entry) f =
+    bound_if_some g.dialect name kind (front g entry f).front
 
 -- What a variable that doesn't match is bound to in a report: the front that the grammar faults, or
 -- the variable is missing.

@@ -2,6 +2,8 @@
 -- except which trees match. A new specifier is a new row.
 use Rattle.std.specs.Prelude.{ℕ, List, [], ◌∷◌, codes, Option, Some, None, if◌then◌else◌}
 use Rattle.mbe_tt.specs.Trees.Leaf.{is_text}
+use Rattle.mbe_tt.specs.declared.grammar.Dialect.{Dialect}
+use Rattle.mbe_tt.specs.declared.grammar.Dialect.TheVariants.{RustAnalyzer, Rustc}
 use Rattle.mbe_tt.specs.declared.grammar.PrefixEntryPoint.{PrefixEntryPoint}
 use Rattle.mbe_tt.specs.declared.grammar.PrefixEntryPoint.TheVariants as entries
 use Rattle.mbe_semantics.specs.declared.fragment_kinds.ExprKind.TheVariants as exprs
@@ -29,6 +31,8 @@ pub data Style : Type 0 where
   stripped : Style
   as_expression : Style
   as_path : Style
+  -- in one invisible group that knows the kind
+  whole : MetaVarKind → Style
 
 pub record Facts : Type 0 where
   -- its specifier; both kinds of expressions have `expr`
@@ -86,10 +90,21 @@ expected_text fragment_parsers.Lifetime = codes "expected lifetime"
 expected_text fragment_parsers.Tree = codes "expected token tree"
 expected_text fragment_parsers.Literal = codes "expected literal"
 
+-- how rustc emits a fragment of a kind
+abbrev pub rustc_style : MetaVarKind → Style
+rustc_style kinds.Ident = plain
+rustc_style kinds.Tt = plain
+rustc_style kinds.Lifetime = plain
+rustc_style kind = whole kind
+
+abbrev pub style_in : Dialect → MetaVarKind → Style
+style_in RustAnalyzer kind = (facts kind).style
+style_in Rustc kind = rustc_style kind
+
 -- how a fragment of a kind is emitted
-abbrev pub style_of : Option MetaVarKind → Style
-style_of None = plain
-style_of (Some kind) = (facts kind).style
+abbrev pub style_of : Dialect → Option MetaVarKind → Style
+style_of d None = plain
+style_of d (Some kind) = style_in d kind
 
 -- the specifiers that mean the same in every edition
 abbrev pub kind_names : List (List ℕ × MetaVarKind)

@@ -2,11 +2,14 @@
 use Rattle.std.specs.Prelude.{◌≡◌, ◌⊎◌, ◌<◌, ◌≤◌, ℕ, Bool, true, false, ◌&&◌, List, [], ◌∷◌, ◌++◌}
 use Rattle.std.specs.Prelude.{Option, Some, None, IsTrue, IsFalse, map}
 use Rattle.mbe_tt.specs.declared.span.Edition.{Edition}
+use Rattle.mbe_tt.specs.declared.fragment_group.FragmentGroup.{FragmentGroup}
 use Rattle.mbe_tt.specs.declared.span.Span.{Span}
 use Rattle.mbe_tt.specs.declared.span.SyntaxContext.{SyntaxContext}
 use Rattle.mbe_tt.specs.Trees.Tree.{Forest, append, flat_len, rest_at, alone, strip_invisible}
 use Rattle.mbe_tt.specs.Trees.Tree.{spans_of}
 use Rattle.mbe_tt.specs.Grammars.Grammar.{Grammar, IsLawful}
+use Rattle.mbe_tt.specs.Trees.FragmentGroup.{span_around}
+use Rattle.mbe_semantics.specs.Fragments.FragmentFront.{is_rustc}
 use Rattle.mbe_semantics.specs.declared.macro_call_style.MacroCallStyle.{MacroCallStyle}
 use Rattle.mbe_semantics.specs.declared.fragment_kinds.MetaVarKind.{MetaVarKind}
 use Rattle.mbe_semantics.specs.declared.fragment_kinds.RepeatKind.{RepeatKind}
@@ -291,9 +294,14 @@ abbrev mutual
   marked_spans no_ops = []
   marked_spans (op o os) = marked_spans_of_op o ++ marked_spans os
 
+-- in rustc's dialect, one of these spans with the context of a fragment's group
+abbrev pub IsGroupSpan : Grammar → List Span → Span → Type 0
+IsGroupSpan g spans span = (is_rustc g.dialect ≡ true)
+    × ((s : Span) × (kind : FragmentGroup) × IsSpanIn s spans × (span ≡ span_around kind s))
+
 -- Each span of an expansion has one of these sources: a result of the marker for a span of the
--- template, the call site, a span of a separator or of an unbound name in the template, or a span
--- of the argument.
+-- template, the call site, a span of a separator or of an unbound name in the template, a span of
+-- the argument, or, in rustc's dialect, the span of a fragment's group.
 abbrev pub SpansHaveSources : (Span → Span → Type 0) → Type 0
 SpansHaveSources Marks =
     (g : Grammar) (style : MacroCallStyle) (argument : Forest) (call_site : Span) (rs : List Rule)
@@ -302,7 +310,7 @@ SpansHaveSources Marks =
     → IsSpanIn span (spans_of out) →
     ((s : Span) × IsSpanIn s (marked_spans (e.0).writes) × Marks s span) ⊎ ((span ≡ call_site)
     ⊎ (IsSpanIn span (kept_spans (environment_of (e.1).items) (e.0).writes)
-    ⊎ IsSpanIn span (spans_of argument)))
+    ⊎ (IsSpanIn span (spans_of argument) ⊎ IsGroupSpan g (marked_spans (e.0).writes) span)))
 
 -- ---- expansions
 

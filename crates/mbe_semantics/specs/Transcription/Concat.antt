@@ -7,7 +7,9 @@ use Rattle.mbe_tt.specs.Trees.Leaf.{ident, literal}
 use Rattle.mbe_tt.specs.Trees.Tree.{Forest, none, leaf}
 use Rattle.mbe_tt.specs.Trees.Literals.{literal_text}
 use Rattle.mbe_semantics.specs.Syntax.Op.{Element, ident_element, literal_element, variable_element}
-use Rattle.mbe_semantics.specs.Fragments.Kinds.{Style, as_expression, as_path}
+use Rattle.mbe_semantics.specs.declared.fragment_kinds.MetaVarKind.{MetaVarKind}
+use Rattle.mbe_semantics.specs.declared.fragment_kinds.MetaVarKind.TheVariants as kinds
+use Rattle.mbe_semantics.specs.Fragments.Kinds.{Style, as_expression, as_path, whole}
 use Rattle.mbe_semantics.specs.Bindings.Environment.{Value, fragment, missing, Environment}
 use Rattle.mbe_semantics.specs.Bindings.Missing.{default_trees, no_span}
 use Rattle.mbe_semantics.specs.Transcription.Rounds.{Path, followed}
@@ -18,10 +20,16 @@ text_of_tree (leaf (ident i) none) = Some i.sym
 text_of_tree (leaf (literal l) none) = Some (literal_text l)
 text_of_tree _ = None
 
+-- of the fragments that are emitted whole, a literal has a text
+abbrev pub text_of_whole : MetaVarKind → Forest → Option (List ℕ)
+text_of_whole kinds.Literal f = text_of_tree f
+text_of_whole _ f = None
+
 -- expressions and paths have no text
 abbrev pub text_in_style : Style → Forest → Option (List ℕ)
 text_in_style as_expression f = None
 text_in_style as_path f = None
+text_in_style (whole kind) f = text_of_whole kind f
 text_in_style _ f = text_of_tree f
 
 -- the text of a variable's value

@@ -9,6 +9,7 @@ use crate::adjustment::place::{GroupContent, Head, Place, Preceding, is_applied,
 use mbe::expect_fragment;
 use mbe_grammar::tables::peg_table::RuleTable;
 use mbe_rewriter::macro_items::{MacroCall, begins_with_operator};
+use mbe_rewriter::whole_fragments::operands::is_single_operand;
 use mbe_tt::grammar::{FragmentGrammar, PrefixEntryPoint};
 use mbe_tt::span::Span;
 use mbe_tt::tt::{Delimiter, DelimiterKind, Leaf, Spacing, TokenTreesView, TtElement};
@@ -121,86 +122,10 @@ fn is_assignment<A: Allocator>(tokens: TokenTreesView<'_, A>) -> bool {
     }
 }
 
-// ---- operands
-
-// How a run of trees may go on that is a single operand: a path, its fields, calls and indices.
-#[derive(Clone, Copy, Drop, PartialEq, Eq)]
-enum Operand {
-    // A name or a group is to come.
-    Start,
-    // A name or a `:` is to come.
-    AfterColon,
-    // A field is to come.
-    AfterDot,
-    Path,
-    Field,
-    Applied,
-    // The trees aren't a single operand.
-    Not,
-}
-
-fn operand_after_punct(char: char, so_far: Operand) -> Operand {
-    match (char, so_far) {
-        (':', Operand::Start | Operand::Path | Operand::AfterColon) => Operand::AfterColon,
-        ('.', Operand::Path | Operand::Field | Operand::Applied) => Operand::AfterDot,
-        _ => Operand::Not,
-    }
-}
-
-fn operand_after_word(word: &str, so_far: Operand) -> Operand {
-    match so_far {
-        Operand::AfterDot => Operand::Field,
-        Operand::AfterColon => Operand::Path,
-        Operand::Start if !matches!(word, "return" | "break" | "yield" | "move" | "continue") => {
-            Operand::Path
-        }
-        Operand::Start | Operand::Path | Operand::Field | Operand::Applied | Operand::Not => {
-            Operand::Not
-        }
-    }
-}
-
-fn operand_after_group(kind: DelimiterKind, so_far: Operand) -> Operand {
-    match (kind, so_far) {
-        (_, Operand::AfterColon | Operand::AfterDot | Operand::Not) => Operand::Not,
-        (DelimiterKind::Parenthesis | DelimiterKind::Bracket, _) => Operand::Applied,
-        _ => Operand::Not,
-    }
-}
-
-fn operand_after<A: Allocator>(tree: TtElement<'_, A>, so_far: Operand) -> Operand {
-    match tree {
-        TtElement::Leaf(Leaf::Punct(punct)) => operand_after_punct(punct.char, so_far),
-        TtElement::Leaf(Leaf::Ident(ident)) => operand_after_word(ident.sym.as_str(), so_far),
-        TtElement::Leaf(Leaf::Literal(_)) if so_far == Operand::AfterDot => Operand::Field,
-        TtElement::Leaf(Leaf::Literal(_)) => Operand::Not,
-        TtElement::Subtree(group, _) => operand_after_group(group.delimiter.kind, so_far),
-    }
-}
-
-// Whether the arguments of a function call are at the front.
-fn is_called<A: Allocator>(rest: TokenTreesView<'_, A>) -> bool {
-    match rest.iter().next() {
-        Some(TtElement::Subtree(group, _)) => group.delimiter.kind == DelimiterKind::Parenthesis,
-        Some(TtElement::Leaf(_)) | None => false,
-    }
-}
-
-// Whether the trees before `rest` are a path, with its fields, calls and indices. No operator takes
-// a part of these, but arguments after a field would make a method call of it.
-fn is_single_operand<A: Allocator>(
-    tokens: TokenTreesView<'_, A>,
-    rest: TokenTreesView<'_, A>,
-) -> bool {
-    let mut so_far = Operand::Start;
-    for tree in tokens.iter() {
-        so_far = operand_after(tree, so_far);
-    }
-    match so_far {
-        Operand::Path | Operand::Applied => true,
-        Operand::Field => !is_called(rest),
-        Operand::Start | Operand::AfterColon | Operand::AfterDot | Operand::Not => false,
-    }
+// Whether a macro would not take the trees for an argument as they are: an assignment, or a range
+// without a start, which begins no `pat` fragment.
+fn is_misread_argument<A: Allocator>(tokens: TokenTreesView<'_, A>) -> bool {
+    is_assignment(tokens) || tokens.iter().expect_char('.').is_ok()
 }
 
 // ---- what needs parentheses
@@ -256,7 +181,7 @@ fn is_expression_split<A: Allocator>(
         Preceding::Break if tokens.iter().expect_char('\'').is_ok() => true,
         _ => {
             (place.head != Head::None && (has_braces(tokens) || has_jump(tokens)))
-                || (place.content == GroupContent::Arguments && is_assignment(tokens))
+                || (place.content == GroupContent::Arguments && is_misread_argument(tokens))
         }
     })
 }

@@ -32,9 +32,13 @@ use mbe_rewriter::macro_items::{
 use mbe_rewriter::splice::Replacement;
 use mbe_rewriter::whole_fragments::builtin_calls::{Builtins, expand_builtins};
 use mbe_rewriter::whole_fragments::builtin_names::mentions_builtin;
+use mbe_rewriter::whole_fragments::fragment_groups::open_all_fragments;
 use mbe_rewriter::whole_fragments::line_column::{LineColumn, line_column_of};
+use mbe_tt::grammar::Dialect;
 use mbe_tt::span::Span;
-use mbe_tt::tt::{Delimiter, Leaf, TokenTreesView, TopSubtree, TopSubtreeBuilder, TtElement};
+use mbe_tt::tt::{
+    Delimiter, DelimiterKind, Leaf, TokenTreesView, TopSubtree, TopSubtreeBuilder, TtElement,
+};
 use std::alloc::{AllocError, Allocator};
 
 impl<A: Allocator + Copy> FileExpander<'_, A> {
@@ -74,13 +78,14 @@ impl<A: Allocator + Copy> FileExpander<'_, A> {
         }
     }
 
-    // Makes that definition visible from here on, if it is a `macro` item.
+    // Makes that definition visible from here on, if it is a `macro` item of a block. One of a
+    // module isn't visible in the modules inside it, so a name finds it as paths do.
     fn make_item_visible(&mut self, defined: MacroDefinition<'_, A>) -> Result<(), AllocError>
         ensures shown { OnOk result (state_of self.new
             ≡ item_shown (macro_definition_shown defined.entry) (state_of self.old)) }
         ensures setting { OnOk result (setting_of self.new ≡ setting_of self.old) }
     {
-        if defined.is_item() {
+        if defined.is_item() && !self.scope.is_placed_by_path(defined) {
             self.make_visible(defined)
         } else {
             Ok(())
@@ -100,7 +105,7 @@ impl<A: Allocator + Copy> FileExpander<'_, A> {
         }
     }
 
-    // Makes the `macro` items among these trees visible from here on, wherever among them they are.
+    // Makes the `macro` items of a block visible from here on, wherever among these trees they are.
     fn make_items_visible(&mut self, tokens: TokenTreesView<'_, A>) -> Result<(), AllocError>
         ensures shows { OnOk result (ShowsItems (trees tokens.entry)
             (state_of self.old) (state_of self.new)) }
@@ -148,6 +153,7 @@ impl<A: Allocator + Copy> FileExpander<'_, A> {
                     self.make_rules_visible(defined)?;
                     rest = defined.rest;
                     place = place.after(Preceding::Statement);
+                    is_used = false;
                 }
                 FrontItem::MacroCall(call) => {
                     rest = self.replace_call(replacements, texts, call, place, levels)?;
@@ -155,9 +161,10 @@ impl<A: Allocator + Copy> FileExpander<'_, A> {
                 }
                 FrontItem::Tree(tree, after) => {
                     is_used |= attribute_at(rest) == Some("macro_use");
+                    let is_end = ends_item(&tree);
                     self.replace_tree(replacements, texts, tree, is_used, levels)?;
                     place = place_after_tree(rest, place);
-                    is_used &= place.last != Preceding::Statement;
+                    is_used &= !is_end;
                     rest = after;
                 }
             }
@@ -308,7 +315,7 @@ impl<A: Allocator + Copy> FileExpander<'_, A> {
         let around = Delimiter::invisible_spanned(call.name.span);
         let mut builder = TopSubtreeBuilder::new(self.alloc, around)?;
         let rest = self.write_expansion(&mut builder, tree, call, place, depth, levels)?;
-        let written = builder.build();
+        let written = all_opened_in(self.alloc, self.grammar.dialect, builder.build())?;
         let apart = apply_hygiene(self.alloc, &written, rest, self.contexts.as_slice(), mark)?;
         self.note_doubts(texts, apart.undecided.as_slice())?;
         let (around, start) = (
@@ -326,14 +333,11 @@ impl<A: Allocator + Copy> FileExpander<'_, A> {
         Ok((replacement, rest))
     }
 
-    // Whether no macro of that name is found, so that the name is the built-in macro's.
+    // Whether no definition may have that name, so that the name is the built-in macro's.
     fn is_builtin(&self, name: &str) -> bool
         ensures { result ≡ spec.is_builtin (state_of self.now) name.now }
     {
-        match self.scope.resolve_name(name) {
-            Some(_) => false,
-            None => true,
-        }
+        self.scope.is_unclaimed(name)
     }
 
     // Returns what calls of built-in macros expand to, in the expansion of a call at that place.
@@ -395,6 +399,35 @@ impl<A: Allocator + Copy> FileExpander<'_, A> {
         self.note(Level::Note, doubt.place, message)?;
         let message = format!(in self.alloc; "`{name}` is bound here")?;
         self.note(Level::Note, doubt.bound, message)
+    }
+}
+
+// Whether a tree ends an item, and so its attributes: braces, or a `;`.
+fn ends_item<A: Allocator>(tree: &TtElement<'_, A>) -> bool {
+    match tree {
+        TtElement::Subtree(group, _) => group.delimiter.kind == DelimiterKind::Brace,
+        TtElement::Leaf(leaf) => is_semicolon(leaf),
+    }
+}
+
+fn is_semicolon<A: Allocator>(leaf: &Leaf<A>) -> bool {
+    match leaf {
+        Leaf::Punct(punct) => punct.char == ';',
+        Leaf::Ident(_) | Leaf::Literal(_) => false,
+    }
+}
+
+// Returns the trees of an expansion as text can show them in the dialect.
+fn all_opened_in<A: Allocator + Copy>(
+    alloc: A,
+    dialect: Dialect,
+    tree: TopSubtree<A>,
+) -> Result<TopSubtree<A>, AllocError>
+    ensures { IfOk result (λ t. t ≡ (tree.0, spec.all_opened_in dialect tree.1)) }
+{
+    match dialect {
+        Dialect::RustAnalyzer => Ok(tree),
+        Dialect::Rustc => open_all_fragments(alloc, &tree),
     }
 }
 

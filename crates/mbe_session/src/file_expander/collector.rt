@@ -142,9 +142,10 @@ impl MacroAttributes {
             (macro_definition_shown defined.entry) }
     {
         let name = defined.name.sym.as_str();
-        if self.exports(defined) || (place.is_item && defined.is_item() && !self.is_builtin) {
+        let is_module_item = place.is_item && defined.is_item() && !self.is_builtin;
+        if self.exports(defined) || (is_module_item && place.is_reached) {
             Visibility::Crates
-        } else if place.is_item && is_imported_in(name, defined.rest) {
+        } else if is_module_item || (place.is_item && is_imported_in(name, defined.rest)) {
             Visibility::Paths
         } else if place.is_top {
             Visibility::Files
@@ -178,8 +179,10 @@ pub(crate) struct TreePlace<'n> {
     parent: &'n str,
     // Whether the only groups around them are modules under `#[macro_use]`.
     is_top: bool,
-    // Whether the only groups around them are modules.
+    // Whether the innermost group around them is a module's, or there is none.
     is_item: bool,
+    // Whether the only groups around them are modules.
+    is_reached: bool,
 }
 
 impl<'n> TreePlace<'n> {
@@ -191,6 +194,7 @@ impl<'n> TreePlace<'n> {
             parent: "",
             is_top: true,
             is_item: true,
+            is_reached: true,
         }
     }
 
@@ -201,6 +205,7 @@ impl<'n> TreePlace<'n> {
         TreePlace {
             is_top: false,
             is_item: false,
+            is_reached: false,
             ..self
         }
     }
@@ -212,7 +217,8 @@ impl<'n> TreePlace<'n> {
         TreePlace {
             parent: name,
             is_top: self.is_top && is_used,
-            is_item: self.is_item,
+            is_item: true,
+            is_reached: self.is_reached,
         }
     }
 }
@@ -222,7 +228,7 @@ impl<A: Allocator + Copy> FileExpander<'_, A> {
     /// is, a name that finds no other definition finds those in no group. A path finds those that
     /// are exported, `macro` items, or imported by a `use`. `AllocError` if out of memory.
     pub fn define(&mut self, tokens: TokenTreesView<'_, A>) -> Result<(), AllocError>
-        ensures defines { OnOk result (Defines (setting_of self.old).edition (suc LEVELS) true
+        ensures defines { OnOk result (Defines (setting_of self.old).language (suc LEVELS) true
             (trees tokens.entry) (state_of self.old).scope (state_of self.new).scope) }
         ensures fuel { OnOk result ((state_of self.new).fuel ≡ (state_of self.old).fuel) }
         ensures contexts { OnOk result ((state_of self.new).contexts
@@ -261,7 +267,7 @@ impl<A: Allocator + Copy> FileExpander<'_, A> {
         name: &str,
         tokens: TokenTreesView<'_, A>,
     ) -> Result<(), AllocError>
-        ensures defines { OnOk result (DefinesExternCrate (setting_of self.old).edition (suc LEVELS)
+        ensures defines { OnOk result (DefinesExternCrate (setting_of self.old).language (suc LEVELS)
             name.now (trees tokens.entry) (state_of self.old).scope (state_of self.new).scope) }
         ensures fuel { OnOk result ((state_of self.new).fuel ≡ (state_of self.old).fuel) }
         ensures contexts { OnOk result ((state_of self.new).contexts
@@ -292,7 +298,7 @@ impl<A: Allocator + Copy> FileExpander<'_, A> {
 
     // Reads the definitions among the trees of a root.
     fn define_root(&mut self, tokens: TokenTreesView<'_, A>) -> Result<(), AllocError>
-        ensures defines { OnOk result (Defines (setting_of self.old).edition (suc LEVELS) true
+        ensures defines { OnOk result (Defines (setting_of self.old).language (suc LEVELS) true
             (trees tokens.entry) (scope_of self.old.scope) (scope_of self.new.scope)) }
         ensures fuel { OnOk result (self.new.fuel ≡ self.old.fuel) }
         ensures contexts { OnOk result (self.new.contexts.items ≡ self.old.contexts.items) }
@@ -310,7 +316,7 @@ impl<A: Allocator + Copy> FileExpander<'_, A> {
         place: TreePlace<'_>,
         levels: u32,
     ) -> Result<(), AllocError>
-        ensures defines { OnOk result (DefinesIn (setting_of self.old).edition (suc levels)
+        ensures defines { OnOk result (DefinesIn (setting_of self.old).language (suc levels)
             (place_of place.entry) (trees tokens.entry)
             (scope_of self.old.scope) (scope_of self.new.scope)) }
         ensures fuel { OnOk result (self.new.fuel ≡ self.old.fuel) }
@@ -359,7 +365,7 @@ impl<A: Allocator + Copy> FileExpander<'_, A> {
         levels: u32,
     ) -> Result<(), AllocError>
         ensures defines { OnOk result (DefinesModule
-            (DefinesIn (setting_of self.old).edition levels) (place_of place.entry) is_used
+            (DefinesIn (setting_of self.old).language levels) (place_of place.entry) is_used
             (module_shown item.entry) (scope_of self.old.scope) (scope_of self.new.scope)) }
         ensures fuel { OnOk result (self.new.fuel ≡ self.old.fuel) }
         ensures contexts { OnOk result (self.new.contexts.items ≡ self.old.contexts.items) }
@@ -381,8 +387,9 @@ impl<A: Allocator + Copy> FileExpander<'_, A> {
         levels: u32,
     ) -> Result<(), AllocError>
         ensures defines { OnOk result (DefinesTree
-            (DefinesIn (setting_of self.old).edition levels) (place_of place.entry)
-            (element_tree tree.entry) (scope_of self.old.scope) (scope_of self.new.scope)) }
+            (DefinesIn (setting_of self.old).language levels) (place_of place.entry)
+            (trees tokens.entry) (element_tree tree.entry)
+            (scope_of self.old.scope) (scope_of self.new.scope)) }
         ensures fuel { OnOk result (self.new.fuel ≡ self.old.fuel) }
         ensures contexts { OnOk result (self.new.contexts.items ≡ self.old.contexts.items) }
         ensures setting { OnOk result (setting_of self.new ≡ setting_of self.old) }
@@ -403,7 +410,7 @@ impl<A: Allocator + Copy> FileExpander<'_, A> {
         place: TreePlace<'_>,
         levels: u32,
     ) -> Result<(), AllocError>
-        ensures defines { OnOk result (DefinesIn (setting_of self.old).edition levels
+        ensures defines { OnOk result (DefinesIn (setting_of self.old).language levels
             (place_of place.entry) (trees tokens.entry)
             (scope_of self.old.scope) (scope_of self.new.scope)) }
         ensures fuel { OnOk result (self.new.fuel ≡ self.old.fuel) }

@@ -58,6 +58,20 @@ impl<A: Allocator> DeclaredName<A> {
     {
         self.first.as_str() != "mod" && self.name.as_str() == name
     }
+
+    // Whether a `use` whose path doesn't begin with the name declares it.
+    fn is_alias(&self, name: &str) -> bool
+        ensures { result ≡ spec.is_alias_name name.now (declared_name_of self.now) }
+    {
+        self.is_used(name) && self.first.as_str() != name
+    }
+
+    // Whether a `use` declares that name for something of another name.
+    fn is_renamed(&self, name: &str) -> bool
+        ensures { result ≡ spec.is_renamed_name name.now (declared_name_of self.now) }
+    {
+        self.first.as_str() == "" && self.name.as_str() == name
+    }
 }
 
 // Whether one of them is the module of that name.
@@ -75,9 +89,49 @@ fn has_module<A: Allocator>(declared: &[DeclaredName<A>], name: &str) -> bool
     is_any_module(declared, name)
 }
 
-// Whether a `use` declares that name.
-fn has_use<A: Allocator>(declared: &[DeclaredName<A>], name: &str) -> bool {
+// Whether a `use` among these declares that name.
+fn is_any_use<A: Allocator>(declared: &[DeclaredName<A>], name: &str) -> bool
+    ensures { result ≡ list_any (λ d. spec.is_used_name name.now (declared_name_of d))
+        declared.now }
+{
     declared.iter().any(|one| one.is_used(name))
+}
+
+// Whether a `use` declares that name.
+fn has_use<A: Allocator>(declared: &[DeclaredName<A>], name: &str) -> bool
+    ensures { result ≡ spec.has_use (map declared_name_of declared.now) name.now }
+{
+    is_any_use(declared, name)
+}
+
+// Whether a `use` among these whose path doesn't begin with the name declares it.
+fn is_any_alias<A: Allocator>(declared: &[DeclaredName<A>], name: &str) -> bool
+    ensures { result ≡ list_any (λ d. spec.is_alias_name name.now (declared_name_of d))
+        declared.now }
+{
+    declared.iter().any(|one| one.is_alias(name))
+}
+
+// Whether a `use` whose path doesn't begin with the name declares it.
+fn has_alias<A: Allocator>(declared: &[DeclaredName<A>], name: &str) -> bool
+    ensures { result ≡ spec.has_alias (map declared_name_of declared.now) name.now }
+{
+    is_any_alias(declared, name)
+}
+
+// Whether a `use` among these declares that name for something of another name.
+fn is_any_renamed<A: Allocator>(declared: &[DeclaredName<A>], name: &str) -> bool
+    ensures { result ≡ list_any (λ d. spec.is_renamed_name name.now (declared_name_of d))
+        declared.now }
+{
+    declared.iter().any(|one| one.is_renamed(name))
+}
+
+// Whether a `use` declares that name for something of another name.
+fn has_renamed<A: Allocator>(declared: &[DeclaredName<A>], name: &str) -> bool
+    ensures { result ≡ spec.has_renamed (map declared_name_of declared.now) name.now }
+{
+    is_any_renamed(declared, name)
 }
 
 // Whether a path that begins with that name is one of these files' crate.
@@ -87,11 +141,18 @@ fn is_own_name<A: Allocator>(declared: &[DeclaredName<A>], first: &str) -> bool
     is_path_keyword(first) || has_module(declared, first)
 }
 
+// Whether a path begins at the module of the call, or at the one around it, by that name.
+fn is_relative(first: &str) -> bool
+    ensures { result ≡ spec.is_relative first.now }
+{
+    first == "self" || first == "super"
+}
+
 // Whether a path begins at a module of its own crate by that name.
 fn is_path_keyword(first: &str) -> bool
     ensures { result ≡ spec.is_path_keyword first.now }
 {
-    first == "crate" || first == "self" || first == "super"
+    first == "crate" || is_relative(first)
 }
 
 // Whether that `use` declares the name as something that may not be one of these files'.
@@ -193,15 +254,62 @@ impl<A: Allocator + Copy> Scope<A> {
         is_own_name(self.declared.as_slice(), first)
     }
 
-    // Whether a name that is in no textual scope may mean what isn't one of these files'.
+    // Whether another crate offers a definition of that name.
+    fn is_offered(&self, name: &str) -> bool
+        ensures { result ≡ spec.is_offered_name (scope_of self.now) name.now }
+    {
+        self.last_found(name, Visibility::Crates, CrateFilter::Others)
+            .is_some()
+    }
+
+    // Whether a call may define macros that are found outside of its group.
+    fn may_define(&self) -> bool
+        ensures { result ≡ spec.may_define (scope_of self.now).declared }
+    {
+        has_renamed(self.declared.as_slice(), "macro_rules")
+    }
+
+    // Whether a name that is in no textual scope may mean what isn't one of these files', or what a
+    // call defines.
     fn is_doubtful(&self, name: &str) -> bool
         ensures { result ≡ spec.is_doubtful (scope_of self.now) name.now }
     {
         is_prelude_macro(name)
             || self.is_foreign(name)
-            || self
-                .last_found(name, Visibility::Crates, CrateFilter::Others)
-                .is_some()
+            || self.is_offered(name)
+            || self.may_define()
+    }
+
+    // Whether the definition of that number is the standard library's.
+    fn is_standard(&self, number: usize) -> bool
+        ensures { result ≡ spec.is_standard (scope_of self.now) number }
+    {
+        self.is_in_crate("std", number)
+            || self.is_in_crate("core", number)
+            || self.is_in_crate("alloc", number)
+    }
+
+    // Whether a name may mean something else than that definition of another crate: a `use` may
+    // give the name to another macro, a call may define one, and the standard library has macros
+    // that need no `use`.
+    fn is_other(&self, name: &str, number: usize) -> bool
+        ensures { result ≡ spec.is_other (scope_of self.now) name.now number }
+    {
+        has_renamed(self.declared.as_slice(), name)
+            || (self.may_define() && !has_use(self.declared.as_slice(), name))
+            || (is_prelude_macro(name) && !self.is_standard(number))
+    }
+
+    // Resolves a name that no definition of these files has, to the one that another crate offers.
+    fn resolve_extern(&self, name: &str) -> Option<usize>
+        ensures { result ≡ spec.resolve_extern (scope_of self.now) name.now }
+    {
+        let number = self.unique_extern(name)?;
+        if self.is_other(name, number) {
+            None
+        } else {
+            Some(number)
+        }
     }
 
     // Resolves a name that is in no textual scope: a `use` or a `macro` item gives it. Returns the
@@ -210,7 +318,7 @@ impl<A: Allocator + Copy> Scope<A> {
         ensures { result ≡ spec.resolve_import (scope_of self.now) name.now }
     {
         if !self.has_own(name) {
-            return self.unique_extern(name);
+            return self.resolve_extern(name);
         }
         if self.is_doubtful(name) {
             return None;
@@ -218,26 +326,58 @@ impl<A: Allocator + Copy> Scope<A> {
         self.sole_own(name)
     }
 
-    /// Resolves a plain name. Returns the number of the last visible definition; else of the last
-    /// one in a `#[macro_use]` module; else of the only one that a `use` can name; else of the one
-    /// that another crate offers.
+    // Whether a name may mean another macro than that visible definition: a call may define one
+    // that shadows it, or the name may be in the expansion of a `macro` item.
+    fn is_shadowed(&self, name: &str, number: usize) -> bool
+        ensures { result ≡ spec.is_shadowed (scope_of self.now) name.now number }
+    {
+        has_renamed(self.declared.as_slice(), "macro_use")
+            && (is_prelude_macro(name)
+                || self.is_offered(name)
+                || self
+                    .last_found(name, Visibility::Text, CrateFilter::OwnExcept(number))
+                    .is_some())
+    }
+
+    /// Resolves a plain name. Returns the number of the last visible definition; else of the only
+    /// one that a `use` can name; else of the one that another crate offers.
     pub fn resolve_name(&self, name: &str) -> Option<usize>
         ensures { result ≡ spec.resolve_name (scope_of self.now) name.now }
     {
-        if let Some(number) = self.last_visible(name) {
-            return Some(number);
-        }
-        match self.last_found(name, Visibility::Files, CrateFilter::AnyModule) {
-            Some(number) => Some(number),
+        match self.last_visible(name) {
+            Some(number) => {
+                if self.is_shadowed(name, number) {
+                    None
+                } else {
+                    Some(number)
+                }
+            }
             None => self.resolve_import(name),
         }
+    }
+
+    // Whether a definition of these files may have that name where a call is, or a `use` gives it.
+    fn is_claimed(&self, name: &str) -> bool
+        ensures { result ≡ spec.is_claimed (scope_of self.now) name.now }
+    {
+        self.last_visible(name).is_some()
+            || self.has_own(name)
+            || has_use(self.declared.as_slice(), name)
+    }
+
+    /// Returns whether no definition that was read may have that name where a call is. So a name of
+    /// the compiler's is the compiler's macro there.
+    pub fn is_unclaimed(&self, name: &str) -> bool
+        ensures { result ≡ spec.is_unclaimed (scope_of self.now) name.now }
+    {
+        !self.is_claimed(name) && !self.is_offered(name)
     }
 
     // Resolves a name that has no other definition, to the last one in no group of another file.
     fn resolve_elsewhere(&self, file: u32, name: &str) -> Option<usize>
         ensures { result ≡ spec.resolve_elsewhere (scope_of self.now) file name.now }
     {
-        if is_prelude_macro(name) || self.has_own(name) {
+        if is_prelude_macro(name) || self.is_claimed(name) {
             return None;
         }
         self.last_found(name, Visibility::Files, CrateFilter::OtherFile(file))
@@ -260,10 +400,32 @@ impl<A: Allocator + Copy> Scope<A> {
     fn resolve_sole(&self, first: &str, name: &str) -> Option<usize>
         ensures { result ≡ spec.resolve_sole (scope_of self.now) first.now name.now }
     {
-        if !self.is_own_name(first) || self.is_foreign(name) {
+        if !self.is_own_name(first)
+            || self.is_foreign(name)
+            || self.is_offered(name)
+            || self.may_define()
+        {
             return None;
         }
         self.sole_own(name)
+    }
+
+    // Whether a module may have a macro of that name by a `use`.
+    fn may_import(&self, name: &str) -> bool
+        ensures { result ≡ spec.may_import (scope_of self.now).declared name.now }
+    {
+        has_use(self.declared.as_slice(), name) || has_use(self.declared.as_slice(), "*")
+    }
+
+    // Whether a path may reach the only definition of its last name: a path of two names does only
+    // by a module of the first name, or by a `use`.
+    fn may_reach(&self, is_pair: bool, first: &str, name: &str) -> bool
+        ensures { result ≡ spec.may_reach (scope_of self.now) is_pair first.now name.now }
+    {
+        !is_pair
+            || is_relative(first)
+            || self.may_import(name)
+            || self.sole_in(first, name).is_some()
     }
 
     // Resolves a path of these files' crate. `is_pair` says whether it has two names.
@@ -273,7 +435,42 @@ impl<A: Allocator + Copy> Scope<A> {
         if is_pair && let Some(number) = self.resolve_in(first, name) {
             return Some(number);
         }
-        self.resolve_sole(first, name)
+        if self.may_reach(is_pair, first, name) {
+            self.resolve_sole(first, name)
+        } else {
+            None
+        }
+    }
+
+    // Whether the first name of a path may be a module of these files, or something that a `use`
+    // names, though a crate has that name. A `use` such as `use log::log;` names a macro.
+    fn is_hidden(&self, first: &str, name: &str) -> bool
+        ensures { result ≡ spec.is_hidden (scope_of self.now) first.now name.now }
+    {
+        has_alias(self.declared.as_slice(), first)
+            || (has_module(self.declared.as_slice(), first)
+                && (self.has_own(name) || has_use(self.declared.as_slice(), name)))
+    }
+
+    // Whether a longer path may reach another macro than that definition of another crate, in one
+    // of the crate's modules.
+    fn has_rival(&self, name: &str, number: usize) -> bool
+        ensures { result ≡ spec.has_rival (scope_of self.now) name.now number }
+    {
+        is_prelude_macro(name)
+            || self
+                .last_found(name, Visibility::Crates, CrateFilter::ExceptCrateOf(number))
+                .is_some()
+    }
+
+    // Whether a path that begins with a crate's name may mean something else than that definition
+    // of the crate.
+    fn is_unclear(&self, call: MacroCall<'_, A>, number: usize) -> bool
+        ensures { result ≡ spec.is_unclear (scope_of self.now) (call_shown call.entry) number }
+    {
+        let (first, name) = (call.first.sym.as_str(), call.name.sym.as_str());
+        (!is_global(call) && self.is_hidden(first, name))
+            || (!is_pair(call) && self.has_rival(name, number))
     }
 
     // Resolves the path of a call. Returns the definition's number.
@@ -282,7 +479,11 @@ impl<A: Allocator + Copy> Scope<A> {
     {
         let (first, name) = (call.first.sym.as_str(), call.name.sym.as_str());
         if let Some(number) = self.last_found(name, Visibility::Crates, CrateFilter::Crate(first)) {
-            return Some(number);
+            return if self.is_unclear(call, number) {
+                None
+            } else {
+                Some(number)
+            };
         }
         if is_global(call) {
             return None;
@@ -315,9 +516,17 @@ impl<A: Allocator + Copy> Scope<A> {
         Some(self.definition(number)?.place)
     }
 
+    // Returns the last definition of that name that another crate offers.
+    fn unsure_extern(&self, name: &str) -> Option<Doubt> {
+        let place = self.place_found(name, Visibility::Crates, CrateFilter::Others)?;
+        Some(Doubt::Unsure(place, None))
+    }
+
     // Returns the last definition of that name that paths find, and what else may be meant.
     fn unsure(&self, name: &str) -> Option<Doubt> {
-        let number = self.last_found(name, Visibility::Paths, CrateFilter::Own)?;
+        let Some(number) = self.last_found(name, Visibility::Paths, CrateFilter::Own) else {
+            return self.unsure_extern(name);
+        };
         let rivals = CrateFilter::OwnExcept(number);
         let rival = match self.place_found(name, Visibility::Paths, rivals) {
             Some(place) => Some(place),
@@ -326,8 +535,19 @@ impl<A: Allocator + Copy> Scope<A> {
         Some(Doubt::Unsure(self.definition(number)?.place, rival))
     }
 
+    // Returns why a name that a visible definition has resolves to none.
+    fn doubt_of_visible(&self, name: &str) -> Option<Doubt> {
+        let number = self.last_visible(name)?;
+        let rivals = CrateFilter::OwnExcept(number);
+        let rival = self.place_found(name, Visibility::Text, rivals);
+        Some(Doubt::Unsure(self.definition(number)?.place, rival))
+    }
+
     // Returns why a plain name resolves to none.
     fn doubt_of_name(&self, name: &str) -> Option<Doubt> {
+        if let Some(doubt) = self.doubt_of_visible(name) {
+            return Some(doubt);
+        }
         let is_prelude = is_prelude_macro(name);
         if is_prelude && !has_use(self.declared.as_slice(), name) {
             return None;
@@ -344,6 +564,9 @@ impl<A: Allocator + Copy> Scope<A> {
 
     // Returns why a path resolves to none, if it may be one of these files'.
     fn doubt_of_path(&self, first: &str, name: &str) -> Option<Doubt> {
+        if let Some(place) = self.place_found(name, Visibility::Crates, CrateFilter::Crate(first)) {
+            return Some(Doubt::Unsure(place, None));
+        }
         if !self.is_own_name(first) && !has_use(self.declared.as_slice(), first) {
             return None;
         }
@@ -416,7 +639,10 @@ pub fn declared_name<A: Allocator + Copy>(
     alloc: A,
     first: &str,
     name: &str,
-) -> Result<DeclaredName<A>, AllocError> {
+) -> Result<DeclaredName<A>, AllocError>
+    ensures { IfOk result (λ d. declared_name_of d
+        ≡ record { first = first.now; name = name.now }) }
+{
     Ok(DeclaredName {
         first: String::from_str(alloc, first)?,
         name: String::from_str(alloc, name)?,

@@ -5,7 +5,7 @@ ghost use Rattle.mbe_tt.specs.Trees.Tree.{flat};
 ghost use Rattle.mbe_tt.specs.Views.View.{trees};
 ghost use borrow.Author.Rules.{rules};
 
-use mbe_tt::grammar::{FragmentGrammar, Front, PrefixEntryPoint};
+use mbe_tt::grammar::{Dialect, FragmentGrammar, Front, PrefixEntryPoint};
 use mbe_tt::tt::{Leaf, TokenTreesView, TtElement};
 use std::alloc::{AllocError, Allocator};
 
@@ -14,10 +14,12 @@ pub struct NoFragments;
 
 impl FragmentGrammar for NoFragments {
     ghost use Rattle.std.specs.Prelude.{true, false};
+    ghost use Rattle.mbe_tt.specs.declared.grammar.Dialect.TheVariants.{RustAnalyzer};
 
     ghost grammar = { λ _. record {
       parse = λ entry tokens. record { count = 0; fault = true };
       is_keyword = λ text. false;
+      dialect = RustAnalyzer;
     } };
 
     fn parse<A: Allocator>(
@@ -33,6 +35,10 @@ impl FragmentGrammar for NoFragments {
 
     fn is_keyword(&self, _text: &str) -> bool {
         false
+    }
+
+    fn dialect(&self) -> Dialect {
+        Dialect::RustAnalyzer
     }
 
     ghost lawful = { λ _. Prim.search rules };
@@ -56,6 +62,10 @@ impl FragmentGrammar for Words {
 
     fn is_keyword(&self, text: &str) -> bool {
         text == "let"
+    }
+
+    fn dialect(&self) -> Dialect {
+        Dialect::RustAnalyzer
     }
 
     ghost lawful = { λ _. words_lawful };

@@ -13,6 +13,7 @@ pub fn expand_group<A: Allocator + Copy>(
 ) -> Result<Expansion<A>, AllocError> {
     let call_site = group.top_subtree().delimiter.opening;
     let style = MacroCallStyle::FnLike;
+    let defined = defined.as_macro();
     defined.expand_view(alloc, &SampleGrammar, group, |s| s, style, call_site)
 }
 
@@ -22,7 +23,8 @@ pub fn fits_group<A: Allocator + Copy>(
     defined: &CheckedMacro<A>,
     group: SubtreeView<'_, A>,
 ) -> Result<bool, AllocError> {
-    if defined.as_macro().num_rules() == 0 {
+    let defined = defined.as_macro();
+    if defined.num_rules() == 0 {
         return Ok(false);
     }
     let verdict = defined.explain_view(alloc, &SampleGrammar, group, 0)?;

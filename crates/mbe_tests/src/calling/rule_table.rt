@@ -4,7 +4,7 @@ ghost use Rattle.std.specs.Prelude.{◌<◌, ◌^◌, length};
 use mbe_grammar::tables::node::{Keyword, Node, Terminal};
 use mbe_grammar::tables::peg_table::{EntryRules, RuleTable};
 use mbe_text::lexer::{LexError, lex};
-use mbe_tt::grammar::{FragmentGrammar, PrefixEntryPoint};
+use mbe_tt::grammar::{Dialect, FragmentGrammar, PrefixEntryPoint};
 use mbe_tt::span::Edition;
 use std::alloc::Global;
 
@@ -37,6 +37,8 @@ pub const SUMS: RuleTable<'static> = RuleTable {
         item: NOWHERE,
         vis: NOWHERE,
     },
+    begins: None,
+    dialect: Dialect::RustAnalyzer,
     edition: Edition::Edition2021,
     editions: &[],
 };

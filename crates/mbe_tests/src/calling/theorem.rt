@@ -1,7 +1,7 @@
 // A caller whose own contract comes from that of `expand`.
 ghost use Rattle.std.specs.Prelude.{ℕ, Contains, IfOk, IfSome, IsNone};
 ghost use Rattle.mbe_semantics.specs.Syntax.Definition.{Rule};
-ghost use Rattle.mbe_semantics.specs.Expansion.Expansion.{Applies, IsExpansion};
+ghost use Rattle.mbe_semantics.specs.Expansion.Expansion.{Applies, IsExpansion, NoneEnds};
 ghost use Rattle.mbe_semantics.specs.declared.macro_call_style.MacroCallStyle.TheVariants.{FnLike};
 ghost use Rattle.mbe_semantics.specs.Laws.Callbacks.{MayMark};
 ghost use Rattle.mbe_tt.specs.Trees.Top.{top_group};
@@ -13,7 +13,8 @@ use mbe_tt::span::Span;
 use mbe_tt::tt::TopSubtree;
 use std::alloc::{AllocError, Allocator};
 
-/// The tree that the first rule makes which applies to a call, or none where no rule does.
+/// The tree that the first rule makes which applies to a call. If no rule ends the call, there is
+/// none only where no rule applies.
 pub fn applied<A: Allocator + Copy, G: FragmentGrammar, M: Fn(Span) -> Span + Copy>(
     alloc: A,
     grammar: &G,
@@ -26,11 +27,13 @@ pub fn applied<A: Allocator + Copy, G: FragmentGrammar, M: Fn(Span) -> Span + Co
     ensures some { IfOk result (λ found. IfSome found (λ tree. (n : ℕ)
         × IsExpansion (G.grammar grammar.now) FnLike argument.now.1 (M.post marker) call_site
         (checked_of defined.now).rules n (top_group tree))) }
-    ensures none { IfOk result (λ found. IsNone found → (rule : Rule)
-        → Contains (checked_of defined.now).rules rule
+    ensures none { IfOk result (λ found. IsNone found
+        → NoneEnds (G.grammar grammar.now) FnLike argument.now.1 (checked_of defined.now).rules
+        → (rule : Rule) → Contains (checked_of defined.now).rules rule
         → Applies (G.grammar grammar.now) FnLike argument.now.1 rule → ⊥) }
 {
     let style = MacroCallStyle::FnLike;
+    let defined = defined.as_macro();
     let expanded = defined.expand(alloc, grammar, argument, marker, style, call_site)?;
     match expanded.err {
         Some(_) => Ok(None),

@@ -3,7 +3,7 @@
 use crate::text::prefixes::takes;
 use mbe_grammar::tables::node::{Keyword, Node, Terminal};
 use mbe_grammar::tables::peg_table::{EntryRules, RuleTable};
-use mbe_tt::grammar::PrefixEntryPoint;
+use mbe_tt::grammar::{Dialect, PrefixEntryPoint};
 use mbe_tt::span::Edition;
 use mbe_tt::tt::DelimiterKind;
 use std::alloc::{AllocError, Global};
@@ -130,6 +130,8 @@ fn table(rule: usize, edition: Edition) -> RuleTable<'static> {
             item: rule,
             vis: rule,
         },
+        begins: None,
+        dialect: Dialect::RustAnalyzer,
         edition,
         editions: &[],
     }

@@ -10,7 +10,8 @@ ghost use Rattle.mbe_tt.specs.Grammars.Grammar.{Grammar};
 ghost use Rattle.mbe_semantics.specs.Transcription.Concat as spec;
 ghost use Rattle.mbe_semantics.specs.Transcription.Concat.{concat_text, are_identifier_chars};
 ghost use Rattle.mbe_semantics.specs.Transcription.Concat.{text_of_element, text_of_value};
-ghost use Rattle.mbe_semantics.specs.Transcription.Concat.{text_of_tree};
+ghost use Rattle.mbe_semantics.specs.Transcription.Concat.{text_of_tree, text_of_whole};
+ghost use Rattle.mbe_tt.specs.Views.View.{trees};
 ghost use Rattle.mbe_semantics.specs.Transcription.Concat.{text_in_style};
 ghost use Rattle.mbe_variables.specs.RoundCounts.{simple_value};
 ghost use Rattle.mbe_semantics.specs.Laws.Callbacks.{MayMark};
@@ -284,9 +285,42 @@ fn fragment_text<'b, A: Allocator>(fragment: &'b Fragment<'_, A>) -> Option<&'b 
     ensures { option_map (λ text. text.now) result
         ≡ text_in_style (fragment_seen fragment.now).style (fragment_seen fragment.now).trees }
 {
-    let Fragment::Tokens { tree, .. } = fragment else {
-        return None;
-    };
+    match fragment {
+        Fragment::Tokens { tree, .. } => text_of_tree(*tree),
+        Fragment::Whole { tree, kind } => text_of_whole(*kind, *tree),
+        Fragment::Empty | Fragment::Expr(_) | Fragment::Path(_) | Fragment::TokensOwned(_) => None,
+    }
+}
+
+// Returns the text of a fragment that is written whole. Only a literal has one.
+fn text_of_whole<'b, A: Allocator>(
+    kind: MetaVarKind,
+    tree: TokenTreesView<'b, A>,
+) -> Option<&'b str>
+    ensures { option_map (λ text. text.now) result ≡ text_of_whole kind (trees tree.entry) }
+{
+    match kind {
+        MetaVarKind::Literal => text_of_tree(tree),
+        MetaVarKind::Path
+        | MetaVarKind::Ty
+        | MetaVarKind::Pat
+        | MetaVarKind::PatParam
+        | MetaVarKind::Stmt
+        | MetaVarKind::Block
+        | MetaVarKind::Meta
+        | MetaVarKind::Item
+        | MetaVarKind::Vis
+        | MetaVarKind::Expr(_)
+        | MetaVarKind::Ident
+        | MetaVarKind::Tt
+        | MetaVarKind::Lifetime => None,
+    }
+}
+
+// Returns the text of the trees, if they are one identifier or literal.
+fn text_of_tree<'b, A: Allocator>(tree: TokenTreesView<'b, A>) -> Option<&'b str>
+    ensures { option_map (λ text. text.now) result ≡ text_of_tree (trees tree.entry) }
+{
     let mut iter = tree.iter();
     let first = iter.next()?;
     if !iter.is_empty() {

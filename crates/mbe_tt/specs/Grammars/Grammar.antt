@@ -2,15 +2,18 @@
 -- own parser; here a caller hands in any lawful grammar.
 use Rattle.std.specs.Prelude.{◌≡◌, ℕ, ◌≤◌, Bool, false, not, ◌&&◌, ◌==◌, List, length, Option}
 use Rattle.std.specs.Prelude.{if◌then◌else◌, Some, None}
+use Rattle.mbe_tt.specs.declared.grammar.Dialect.{Dialect}
 use Rattle.mbe_tt.specs.declared.grammar.Front.{Front}
 use Rattle.mbe_tt.specs.declared.grammar.PrefixEntryPoint.{PrefixEntryPoint}
 use Rattle.mbe_tt.specs.declared.grammar.PrefixEntryPoint.TheVariants.{Vis}
 use Rattle.mbe_tt.specs.Trees.Tree.{Forest, FlatToken, flat, flat_len, Cut, cut_flat}
 
--- a grammar: one result for each entry point and list of flat tokens, and one for each text
+-- a grammar: one result for each entry point and list of flat tokens, one for each text, and the
+-- dialect that it is made for
 pub record Grammar : Type 0 where
   pub parse : PrefixEntryPoint → List FlatToken → Front
   pub is_keyword : List ℕ → Bool
+  pub dialect : Dialect
 
 -- it counts at most as many flat tokens as there are, and counts none without a fault only for
 -- `Vis`

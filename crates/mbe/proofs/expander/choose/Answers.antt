@@ -8,7 +8,9 @@ use Rattle.mbe_semantics.specs.contracts.macro_call_style.MacroCallStyle.{the_ty
 use Rattle.mbe_semantics.specs.Expansion.Expansion.{Applies}
 use Rattle.mbe_parser.specs.RuleViews.{rule_of, rules_seen}
 use Rattle.mbe.specs.RuleChoice.{candidate_seen, IsCandidate}
-use Rattle.mbe.proofs.ChoiceLemmas.{NoneApplies, first_at, none_contained, none_more, seen_at, all_seen, length_seen}
+use Rattle.mbe.proofs.ChoiceLemmas.{NoneDecides, first_at, none_contained, none_more, seen_at, all_seen, length_seen}
+use Rattle.mbe.proofs.ChoiceLemmas.{end_at, none_ends}
+use Rattle.std.proofs.lemmas.Bool.{true≢false}
 use Rattle.mbe.proofs.ClosestLemmas.{IsSoFar, so_far_skipped, so_far_tried, kept_tried, candidate, nearest, no_style}
 use Rattle.mbe.proofs.expander.choose.Goals as goal
 
@@ -34,7 +36,7 @@ loop-idx-preserved-then-ne g c =
     let other = differs_true the_type _ _ (sym c.ne.ensures ∙ c.if-ne.true) in
     record {
       none = none_more h style input.1 rs c.loop-idx.idx r c.loop-idx.invariant.none here
-          (λ a. other a.styled);
+          (λ a. other a.styled) (λ f. other f.0);
       nearest = so_far_skipped h site input style rs c.loop-idx.idx r here _
           c.loop-idx.invariant.nearest other;
       kept = c.loop-idx.invariant.kept;
@@ -73,7 +75,8 @@ loop-idx-preserved g c =
     let not_this : Applies h style input.1 r → ⊥ =
     λ a. it.0 (record { styled = refl; items = a.items; fits = a.fits; faultless = a.faultless }) in
     record {
-      none = none_more h style input.1 rs c.loop-idx.idx r c.loop-idx.invariant.none here not_this;
+      none = none_more h style input.1 rs c.loop-idx.idx r c.loop-idx.invariant.none here not_this
+          (λ f. true≢false (sym (c.in_ok-is_last-in-Fails.ensures.1 f.1) ∙ c.if-is_last.false));
       nearest = subst (λ x. IsSoFar h site input style rs (c.loop-idx.idx + 1)
           (option_map candidate_seen x)) (sym c.keep_nearer.ensures)
           (so_far_tried h site input style rs c.loop-idx.idx r here
@@ -85,6 +88,33 @@ loop-idx-preserved g c =
           refl refl));
     }
 
+pub ends_call-requires-clause-checked : goal.ends_call-requires-clause-checked
+ends_call-requires-clause-checked g c =
+    let here = seen_at rule_of c.args.rules.now c.loop-idx.idx c.index-rules-idx.result c.loop-idx-test.true
+    c.index-rules-idx.is in
+    c.requires.checked c.loop-idx.idx (rule_of c.index-rules-idx.result) here
+
+pub ends_call-requires-clause-failure : goal.ends_call-requires-clause-failure
+ends_call-requires-clause-failure g c = (rw c.in-Fails.is at c.in_ok-outcome.ensures).2
+
+pub returns-then-is_last : goal.returns-then-is_last
+returns-then-is_last g c =
+    let h = g.G.FragmentGrammar.grammar c.args.call.now.grammar.now in
+    let input = group_of c.args.call.now.input in
+    let style = c.args.call.now.style in
+    let rs = rules_seen c.args.rules.now in
+    let r = rule_of c.index-rules-idx.result in
+    let here = seen_at rule_of c.args.rules.now c.loop-idx.idx c.index-rules-idx.result c.loop-idx-test.true
+    c.index-rules-idx.is in
+    let own = differs_false the_type (search rules) _ _ (sym c.ne.ensures ∙ c.if-ne.false) in
+    let it = rw c.in-Fails.is at c.in_ok-outcome.ensures in
+    let not_this : Applies h style input.1 r → ⊥ =
+    λ a. it.0 (record { styled = refl; items = a.items; fits = a.fits; faultless = a.faultless }) in (
+      end_at h style input.1 rs c.loop-idx.idx r c.loop-idx.invariant.none here not_this
+          (own, c.in_ok-is_last-in-Fails.ensures.0 c.if-is_last.true),
+      it.2,
+    )
+
 pub returns-in-Some : goal.returns-in-Some
 returns-in-Some g c =
     let h = g.G.FragmentGrammar.grammar c.args.call.now.grammar.now in
@@ -92,13 +122,14 @@ returns-in-Some g c =
     let style = c.args.call.now.style in
     let site = c.args.call.now.site in
     let rs = rules_seen c.args.rules.now in
-    let nobody : NoneApplies h style input.1 rs =
-    subst (NoneApplies h style input.1)
+    let nobody : NoneDecides h style input.1 rs =
+    subst (NoneDecides h style input.1)
     (all_seen rule_of c.args.rules.now c.loop-idx.idx c.loop-idx-test.false) c.loop-idx.invariant.none in
     let so_far = rw c.in-Some.is at c.loop-idx.invariant.nearest in
     let kept = rw c.in-Some.is at c.loop-idx.invariant.kept in
     let all = subst (λ n. n ≤ c.loop-idx.idx) (sym (length_seen rule_of c.args.rules.now)) c.loop-idx-test.false in (
       λ s k a. none_contained h style input.1 rs s nobody k a,
+      none_ends h style input.1 rs nobody,
       nearest h site input style rs c.loop-idx.idx c.in-Some.candidate.idx
           c.in-Some.candidate.nearness _ all kept.styled so_far,
       kept.failure,

@@ -66,13 +66,16 @@ returns-in-Some-err g c =
     c.nearness_of-nearness.ensures.bound fault in (
       both.0,
       both.1,
-      record {
-        error = error_of c.in-Some-err.fault;
-        env = env_of c.in_ok-bindings.bindings;
-        reported = refl;
-        fails = inr f;
-        left = c.in_ok-written.ensures.left;
-      },
+      (
+        record {
+          error = error_of c.in-Some-err.fault;
+          env = env_of c.in_ok-bindings.bindings;
+          reported = refl;
+          fails = inr f;
+          left = c.in_ok-written.ensures.left;
+        },
+        (binds.0, binds.1),
+      ),
     )
 
 pub returns : goal.returns

@@ -18,7 +18,8 @@ use Rattle.mbe.proofs.expander.recover_other_start.Goals as goal
 
 pub error_at_start-requires-clause-otherwise : goal.error_at_start-requires-clause-otherwise
 error_at_start-requires-clause-otherwise g c =
-    ap (starts_with_wrong_token (template_of c.args.rule.now.lhs)) (c.remaining-argument.ensures ∙ c.iter.ensures)
+    ap (starts_with_wrong_token (g.G.FragmentGrammar.grammar c.args.call.now.grammar.now).dialect
+    (template_of c.args.rule.now.lhs)) (c.remaining-argument.ensures ∙ c.iter.ensures)
     ∙ c.requires.otherwise
 
 pub returns-clause-recovered : goal.returns-clause-recovered

@@ -13,7 +13,8 @@ returns-then-starts_with_wrong_token g c =
     let r = rule_of c.args.rule.now in
     let same : trees c.remaining.result ≡ input.1 = c.remaining.ensures ∙ c.iter.ensures in
     let law = g.met.G.FragmentGrammar.lawful c.args.call.now.grammar.now in
-    let other = sym (ap (starts_with_wrong_token r.reads) same)
+    let other = sym (ap (starts_with_wrong_token h.dialect r.reads) same)
+    ∙ ap (λ d. starts_with_wrong_token d r.reads (trees c.remaining.result)) (sym c.dialect-dialect.ensures)
     ∙ (sym c.starts_with_wrong_token.ensures ∙ c.if-starts_with_wrong_token.true) in
     let both = unlike_tried h site input r law c.requires.checked other _ c.requires.trees
     refl in

@@ -1,25 +1,31 @@
-use Rattle.std.proofs.Common.{sym}
-use Rattle.std.specs.Prelude.{is_ok}
-use Rattle.mbe_tt.specs.Trees.Tree.{cut_trees}
-use Rattle.mbe_ops.proofs.Fragments.{passed_to, left_following, taken, literal_trees, literal_in_front, past_literal}
+use Rattle.std.proofs.Common.{◌∙◌, true, false}
+use Rattle.mbe_ops.proofs.Fragments.{taken}
+use Rattle.mbe_matcher.proofs.Literals.{signed_passes, consumed_literal, not_consumed}
 use Rattle.mbe_matcher.proofs.consumers.eat_signed_literal.Goals as goal
 
 pub from_savepoint-requires : goal.from_savepoint-requires
 from_savepoint-requires g c =
+    let d = c.args.dialect in
     let f = c.args.src.now in
-    let sign = is_ok c.expect_char-sign.result in
-    let n = literal_trees sign in
-    let left = past_literal sign f _ _ c.expect_char-sign.ensures.rest c.in-Ok.ensures.rest in
-    ((cut_trees n f).front, passed_to n f _ _ c.savepoint-savepoint.ensures left)
+    let w = signed_passes d c.expect_char-sign.result f _ c.eat_unsigned.new.src true c.expect_char-sign.ensures.value
+    c.expect_char-sign.ensures.rest (rw c.if-eat_unsigned.true at c.eat_unsigned.ensures) in
+    let t = consumed_literal d f _ w in
+    (t.cut.front, c.savepoint-savepoint.ensures ∙ t.whole)
 
-pub returns-in-Ok : goal.returns-in-Ok
-returns-in-Ok g c =
+pub returns-then-eat_unsigned : goal.returns-then-eat_unsigned
+returns-then-eat_unsigned g c =
+    let d = c.args.dialect in
     let f = c.args.src.now in
-    let sign = is_ok c.expect_char-sign.result in
-    let n = literal_trees sign in
-    let left = past_literal sign f _ _ c.expect_char-sign.ensures.rest c.in-Ok.ensures.rest in
-    let here = literal_in_front c.expect_char-sign.result f _ _ c.expect_char-sign.ensures.value
-    c.expect_char-sign.ensures.rest (sym c.in-Ok.ensures.value) in
-    let whole = passed_to n f _ _ c.savepoint-savepoint.ensures left in
-    taken c.from_savepoint.result _ (cut_trees n f) _ here (c.from_savepoint.ensures _ whole)
-    (left_following n f _ left)
+    let w = signed_passes d c.expect_char-sign.result f _ c.eat_unsigned.new.src true c.expect_char-sign.ensures.value
+    c.expect_char-sign.ensures.rest (rw c.if-eat_unsigned.true at c.eat_unsigned.ensures) in
+    let t = consumed_literal d f _ w in
+    taken c.from_savepoint.result _ t.cut _ t.is (c.from_savepoint.ensures _ (c.savepoint-savepoint.ensures ∙ t.whole))
+    t.left_is
+
+pub returns-else-eat_unsigned : goal.returns-else-eat_unsigned
+returns-else-eat_unsigned g c =
+    let d = c.args.dialect in
+    let f = c.args.src.now in
+    not_consumed g.row.A.Denot _ _
+    (signed_passes d c.expect_char-sign.result f _ c.eat_unsigned.new.src false c.expect_char-sign.ensures.value
+    c.expect_char-sign.ensures.rest (rw c.if-eat_unsigned.false at c.eat_unsigned.ensures))

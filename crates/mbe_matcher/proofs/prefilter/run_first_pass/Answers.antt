@@ -19,7 +19,7 @@ returns-then-starts_with_mismatch-clause-verdict g c =
     let f = trees c.args.argument in
     let leaf_mismatch = subst (StartsWithMismatch h pat) c.iter.ensures
     (subst (λ l. StartsWithMismatch h (ops_of l) c.iter.result) c.deref.ensures.value
-    (c.starts_with_mismatch.ensures c.if-starts_with_mismatch.true h)) in
+    (c.starts_with_mismatch.ensures c.if-starts_with_mismatch.true h (sym c.dialect.ensures))) in
     IfOk-weaker c.stuck_at_start.result (λ r. verdict_in r.stop ≡ stuck 0) (λ r. IsVerdict h pat f (verdict_in r.stop))
     (λ r e. subst (IsVerdict h pat f) (sym e) (begins_stuck h pat f law c.requires leaf_mismatch))
     c.stuck_at_start.ensures.stop
@@ -45,5 +45,5 @@ returns-then-starts_with_mismatch-clause-notes g c =
     let pat = template_of c.args.pattern.now in
     let leaf_mismatch = subst (StartsWithMismatch h pat) c.iter.ensures
     (subst (λ l. StartsWithMismatch h (ops_of l) c.iter.result) c.deref.ensures.value
-    (c.starts_with_mismatch.ensures c.if-starts_with_mismatch.true h)) in
+    (c.starts_with_mismatch.ensures c.if-starts_with_mismatch.true h (sym c.dialect.ensures))) in
     c.stuck_at_start.ensures.notes h law leaf_mismatch

@@ -11,7 +11,7 @@ use Rattle.mbe_matcher.proofs.StepLemmas.{as_model, all_read, has_account, has_n
 use Rattle.mbe_matcher.proofs.steps.end_steps.Goals as goal
 
 pub returns-in_default : goal.returns-in_default
-returns-in_default g c = λ h o s.
+returns-in_default g c = λ h e o s.
     let src = c.args.source.now in
     let d : Steps g.row.A.Denot = record {
       first = None;
@@ -58,15 +58,15 @@ closing_steps-requires-clause-number g c =
     has_number c.args.log.now c.args.frames.now c.args.thread c.requires.placed
 
 pub returns-in-Some-rounds : goal.returns-in-Some-rounds
-returns-in-Some-rounds g c = λ h o s.
+returns-in-Some-rounds g c = λ h e o s.
     let k = has_within c.args.log.now c.args.frames.now c.args.thread c.in-Some.open c.requires.placed c.in-Some.is in
     let at : slice_get c.args.frames.now c.in-Some.open ≡ Some c.index-frames-open.result =
     slice_get-get_or c.args.frames.now c.in-Some.open c.index-frames-open.result k
     ∙ ap Some (sym c.index-frames-open.is) in
-    c.round_steps.ensures h c.args.frames.now (c.in-Some.open, c.in-Some.is, at, c.in-Some-rounds.is) o s
+    c.round_steps.ensures h c.args.frames.now e (c.in-Some.open, c.in-Some.is, at, c.in-Some-rounds.is) o s
 
 pub returns : goal.returns
-returns g c = λ h.
+returns g c = λ h e.
     let k = has_within c.args.log.now c.args.frames.now c.args.thread c.in-Some.open c.requires.placed c.in-Some.is in
     let at : slice_get c.args.frames.now c.in-Some.open ≡ Some c.index-frames-open.result =
     slice_get-get_or c.args.frames.now c.in-Some.open c.index-frames-open.result k

@@ -9,10 +9,10 @@ use Rattle.mbe_matcher.proofs.StepLemmas.{as_model, none_steps, over_alone, grou
 use Rattle.mbe_matcher.proofs.steps.group_steps.Goals as goal
 
 pub returns-then-not-opens-clause-steps : goal.returns-then-not-opens-clause-steps
-returns-then-not-opens-clause-steps g c = λ h log o s.
+returns-then-not-opens-clause-steps g c = λ h log d o s.
     let src = c.args.source.now in
     let us = c.args.frames.now.items in
-    let e = rw c.here.ensures at c.opens.ensures in
+    let e = rw (c.here.ensures, sym d) at c.opens.ensures in
     rw c.no_steps.ensures
     (as_model log us (λ x. AreSteps (input_of h (trees src.whole)) (trees src.whole) src.offset log log us us x
     none_steps)
@@ -24,7 +24,7 @@ returns-then-not-opens-clause-steps g c = λ h log o s.
     }))
 
 pub returns-clause-steps : goal.returns-clause-steps
-returns-clause-steps g c = λ h log o s.
+returns-clause-steps g c = λ h log d o s.
     let src = c.args.source.now in
     let us = c.args.frames.now.items in
     let vs = c.push.new.self.items in
@@ -36,7 +36,7 @@ returns-clause-steps g c = λ h log o s.
       up = Some c.len.result;
       handle = b.handle;
     } in
-    let e = rw c.here.ensures at c.opens.ensures in
+    let e = rw (c.here.ensures, sym d) at c.opens.ensures in
     rw c.over.ensures
     (as_model log us (λ x. AreSteps (input_of h (trees src.whole)) (trees src.whole) src.offset log log us vs x
     (over_steps 1 None p))

@@ -28,7 +28,7 @@ group_steps-requires-clause-tail g c =
     c.requires.tail ∙ ap (λ x. op x (ops_of c.args.rest.now))
     (ap op_of c.in-Subtree.is ∙ view-subtree _ c.in-Subtree.delimiter
     ∙ ap (λ xs. group c.in-Subtree.delimiter (ops_of xs)) (sym c.deref.ensures.value)
-    ∙ ap (λ d. group d (ops_of c.deref.result.now)) (sym c.get.ensures))
+    ∙ ap (λ d. group d (ops_of c.deref.result.now)) (sym c.get-group.ensures))
 
 pub group_steps-requires-clause-number : goal.group_steps-requires-clause-number
 group_steps-requires-clause-number g c =
@@ -57,7 +57,7 @@ returns-in_ok-group_steps-in-Subtree g c =
     let h = g.G.FragmentGrammar.grammar c.args.grammar.now in
     only_next h c.args.source.now c.args.log.now c.args.log.now c.args.frames.now.items c.group_steps.new.frames.items
     c.args.thread c.in_ok-group_steps-in-Subtree.field-0 c.in_ok-group_steps-in-Subtree.ensures.over
-    (c.in_ok-group_steps-in-Subtree.ensures.steps h c.args.log.now)
+    (c.in_ok-group_steps-in-Subtree.ensures.steps h c.args.log.now (sym c.dialect-dialect.ensures))
 
 pub returns-in-Literal : goal.returns-in-Literal
 returns-in-Literal g c =
@@ -65,6 +65,6 @@ returns-in-Literal g c =
     c.args.frames.now.items c.args.frames.now.items c.args.thread c.plain_steps.result c.plain_steps.ensures.over
     (λ o s. record {
       now = c.plain_steps.ensures.steps (g.G.FragmentGrammar.grammar c.args.grammar.now) c.args.log.now
-          c.args.frames.now.items o s;
+          c.args.frames.now.items o (sym c.dialect.ensures) s;
       kept = keeps_not c.args.log.now c.args.frames.now.items;
     })

@@ -61,19 +61,20 @@ repetition_steps-requires-clause-number g c =
 
 pub returns-in-Subtree : goal.returns-in-Subtree
 returns-in-Subtree g c = λ o s.
-    c.group_steps.ensures.steps (g.G.FragmentGrammar.grammar c.args.grammar.now) c.args.log.now o s
+    c.group_steps.ensures.steps (g.G.FragmentGrammar.grammar c.args.grammar.now) c.args.log.now
+    (sym c.dialect-dialect.ensures) o s
 
 pub returns-in-Expression : goal.returns-in-Expression
 returns-in-Expression g c = λ o s. record {
   now = c.plain_steps.ensures.steps (g.G.FragmentGrammar.grammar c.args.grammar.now) c.args.log.now
-      c.args.frames.now.items o s;
+      c.args.frames.now.items o (sym c.dialect.ensures) s;
   kept = keeps_not c.args.log.now c.args.frames.now.items;
 }
 
 pub returns-in-Literal : goal.returns-in-Literal
 returns-in-Literal g c = λ o s. record {
   now = c.plain_steps-in-Literal.ensures.steps (g.G.FragmentGrammar.grammar c.args.grammar.now) c.args.log.now
-      c.args.frames.now.items o s;
+      c.args.frames.now.items o (sym c.dialect-in-Literal.ensures) s;
   kept = keeps_not c.args.log.now c.args.frames.now.items;
 }
 

@@ -1,4 +1,4 @@
-use Rattle.std.proofs.Common.{None, ◌-◌}
+use Rattle.std.proofs.Common.{None, ◌-◌, sym}
 use Rattle.mbe_tt.specs.Views.View.{trees}
 use Rattle.mbe_semantics.specs.Readings.Input.{input_of}
 use Rattle.mbe_ops.specs.Views.{op_of, ops_of}
@@ -8,9 +8,9 @@ use Rattle.mbe_matcher.proofs.StepLemmas.{as_model, none_steps, over_alone, plai
 use Rattle.mbe_matcher.proofs.steps.plain_steps.Goals as goal
 
 pub returns-in_default-clause-steps : goal.returns-in_default-clause-steps
-returns-in_default-clause-steps g c = λ h log frames o s.
+returns-in_default-clause-steps g c = λ h log frames o d s.
     let src = c.args.source.now in
-    let e = rw c.here.ensures at c.in_default.ensures in
+    let e = rw (c.here.ensures, sym d) at c.in_default.ensures in
     rw c.no_steps.ensures
     (as_model log frames (λ x. AreStepsNow (input_of h (trees src.whole)) (trees src.whole) src.offset log frames x
     none_steps)
@@ -19,7 +19,7 @@ returns-in_default-clause-steps g c = λ h log frames o s.
     c.requires.plain e))
 
 pub returns-clause-steps : goal.returns-clause-steps
-returns-clause-steps g c = λ h log frames o s.
+returns-clause-steps g c = λ h log frames o d s.
     let src = c.args.source.now in
     let b = c.args.thread in
     let p : Thread g.row.A.Denot = record {
@@ -28,7 +28,7 @@ returns-clause-steps g c = λ h log frames o s.
       up = b.up;
       handle = b.handle;
     } in
-    let e = rw c.here.ensures at c.in-Some.ensures in
+    let e = rw (c.here.ensures, sym d) at c.in-Some.ensures in
     rw c.over.ensures
     (as_model log frames (λ x. AreStepsNow (input_of h (trees src.whole)) (trees src.whole) src.offset log frames x
     (over_steps c.in-Some.width None p))

@@ -1,4 +1,4 @@
-use Rattle.std.proofs.Common.{◌-◌, None, Some}
+use Rattle.std.proofs.Common.{◌-◌, None, Some, sym}
 use Rattle.mbe_tt.specs.Views.View.{trees}
 use Rattle.mbe_semantics.specs.Syntax.Op.{no_ops}
 use Rattle.mbe_semantics.specs.Readings.Input.{input_of}
@@ -23,7 +23,7 @@ push_nested-requires-clause-child g c = let a =
     c.requires.account in has_entries c.args.log.now c.args.thread.handle a.0 a.1
 
 pub returns-in_default : goal.returns-in_default
-returns-in_default g c = λ h frames at o s.
+returns-in_default g c = λ h frames e at o s.
     let src = c.args.source.now in
     let b = c.args.thread in
     let old = c.args.log.now in
@@ -39,7 +39,7 @@ returns-in_default g c = λ h frames at o s.
     c.push_nested.new.parent t
     (in_rounds old frames b.up up at.0 u c.args.rounds.now t.around at.1 at.2 at.3)
     (rw c.again-outside.ensures at (c.in_ok-push_nested.ensures.ok a t.account))
-    (rw c.here.ensures at c.in_default.ensures)))
+    (rw (c.here-here.ensures, sym e) at c.in_default.ensures)))
 
 pub push_default-requires : goal.push_default-requires
 push_default-requires g c =
@@ -48,7 +48,7 @@ push_default-requires g c =
     ((c.in_ok-push_nested.ensures.ok a.0 a.1).kept.others c.args.thread.handle a.0 a.1)
 
 pub returns : goal.returns
-returns g c = λ h frames at o s.
+returns g c = λ h frames e at o s.
     let src = c.args.source.now in
     let b = c.args.thread in
     let old = c.args.log.now in
@@ -77,5 +77,6 @@ returns g c = λ h frames at o s.
     (λ a up t. round_more h (trees src.whole) src.offset old mid frames b a up u r c.push_nested.new.parent t
     (in_rounds old frames b.up up at.0 u r t.around at.1 at.2 at.3)
     (rw c.again-outside.ensures at (c.in_ok-push_nested.ensures.ok a t.account))
-    new c.push_default.new.handle n at.0 (rw c.here.ensures at c.in-Some.ensures) c.in_ok-push_default.ensures.ok at.1
+    new c.push_default.new.handle n at.0 (rw (c.here-here.ensures, sym e) at c.in-Some.ensures)
+    c.in_ok-push_default.ensures.ok at.1
     at.2 at.3))

@@ -1,4 +1,4 @@
-use Rattle.std.proofs.Common.{arith}
+use Rattle.std.proofs.Common.{arith, sym}
 use Rattle.mbe_matcher.proofs.StepLemmas.{first_op, no_op}
 use Rattle.mbe_matcher.proofs.steps.steps.Goals as goal
 
@@ -11,4 +11,4 @@ op_steps-requires-clause-tail g c = first_op c.args.thread.tail.now c.op-item.re
 
 pub returns-in-empty : goal.returns-in-empty
 returns-in-empty g c = λ o s. (rw c.deref.ensures.value at c.end_steps.ensures)
-    (g.G.FragmentGrammar.grammar c.args.grammar.now) o s
+    (g.G.FragmentGrammar.grammar c.args.grammar.now) (sym c.dialect.ensures) o s

@@ -25,7 +25,7 @@ returns-in_default-clause-steps g c = λ frames o s.
     (λ a up t. record {
       now = variable_none (trees src.whole) src.offset c.args.log.now frames (input_of h (trees src.whole))
           c.args.name.now c.args.kind c.requires.tail.0 (ops_of c.args.rest.now) a up
-          (not_taken g.row.A.Denot _ _ c.args.kind taken);
+          (not_taken g.row.A.Denot h.dialect _ _ c.args.kind taken);
       kept = keeps_not c.args.log.now frames;
     }))
 
@@ -38,17 +38,17 @@ returns-clause-steps g c = λ frames o s.
     let old = c.args.log.now in
     let new = c.push_fragment.new.self in
     let left = c.eat_fragment.new.src in
-    let x : Fragment = record { trees = trees tree; style = style_of c.args.kind } in
+    let x : Fragment = record { trees = trees tree; style = style_of h.dialect c.args.kind } in
     let p : Thread g.row.A.Denot = record {
       tail = c.args.rest;
       number = b.number - 1;
       up = b.up;
       handle = c.push_fragment.new.handle;
     } in
-    let taken = taken_is tree _ left (rest_at (trees src.whole) src.offset) c.args.kind
+    let taken = taken_is h.dialect tree _ left (rest_at (trees src.whole) src.offset) c.args.kind
     (takes_cut h c.args.kind (rest_at (trees src.whole) src.offset))
     (rw (c.in-Some.is, c.here-beyond.ensures) at c.in_ok-tree.ensures) in
-    let pushed = rw c.fragment_of_kind.ensures at c.in_ok-push_fragment.ensures.ok in
+    let pushed = rw (c.fragment_of_kind-fragment.ensures, c.dialect.ensures) at c.in_ok-push_fragment.ensures.ok in
     rw c.over.ensures
     (as_model old frames (λ y. AreSteps (input_of h (trees src.whole)) (trees src.whole) src.offset old new frames
     frames y (over_steps c.flat_len.result (Some left) p))

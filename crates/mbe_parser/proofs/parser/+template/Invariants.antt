@@ -1,24 +1,22 @@
-use Rattle.std.proofs.Common.{◌≤◌, ◌+◌, ◌*◌}
+use Rattle.std.proofs.Common.{◌≡◌, ◌+◌, ◌*◌}
 use Rattle.mbe_tt.specs.Trees.Tree.{flat_len}
-use Rattle.mbe_semantics.specs.Syntax.Op.{Ops}
-use Rattle.mbe_semantics.specs.Syntax.Template.{Fault, Template, TemplateFault}
 use Rattle.mbe_parser.specs.ParserResults.{mode_of}
-use Rattle.mbe_parser.proofs.ReaderLemmas.{with_front}
+use Rattle.mbe_parser.proofs.ReaderLemmas.{SoFar}
 use Rattle.mbe_parser.proofs.parser.+template.Given as goal
 
 abbrev pub decreases-parse_template_within : goal.decreases-parse_template_within
 decreases-parse_template_within g l = 2 * flat_len l.src + 1
+
+abbrev pub decreases-push_group : goal.decreases-push_group
+decreases-push_group g l = 2 * flat_len l.src.now
 
 abbrev pub decreases-push_at_punct : goal.decreases-push_at_punct
 decreases-push_at_punct g l = 2 * flat_len l.src.now
 
 abbrev pub invariant-parse_template_within-trees : goal.invariant-parse_template_within-trees
 invariant-parse_template_within-trees g l = record {
-  more : (os : Ops) → Template (λ ctx e. g.E.Fn.post l.edition (ctx, tt) e) (mode_of l.mode) l.src os
-      → Template (λ ctx e. g.E.Fn.post l.edition (ctx, tt) e) (mode_of l.mode) l.fn.src (with_front l.ops.items os);
-  fault : (f : Fault) → TemplateFault (λ ctx e. g.E.Fn.post l.edition (ctx, tt) e) (mode_of l.mode) f l.src
-      → TemplateFault (λ ctx e. g.E.Fn.post l.edition (ctx, tt) e) (mode_of l.mode) f l.fn.src;
-  smaller : flat_len l.src ≤ flat_len l.fn.src;
+  so_far : SoFar (λ ctx e. g.E.Fn.post l.edition (ctx, tt) e) (mode_of l.mode) l.fn.src l.src l.ops.items l.empty;
+  whole : l.whole ≡ flat_len l.fn.src;
 }
 
 abbrev pub decreases-parse_template_within-trees : goal.decreases-parse_template_within-trees

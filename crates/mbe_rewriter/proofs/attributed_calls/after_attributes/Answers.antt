@@ -1,4 +1,4 @@
-use Rattle.std.proofs.Common.{rules, sym, arith}
+use Rattle.std.proofs.Common.{sym, arith}
 use Rattle.mbe_tt.specs.Views.View.{trees}
 use Rattle.mbe_rewriter.proofs.SubjectLemmas.{all_past, no_past, one_past}
 use Rattle.mbe_rewriter.proofs.attributed_calls.after_attributes.Goals as goal

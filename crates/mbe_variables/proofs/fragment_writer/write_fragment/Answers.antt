@@ -4,6 +4,7 @@ use Rattle.mbe_tt.specs.Trees.Tree.{alone}
 use Rattle.mbe_tt.specs.Trees.Top.{top_group}
 use Rattle.mbe_semantics.specs.Transcription.FragmentTrees.{path_trees}
 use Rattle.mbe_variables.proofs.FragmentLemmas.{nothing_written, whole_written, tokens_written, path_written, if_ok}
+use Rattle.mbe_variables.proofs.WholeLemmas.{whole_appends}
 use Rattle.mbe_variables.proofs.fragment_writer.write_fragment.Goals as goal
 
 pub returns-in-Tokens-clause-written : goal.returns-in-Tokens-clause-written
@@ -33,3 +34,10 @@ returns-in-TokensOwned-clause-written g c =
     (top_group c.in-TokensOwned.tree) (trees c.view.result) c.args.builder.now
     c.extend_with_tt_alone-in-TokensOwned.new.self c.view.ensures)
     c.extend_with_tt_alone-in-TokensOwned.ensures.ok)
+
+pub returns-in-Whole-clause-written : goal.returns-in-Whole-clause-written
+returns-in-Whole-clause-written g c =
+    rw c.in-Whole.is (if_ok c.write_whole.result
+    (whole_appends (λ s t. g.M.Fn.post c.args.marker (s, tt) t) c.args.call_site c.args.id c.in-Whole.kind
+    (trees c.in-Whole.tree) c.args.builder.now c.write_whole.new.builder)
+    c.write_whole.ensures.written)

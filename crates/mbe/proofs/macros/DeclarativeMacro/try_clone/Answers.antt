@@ -1,7 +1,6 @@
 use Rattle.std.proofs.Common.{◌∙◌, sym, ap}
-use Rattle.std.specs.List.{list_any}
 use Rattle.mbe_parser.specs.RuleViews.{rules_seen}
-use Rattle.mbe_parser.proofs.RefusalLemmas.{refused_reads}
+use Rattle.mbe_parser.proofs.EmptyRules.{refuses}
 use Rattle.mbe.proofs.macros.DeclarativeMacro.try_clone.Goals as goal
 
 pub invariant_of-result : goal.invariant_of-result
@@ -9,5 +8,5 @@ invariant_of-result g c =
     let same = c.in_ok-rules.ensures ∙ ap rules_seen c.deref.ensures.value in
     record {
       tells_refusal = λ refused. c.in_ok-err.ensures
-          ∙ c.args.self.now.tells_refusal (sym (ap (list_any refused_reads) same) ∙ refused);
+          ∙ c.args.self.now.tells_refusal (sym (ap refuses same) ∙ refused);
     }

@@ -2,7 +2,7 @@ use Rattle.std.proofs.Common.{Some, None, ap, sym, subst, ◌∙◌}
 use Rattle.std.proofs.lemmas.Result.{IfOk-weaker}
 use Rattle.mbe_tt.specs.Views.View.{trees}
 use Rattle.mbe_semantics.specs.Expansion.ParsedMacro.{IsParsedMacro}
-use Rattle.mbe_parser.specs.FaultLocator.Refusals.{refusal_of}
+use Rattle.mbe_parser.specs.Refusals.{refusal_of}
 use Rattle.mbe_rewriter.specs.MacroItems.{Body}
 use Rattle.mbe_diagnostics.specs.Lints.ParsedMacroViews.{macro_read}
 use Rattle.mbe_diagnostics.proofs.LintLemmas.LocationLemmas.{by_both, not_refused_at, fault_in_body}

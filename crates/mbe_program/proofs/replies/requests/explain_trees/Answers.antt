@@ -34,6 +34,7 @@ returns-in-Rust-clause-fails g c =
         keywords = t.ensures.keywords;
         starts = t.ensures.starts;
         closed = t.ensures.closed;
+        its_dialect = t.ensures.dialect;
         its_edition = t.ensures.edition;
         no_others = t.ensures.editions;
       },
@@ -54,6 +55,7 @@ returns-in_ok-rules-in-Text-clause-fails g c =
         read = table_read c.args.grammar.now rules.rules.nodes.items rules.rules.keywords.items rules.rules.starts
             t.result
             rules.ensures.read t.ensures.nodes t.ensures.keywords t.ensures.starts;
+        its_dialect = t.ensures.dialect;
         its_edition = t.ensures.edition;
         no_others = t.ensures.editions;
       },

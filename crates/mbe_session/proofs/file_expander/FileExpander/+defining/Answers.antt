@@ -14,7 +14,7 @@ use Rattle.mbe_session.proofs.file_expander.FileExpander.+defining.Goals as goal
 
 pub define_in-trees-init : goal.define_in-trees-init
 define_in-trees-init g t c = (
-  none_defined (setting_of c.args.self.now).edition c.args.levels (place_of c.args.place) (trees c.args.tokens)
+  none_defined (setting_of c.args.self.now).language c.args.levels (place_of c.args.place) (trees c.args.tokens)
       (scope_of c.args.self.now.scope)
       c.none-attributes.result c.none-attributes.ensures,
   refl,
@@ -25,7 +25,7 @@ define_in-trees-init g t c = (
 
 pub define_in-returns-in-End-clause-defines : goal.define_in-returns-in-End-clause-defines
 define_in-returns-in-End-clause-defines g t c =
-    all_defined (setting_of c.args.self.now).edition c.args.levels (place_of c.args.place) (trees c.args.tokens)
+    all_defined (setting_of c.args.self.now).language c.args.levels (place_of c.args.place) (trees c.args.tokens)
     (trees c.trees.rest)
     (scope_of c.args.self.now.scope) (scope_of c.trees.self.scope) c.trees.attributes c.trees.invariant.0
     (front_end (trees c.trees.rest) (front_is front_item_shown c.front_of.result v.End (trees c.trees.rest)
@@ -47,7 +47,7 @@ define_in-trees-smaller-in-MacroCall g t c =
 
 pub define_in-trees-preserved-in-MacroCall : goal.define_in-trees-preserved-in-MacroCall
 define_in-trees-preserved-in-MacroCall g t c = (
-  call_defined (setting_of c.args.self.now).edition c.args.levels (place_of c.args.place) (trees c.args.tokens)
+  call_defined (setting_of c.args.self.now).language c.args.levels (place_of c.args.place) (trees c.args.tokens)
       (trees c.trees.rest)
       (call_shown c.in-MacroCall.call) (scope_of c.args.self.now.scope) (scope_of c.trees.self.scope) c.trees.attributes
       c.trees.invariant.0
@@ -62,14 +62,14 @@ define_in-trees-preserved-in-MacroCall g t c = (
 
 pub define_in-trees-preserved-in-Definition : goal.define_in-trees-preserved-in-Definition
 define_in-trees-preserved-in-Definition g t c = (
-  definition_defined (setting_of c.args.self.now).edition (setting_of c.trees.self).edition c.args.levels
+  definition_defined (setting_of c.args.self.now).language (setting_of c.trees.self).language c.args.levels
       (place_of c.args.place)
       c.visibility.result c.parent.result.now
       (trees c.args.tokens) (trees c.trees.rest) (macro_definition_shown c.in-Definition.defined)
       (scope_of c.args.self.now.scope)
       (scope_of c.trees.self.scope) (scope_of c.read_silently.new.self.scope) c.trees.attributes
       c.after_definition-attributes.result
-      (ap (λ (x : Setting). x.edition) c.trees.invariant.3) c.trees.invariant.0
+      (ap (λ (x : Setting). x.language) c.trees.invariant.3) c.trees.invariant.0
       (front_is front_item_shown c.front_of.result (v.Definition c.in-Definition.defined) (trees c.trees.rest)
       c.front_of.ensures c.in-Definition.is)
       c.visibility.ensures c.parent.ensures c.in_ok-_number-in-Definition.ensures.read
@@ -88,14 +88,14 @@ define_in-trees-smaller-in-Some g t c =
 
 pub define_in-trees-preserved-in-Some : goal.define_in-trees-preserved-in-Some
 define_in-trees-preserved-in-Some g t c = (
-  module_defined (setting_of c.args.self.now).edition (setting_of c.trees.self).edition c.args.levels
+  module_defined (setting_of c.args.self.now).language (setting_of c.trees.self).language c.args.levels
       (place_of c.args.place)
       (trees c.args.tokens) (trees c.trees.rest) (trees c.in-Tree.after) (element_tree c.in-Tree.tree)
       (module_shown c.in-Some.item)
       (scope_of c.args.self.now.scope)
       (scope_of c.trees.self.scope) (scope_of c.define_module.new.self.scope) c.trees.attributes
       c.none-attributes-in-Some.result
-      (ap (λ (x : Setting). x.edition) c.trees.invariant.3) c.trees.invariant.0
+      (ap (λ (x : Setting). x.language) c.trees.invariant.3) c.trees.invariant.0
       (front_is front_item_shown c.front_of.result (v.Tree c.in-Tree.tree c.in-Tree.after) (trees c.trees.rest)
       c.front_of.ensures c.in-Tree.is)
       (option_is module_shown c.module_at.result (module_at (trees c.trees.rest)) c.in-Some.item c.module_at.ensures
@@ -109,14 +109,14 @@ define_in-trees-preserved-in-Some g t c = (
 
 pub define_in-trees-preserved : goal.define_in-trees-preserved
 define_in-trees-preserved g t c = (
-  tree_defined (setting_of c.args.self.now).edition (setting_of c.trees.self).edition c.args.levels
+  tree_defined (setting_of c.args.self.now).language (setting_of c.trees.self).language c.args.levels
       (place_of c.args.place)
       (trees c.args.tokens) (trees c.trees.rest) (trees c.in-Tree.after) (element_tree c.in-Tree.tree)
       (scope_of c.args.self.now.scope)
       (scope_of c.trees.self.scope) (scope_of c.define_tree.new.self.scope) c.trees.attributes
       c.with_front_attribute.result
       c.after-attributes.result
-      (ap (λ (x : Setting). x.edition) c.trees.invariant.3) c.trees.invariant.0
+      (ap (λ (x : Setting). x.language) c.trees.invariant.3) c.trees.invariant.0
       (front_is front_item_shown c.front_of.result (v.Tree c.in-Tree.tree c.in-Tree.after) (trees c.trees.rest)
       c.front_of.ensures c.in-Tree.is)
       (option_isnt module_shown c.module_at.result (module_at (trees c.trees.rest)) c.module_at.ensures c.in-None.is)
@@ -130,5 +130,5 @@ define_in-trees-preserved g t c = (
 
 pub define_inside-returns-then-levels-eq0-clause-defines : goal.define_inside-returns-then-levels-eq0-clause-defines
 define_inside-returns-then-levels-eq0-clause-defines g t c =
-    none_inside (setting_of c.args.self.now).edition c.args.levels (place_of c.args.place) (trees c.args.tokens)
+    none_inside (setting_of c.args.self.now).language c.args.levels (place_of c.args.place) (trees c.args.tokens)
     (scope_of c.args.self.now.scope) (search rules)

@@ -22,7 +22,7 @@ decreases-define_in-trees g l = flat_len (trees l.rest)
 
 abbrev pub invariant-define_in-trees : goal.invariant-define_in-trees
 invariant-define_in-trees g l =
-    Defining (setting_of l.initial.self).edition l.fn.levels (place_of l.fn.place) (trees l.fn.tokens)
+    Defining (setting_of l.initial.self).language l.fn.levels (place_of l.fn.place) (trees l.fn.tokens)
     (scope_of l.initial.self.scope) l.attributes (trees l.rest) (scope_of l.self.scope)
     × (l.self.fuel ≡ l.initial.self.fuel)
     × (l.self.contexts.items ≡ l.initial.self.contexts.items)

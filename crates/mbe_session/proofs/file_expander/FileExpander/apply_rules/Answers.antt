@@ -1,11 +1,10 @@
 use Rattle.std.proofs.Common.{rules, refl, ap, ◌∙◌}
 use Rattle.std.specs.Prelude.{Some, None}
-use Rattle.mbe_rewriter.specs.WholeFragments.Receivers.{parenthesize_receivers}
 use Rattle.mbe_rewriter.specs.MacroItemViews.{call_shown}
 use Rattle.mbe_ops.specs.Errors.ErrorViews.{error_of, errors_of}
 use Rattle.mbe_session.specs.SessionViews.{setting_of, state_of}
 use Rattle.mbe.specs.MacroViews.{macro_of}
-use Rattle.mbe_session.specs.CallExpansion.{by_definition, by_rules, with_step_contexts}
+use Rattle.mbe_session.specs.CallExpansion.{by_definition, by_rules, settled_in, with_step_contexts}
 use Rattle.mbe_session.proofs.FaultLemmas.{sound}
 use Rattle.mbe_session.proofs.MarkLemmas.{makes}
 use Rattle.mbe_session.proofs.CallLemmas.{found_as, there, not_there}
@@ -25,7 +24,8 @@ returns-in-Some-err-clause-applies g c = (
       (found_as _ c.rules.result c.in-Some.rules _ c.rules.ensures (search rules))
       (makes (setting_of c.args.self.now) (state_of c.args.self.now) (call_shown c.args.call)
       (macro_of c.in-Some.rules.now)
-      c.in_ok-argument.argument c.in_ok-value.field-0.value.0 (parenthesize_receivers c.in_ok-value.field-0.value.0)
+      c.in_ok-argument.argument c.in_ok-value.field-0.value.0
+      (settled_in c.args.self.now.grammar.dialect c.in_ok-value.field-0.value.0)
       c.in_ok-value.field-0.value.1 (errors_of c.in_ok-value.field-0.err) (Some (error_of c.in-Some-err.error))
       c.in_ok-value.ensures.expands (λ s t asked. search rules) (search rules) (search rules) refl),
   search rules,

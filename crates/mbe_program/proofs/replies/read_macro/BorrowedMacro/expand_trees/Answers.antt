@@ -20,5 +20,6 @@ returns-in-Text g c =
     let t = c.table-table in
     by_text (borrowed c.args.self.now) c.in-Text.rules t.result c.args.call_site c.args.argument.now
     (answer_of c.expand_by-in-Text.result)
-    c.in-Text.is t.ensures.nodes t.ensures.keywords t.ensures.starts t.ensures.edition t.ensures.editions
+    c.in-Text.is t.ensures.nodes t.ensures.keywords t.ensures.starts t.ensures.dialect t.ensures.edition
+    t.ensures.editions
     c.expand_by-in-Text.ensures

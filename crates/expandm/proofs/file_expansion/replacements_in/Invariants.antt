@@ -1,8 +1,0 @@
-use Rattle.std.proofs.Common.{◌≡◌, map, take}
-use Rattle.mbe_rewriter.specs.ReplacementViews.{part_of}
-use Rattle.expandm.specs.FileExpansion.{replacements_in}
-use Rattle.expandm.proofs.file_expansion.replacements_in.Given as goal
-
-abbrev pub invariant-loop-part : goal.invariant-loop-part
-invariant-loop-part l =
-    map part_of l.found.items ≡ replacements_in l.number (map part_of (take l.part-index l.parts))

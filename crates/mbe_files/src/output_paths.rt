@@ -1,0 +1,121 @@
+// The paths of expanded files, relative to the folder that they are written into.
+use mbe_cfg::files::paths::folder_of;
+use mbe_session::file_set::FileSet;
+use std::alloc::{AllocError, Global};
+
+// Returns the path within a folder. `None` if the path isn't in that folder.
+fn after_folder<'p>(folder: &str, path: &'p str) -> Option<&'p str> {
+    if folder.is_empty() {
+        return if path.starts_with('/') {
+            None
+        } else {
+            Some(path)
+        };
+    }
+    let rest = path.strip_prefix(folder)?;
+    if folder.ends_with('/') {
+        Some(rest)
+    } else {
+        rest.strip_prefix('/')
+    }
+}
+
+// Returns the components of a path, without `.` and with each `..` resolved. `None` if a `..` leads
+// out of where the path begins.
+fn path_parts<'p>(alloc: Global, path: &'p str) -> Result<Option<Vec<&'p str>>, AllocError> {
+    let mut parts = Vec::new(alloc);
+    for part in path.split('/') {
+        if part == ".." {
+            if parts.pop().is_none() {
+                return Ok(None);
+            }
+        } else if !part.is_empty() && part != "." {
+            parts.push(part)?;
+        }
+    }
+    Ok(Some(parts))
+}
+
+fn joined(alloc: Global, parts: &[&str]) -> Result<String, AllocError> {
+    let mut path = String::new(alloc);
+    for part in parts {
+        if !path.is_empty() {
+            path.push('/')?;
+        }
+        path.push_str(*part)?;
+    }
+    Ok(path)
+}
+
+// Returns the path of a file relative to a folder. `None` if the file isn't below it.
+fn relative(alloc: Global, folder: &str, path: &str) -> Result<Option<String>, AllocError> {
+    let Some(rest) = after_folder(folder, path) else {
+        return Ok(None);
+    };
+    match path_parts(alloc, rest)? {
+        Some(parts) => Ok(Some(joined(alloc, parts.as_slice())?)),
+        None => Ok(None),
+    }
+}
+
+/// Returns the last component of a path.
+pub fn file_name(path: &str) -> &str {
+    path.rsplit_once('/').map_or(path, |(_, last)| last)
+}
+
+// Returns where a file is written, relative to the folder of the output. A root, for which `root`
+// is `None`, goes to its own name. A module's file keeps its path relative to the folder of its
+// root. The inner error is the text of a message: the module's file isn't below that folder.
+fn target(
+    alloc: Global,
+    path: &str,
+    root: Option<&str>,
+) -> Result<Result<String, String>, AllocError> {
+    let Some(root) = root else {
+        return Ok(Ok(String::from_str(alloc, file_name(path))?));
+    };
+    match relative(alloc, folder_of(root), path)? {
+        Some(target) => Ok(Ok(target)),
+        None => Ok(Err(format!(in alloc;
+            "`{path}`, of a module, isn't below the folder of `{root}`"
+        )?)),
+    }
+}
+
+fn is_among(targets: &[Option<String>], target: &str) -> bool {
+    targets.iter().any(|other| match other {
+        Some(other) => other.as_str() == target,
+        None => false,
+    })
+}
+
+/// Returns where each file is written, relative to the folder; `None` for the files of external
+/// crates. The first `root_count` files are the roots of the session's own crates. The inner error
+/// is the text of a message: a file has no such path, or two files have the same.
+pub fn targets(
+    alloc: Global,
+    files: &FileSet,
+    folder: &str,
+    root_count: usize,
+) -> Result<Result<Vec<Option<String>>, String>, AllocError> {
+    let mut found: Vec<Option<String>> = Vec::new(alloc);
+    for number in 0..files.texts.len() {
+        if !files.is_local(number, root_count) {
+            found.push(None)?;
+            continue;
+        }
+        let (path, root) = files.path(number).unwrap_or(("", None));
+        match target(alloc, path, root)? {
+            Err(message) => return Ok(Err(message)),
+            Ok(target) => {
+                if is_among(found.as_slice(), target.as_str()) {
+                    return Ok(Err(format!(in alloc;
+                        "two files would be written as `{folder}/{target}`"
+                    )?));
+                }
+                found.push(Some(target))?;
+            }
+        }
+    }
+    Ok(Ok(found))
+}
