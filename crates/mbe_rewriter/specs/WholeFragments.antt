@@ -8,4 +8,5 @@ pub mod TreeSearch
 pub mod VariableParentheses
 pub mod BuiltinCalls
 pub mod FragmentGroups
+pub mod GroupLaws
 pub mod Operands

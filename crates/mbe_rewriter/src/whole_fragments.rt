@@ -7,6 +7,7 @@ pub mod builtin_calls;
 pub mod builtin_names;
 pub mod fragment_groups;
 mod front_tokens;
+pub mod laws;
 pub mod line_column;
 pub mod operands;
 pub mod receivers;
