@@ -146,7 +146,8 @@ module _ (g : Grammar) (lawful : IsLawful g) (call_site : Span) (input : Top) wh
       let both = unfit g call_site input r v right near refl err env many u refl in
       (both.0, near, both.1, err, env, inl u, commitment r.reads checked v right)
 
-  faulty_fails : (r : Rule) → Checked r.reads → (is : Items) → IsVerdict g r.reads input.1 one_reading → Fits g r.reads input.1 is
+  faulty_fails : (r : Rule) → Checked r.reads → (is : Items)
+      → IsVerdict g r.reads input.1 one_reading → Fits g r.reads input.1 is
       → faults (environment_of is) [] r.writes ≡ true → Fails r
   faulty_fails r checked is right fits fault =
       let env : Environment = environment_of is in

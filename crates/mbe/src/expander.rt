@@ -215,7 +215,7 @@ fn arm_index(idx: usize) -> MatchedArmIndex
     u32::try_from(idx).ok()
 }
 
-// Keeps the next candidate if it is nearer than the best so far.
+// Keeps the next candidate if it is closer than the best so far.
 fn keep_nearer<'a, A: Allocator>(nearest: &mut Option<Candidate<'a, A>>, next: Candidate<'a, A>)
     ensures { nearest.new ≡ Some (nearer_of nearest.old next.entry) }
 {

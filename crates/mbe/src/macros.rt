@@ -167,15 +167,15 @@ impl<A: Allocator + Copy> DeclarativeMacro<A> {
     /// Expands a call. The rule is the first one that has the call's style, matches the whole
     /// argument, and has a template that is written without a fault.
     ///
-    /// No pattern may have been refused: `err` isn't `RepetitionEmptyTokenTree`, or there is no
-    /// rule.
+    /// It requires that no pattern was refused. So `err` isn't `RepetitionEmptyTokenTree`, or there
+    /// is no rule.
     ///
     /// - `tt` is the argument: the trees inside its group are matched.
     /// - `grammar` says what the fragments of most kinds are.
     /// - `marker` returns the span for a token of the template, from the token's own span.
     ///   Fragments keep their spans.
-    /// - `call_site` is the span of the group around the expansion, of the integers that
-    ///   `${count(..)}`, `${index(..)}` and `${len(..)}` write, and of the `::` that a path gets.
+    /// - `call_site` is the span of the group around the expansion. The integers of `${count(..)}`,
+    ///   `${index(..)}` and `${len(..)}` have it too, and the `::` that a path gets.
     ///
     /// Returns the expansion as a token tree, with the index of its rule among all rules of the
     /// definition, if that fits 32 bits. A rule matches if it has exactly one reading of the whole
@@ -183,8 +183,8 @@ impl<A: Allocator + Copy> DeclarativeMacro<A> {
     ///
     /// If no rule applies, there is an error beside the tree:
     ///
-    /// - Some rule has the style: the index is that of the closest rule. That is the earliest of
-    ///   those with the fewest unmatched trees and, among these, the most bindings. The tree is its
+    /// - Some rule has the style: the index is the closest rule's. The closest rule has the fewest
+    ///   unmatched trees. Ties go to the most bindings, then to the lower index. The tree is its
     ///   expansion under the bindings that its match reports. The error is the first one of the
     ///   match, or of the expansion.
     /// - No rule has the style: the tree is empty, there is no index, and the error is
@@ -259,10 +259,14 @@ impl<A: Allocator + Copy> DeclarativeMacro<A> {
     /// doesn't apply. Then `expand` tries no later rule. It returns `false` in rust-analyzer's
     /// dialect.
     ///
-    /// It requires what `explain` requires. In rustc's dialect, a call ends after a local
-    /// ambiguity, after several readings, at a rule whose substitution has a fault, and where a
-    /// fragment begins and has a fault inside. The only failure is `AllocError`, if out of memory
-    /// here or in the grammar.
+    /// It requires what `explain` requires. In rustc's dialect, a call ends at a rule if one of
+    /// these holds:
+    ///
+    /// - the match has a local ambiguity or several readings;
+    /// - a fragment begins and has a fault inside;
+    /// - the rule matches, and its substitution has a fault.
+    ///
+    /// The only failure is `AllocError`, if out of memory here or in the grammar.
     pub fn commits<G: FragmentGrammar>(
         &self,
         alloc: A,

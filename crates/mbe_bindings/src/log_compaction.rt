@@ -6,18 +6,17 @@
 // and n of those lists are needed at the next offset. So a match makes a compacted log from time to
 // time and drops the old one.
 //
-// The search (`find_live`) marks how many of the first entries of each list are needed: those of
-// the
-// handles, and, for each of these entries, those that it stands for. Lists keep their order, and
-// get new numbers from 0 on. Here is an example with lists of commands alone and one handle, where
-// `0,1` is the first entry of list 0:
+// The search (`find_live`) marks how many of the first entries of each list are needed. It starts
+// with the entries of the handles. For each marked entry, it marks the entries that this one refers
+// to. Lists keep their order, and get new numbers from 0 on. Here is an example with lists of
+// commands alone and one handle, where `0,1` is the first entry of list 0:
 //
 //     lists                        handle   marks    tables        new lists            handle
 //     0: x y   1: ->0,1 z w   2: v  1,2      1 2 -   0,1 1,2 -     0: x   1: ->0,1 z     1,2
 //
-// Nothing is proved of the search. Its result is checked before it is used: everything that a kept
-// entry stands for has to be kept (`are_kept`), and the lists of the extent have to stay as they
-// are (`are_unmoved`).
+// Nothing is proved of the search. Its result is checked before it is used. Everything that a kept
+// entry refers to must be kept (`are_kept`). The lists of the extent must stay as they are
+// (`are_unmoved`).
 ghost use Rattle.std.specs.Prelude.{◌≡◌, IfOk, IfSome, IsTrue, option_map, slice_get};
 ghost use Rattle.mbe_semantics.specs.Bindings.Account.{Handle as HandleSpec, Log};
 ghost use Rattle.mbe_log.specs.HandleChanges.{KeepsHandles};

@@ -33,7 +33,8 @@ blank_hold rules before after blank first n is = elim (first n is) [
   | inr zero ↦ subst (Holds rules) (sym zero) spec.always
 ]
 
-pub rule_holds : (rules : List Rule) (r : Rule) (before after : List Bool) → Contains rules r → ApplyKeeps r before after
+pub rule_holds : (rules : List Rule) (r : Rule) (before after : List Bool)
+    → Contains rules r → ApplyKeeps r before after
     → AllHold rules before → AllHold rules after
 rule_holds rules r before after has keeps h n is = elim (keeps n is) [
   | inl old ↦ h n old

@@ -81,9 +81,12 @@ sign_example = record {
         (item (item no_items (matched 1)) (taken (codes "lit") styles.stripped
         (alone_at 1 1 45 (number_at 1 2 (codes "1") none)))) refl refl
         ((_, (_, refl, refl), (refl, refl)), refl) refl,
-    a_later_one _ _ _ 2 3 _ (never_at g w one_rule signed_argument (no_one g w)) (never_final g FnLike signed_argument one_rule)
-        (a_later_one _ _ _ 1 2 _ (never_at g w two_rule signed_argument (no_two g w)) (never_final g FnLike signed_argument two_rule)
-        (a_later_one _ _ _ 0 1 _ (never_at g w three_rule signed_argument (no_three g w)) (never_final g FnLike signed_argument three_rule)
+    a_later_one _ _ _ 2 3 _ (never_at g w one_rule signed_argument (no_one g w))
+        (never_final g FnLike signed_argument one_rule)
+        (a_later_one _ _ _ 1 2 _ (never_at g w two_rule signed_argument (no_two g w))
+        (never_final g FnLike signed_argument two_rule)
+        (a_later_one _ _ _ 0 1 _ (never_at g w three_rule signed_argument (no_three g w))
+        (never_final g FnLike signed_argument three_rule)
         (this_one _ _ _) refl) refl)
         refl,
     (_, (_, _, refl, refl, refl), refl),

@@ -153,7 +153,8 @@ unknown_example = record {
   expands = λ g w. (
     any_rule,
     any_applies g w,
-    a_later_one _ _ _ 0 1 _ (λ a. no_unknown g w a.items (a.fits).1.0) (never_final g FnLike one_a unknown_rule) (this_one _ _ _) refl,
+    a_later_one _ _ _ 0 1 _ (λ a. no_unknown g w a.items (a.fits).1.0)
+        (never_final g FnLike one_a unknown_rule) (this_one _ _ _) refl,
     (_, refl, refl),
   );
 }

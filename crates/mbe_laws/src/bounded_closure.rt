@@ -68,8 +68,8 @@ pub fn state_numbers_step()
     ensures { StateNumbersStep }
 {}
 
-/// A test that depends on the state alone finds the same first partial reading among the first of
-/// each state as among all, and the same last among the last of each state.
+/// Let a test depend on the state alone. It finds the same first partial reading among the first of
+/// each state as among all. It finds the same last one among the last of each state.
 pub fn ends_preserved()
     ensures { EndsPreserved }
 {}
@@ -119,7 +119,7 @@ pub fn reversed_iterations()
     ensures { ReversedIterations }
 {}
 
-/// In that order the result is the same as that of the full run.
+/// In that order the bounded run and the full run have the same result.
 pub fn reversed_verdict()
     ensures { ReversedVerdict }
 {}
@@ -139,9 +139,9 @@ pub fn reversed_reading_found()
     ensures { ReversedReadingFound }
 {}
 
-/// If at no earlier offset three partial readings of one state end, the bounded run arrives with
-/// the same partial readings as the full run, in the same order. So a failed match reports the same
-/// there.
+/// Let no three partial readings of one state end at an earlier offset. Then the bounded run ends
+/// with the same partial readings as the full run, in the same order. So a failed match reports the
+/// same there.
 pub fn drops_law()
     ensures { DropsLaw }
 {}

@@ -67,9 +67,12 @@ pub fn written_in_place<F: Fn(Span) -> Span + Copy + Drop>(marker: F)
     let _ = marker;
 }
 
-/// Each span of an expansion has one of these sources: the marker's result for a span of the
-/// template, the call site, a span of a separator or of an unbound name in the template, or a span
-/// of the argument.
+/// Each span of an expansion has one of these sources:
+///
+/// - the marker's result for a span of the template;
+/// - the call site;
+/// - a span of a separator or of an unbound name in the template;
+/// - a span of the argument.
 pub fn spans_have_sources<F: Fn(Span) -> Span + Copy + Drop>(marker: F)
     ensures { SpansHaveSources (F.post marker) }
 {

@@ -1,6 +1,6 @@
 // The log of bindings that the threads of a match share. Its structure follows rust-analyzer's
-// `BindingsBuilder`. Two things are this project's own: a finished round and a handle have a
-// length, as links do, and a list without an entry of its own hands its link on.
+// `BindingsBuilder`. Two things are this project's own. A finished round and a handle have a
+// length, as links do. A list without an entry of its own passes its link on.
 //
 // Why a log: while an argument is matched, several threads may be possible at once, and each has
 // bound some names. A copy of all bindings for each thread would cost their number at every token.

@@ -1,5 +1,5 @@
 -- Where rustc ends a call: at the verdicts other than stuck, and where a fragment that is expected there fails inside.
-use Rattle.std.proofs.Common.{ℕ, ◌≡◌, ◌⊎◌, inl, inr, Bool, true, false, ◌||◌, Option, Some, None, List, [], ◌∷◌, refl, sym}
+use Rattle.std.proofs.Common.{ℕ, ◌≡◌, ◌⊎◌, inl, inr, Bool, true, false, Option, Some, None, List, [], ◌∷◌, refl, sym}
 use Rattle.std.proofs.Common.{ap, subst, ◌∙◌, arith}
 use Rattle.std.specs.Prelude.{◌↔◌, IsTrue}
 use Rattle.std.specs.List.{list_any}
@@ -14,16 +14,16 @@ use Rattle.mbe_semantics.specs.declared.fragment_kinds.RepeatKind.TheVariants.{Z
 use Rattle.mbe_semantics.specs.Expansion.Commitment.{FailsInside, IsBeforeFault, EndsBy, Commits}
 use Rattle.mbe_semantics.specs.Fragments.FragmentFront.{is_rustc}
 use Rattle.mbe_semantics.specs.Readings.Ambiguity.{Fits}
-use Rattle.mbe_semantics.specs.Readings.Input.{Input, input_of}
+use Rattle.mbe_semantics.specs.Readings.Input.{input_of}
 use Rattle.mbe_semantics.specs.Readings.Item.{Items}
-use Rattle.mbe_semantics.specs.Readings.Reading.{inside, within, PartialReading, partial, EndsAt}
+use Rattle.mbe_semantics.specs.Readings.Reading.{inside, within, PartialReading, partial}
 use Rattle.mbe_semantics.specs.Readings.Verdict.{Verdict, one_reading, many_readings, ambiguous, stuck, IsVerdict}
 use Rattle.mbe_semantics.specs.Readings.Verdict.{stop_of}
 use Rattle.mbe_semantics.specs.Syntax.Nullable.{Checked}
 use Rattle.mbe_semantics.specs.Syntax.Op.{Separator, Op, token, group, variable, repetition, expression, Ops, no_ops, op}
 use Rattle.mbe_semantics.specs.Matching.Closure.{closure}
 use Rattle.mbe_semantics.specs.Matching.Lists.{In}
-use Rattle.mbe_semantics.specs.Matching.ThreadModel.{ThreadModel, erase}
+use Rattle.mbe_semantics.specs.Matching.ThreadModel.{ThreadModel}
 use Rattle.mbe_semantics.proofs.InputLemmas.{lawful_input}
 use Rattle.mbe_laws.proofs.Matching.Law.{Inv, held-all, held-sound}
 use Rattle.mbe_laws.proofs.Matching.RunLemmas.{one_verdict}
@@ -32,7 +32,7 @@ use Rattle.mbe_matcher.specs.Failures.{Notes}
 use Rattle.mbe_matcher.specs.FirstAndLast.{EndsFollow}
 use Rattle.mbe_matcher.specs.Fronts.{starts_with_wrong_token}
 use Rattle.mbe_matcher.proofs.ExpectedLemmas.{same_expects}
-use Rattle.mbe_matcher.proofs.KeptEnds.{ReportPass, passes}
+use Rattle.mbe_matcher.proofs.KeptEnds.{passes}
 use Rattle.mbe_matcher.proofs.Starts.{alone_there, other_mismatched, otherwise_stuck}
 use Rattle.mbe_matcher.proofs.TwoEnds.{known}
 use Rattle.mbe_matcher.specs.Expected.{Expected, ending, closing, separating, reading, before_round, read_next, expected}

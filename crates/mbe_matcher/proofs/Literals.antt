@@ -1,13 +1,12 @@
 -- Literals in front, after a sign or not, and groups of literals.
-use Rattle.std.proofs.Common.{◌≡◌, ℕ, Bool, true, false, Option, Some, None, if◌then◌else◌, refl, sym, ap, subst, ◌∙◌}
-use Rattle.std.specs.Prelude.{Result, Ok, Err, IsOk, is_ok, ◌↔◌, option_map, ◌==◌}
+use Rattle.std.proofs.Common.{◌≡◌, Bool, true, false, Option, Some, None, if◌then◌else◌, refl, sym, ap, subst, ◌∙◌}
+use Rattle.std.specs.Prelude.{Result, Ok, Err, IsOk, is_ok, ◌↔◌, option_map}
 use Rattle.std.specs.Result.{result_ok}
 use Rattle.std.proofs.lemmas.Option.{none-some, same_Some}
 use Rattle.std.proofs.lemmas.Bool.{eq-eqb, ne_eqb}
 use Rattle.mbe_tt.specs.declared.grammar.Dialect.{Dialect}
 use Rattle.mbe_tt.specs.declared.tt.Delimiter.{Delimiter}
 use Rattle.mbe_tt.specs.declared.tt.Punct.{Punct}
-use Rattle.mbe_tt.specs.Laws.TreeLaws.{IsCut}
 use Rattle.mbe_tt.specs.Trees.Leaf.{Leaf, ident, literal, punct}
 use Rattle.mbe_tt.specs.Trees.Tree.{Forest, none, leaf, group, append, rest_of, front_char, front_literal, front_group}
 use Rattle.mbe_tt.specs.Trees.Tree.{is_bool_text, Cut, cut_trees}

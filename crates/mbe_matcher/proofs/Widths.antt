@@ -13,7 +13,7 @@ use Rattle.mbe_tt.proofs.Offsets.CutLemmas.{flat_len-append}
 use Rattle.mbe_tt.specs.declared.grammar.Dialect.TheVariants.{RustAnalyzer, Rustc}
 use Rattle.mbe_semantics.specs.Syntax.Op.{Token, Separator, Op, token, group, variable, repetition, expression}
 use Rattle.mbe_semantics.specs.Readings.Fit.{token_front, literal_separator_front, separator_front, unless}
-use Rattle.mbe_semantics.specs.Readings.Fit.{is_other_token, is_other_separator, separator_front_in}
+use Rattle.mbe_semantics.specs.Readings.Fit.{is_other_separator, separator_front_in}
 use Rattle.mbe_semantics.specs.Readings.Input.{length_of}
 use Rattle.mbe_matcher.specs.Fronts.{HasPassed}
 use Rattle.mbe_matcher.specs.Fronts.{has_text, op_width, width_by_text, is_other_op}

@@ -1,8 +1,8 @@
 // Whether rustc ends a call at a pattern that doesn't match.
 //
 // rustc tries the next rule only if no thread can go on with the next token. It reports an error
-// after a local ambiguity, after several readings, and where a fragment begins and has a fault
-// inside: then it has begun to parse the fragment, and can't go back.
+// after a local ambiguity and after several readings. It also reports one if a fragment begins and
+// has a fault inside. By then it has begun to parse the fragment, and can't go back.
 ghost use Rattle.std.specs.Prelude.{◌≡◌, ◌↔◌, IfOk, IsTrue, map};
 ghost use Rattle.mbe_tt.specs.Views.View.{trees};
 ghost use Rattle.mbe_semantics.specs.Syntax.Nullable.{Checked};

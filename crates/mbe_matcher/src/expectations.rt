@@ -82,7 +82,7 @@ struct NextStep<'a, A: Allocator = Global> {
     step: Option<StepWidth>,
 }
 
-// Where the threads stop, and how the threads of the closure there go on.
+// The stop of the threads, and the next step of each thread of the closure there.
 #[derive(Drop)]
 struct StopContinuations<'a, A: Allocator = Global> {
     stop: Stop,

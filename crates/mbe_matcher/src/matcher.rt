@@ -9,8 +9,8 @@
 // At an offset the matcher pops threads off a stack until it is empty. It follows the epsilon steps
 // of each thread, and pushes the threads after them:
 //
-// - before a repetition, a thread goes past it or into its body;
-// - at a round's end, a thread leaves the repetition. Without a separator, it also goes into
+// - Before a repetition, a thread goes past it or into its body.
+// - At a round's end, a thread leaves the repetition. Without a separator, it also goes into
 //   another round.
 //
 // A thread has a step over tokens if what it stands before fits the next tokens: a token, an
@@ -86,8 +86,8 @@ pub struct Match<A: Allocator = Global> {
     pub verdict: Verdict,
     /// How many trees of the current group remain where the match stopped.
     pub unmatched: usize,
-    /// What the only reading binds. If there isn't exactly one reading: what the last thread that
-    /// failed had bound; or, if no thread failed at the last such offset, what the first thread at
+    /// What the only reading binds, if there is exactly one. Otherwise, what the last thread that
+    /// failed had bound. If no thread failed at the last such offset, what the first thread at
     /// the pattern's end had bound.
     pub bindings: Handle,
     /// Why there isn't exactly one reading: the first error that a thread noted, or the error of

@@ -2,8 +2,8 @@
 //
 // The first pass follows two threads of each state, which is enough for the verdict. The report is
 // about all threads, in the order in which they are followed. It has the first error that a thread
-// noted. It also has the bindings of the last thread that failed, at the last offset where one did
-// (or of the first thread at the pattern's end, if none failed there).
+// noted. It also has the bindings of the last thread that failed, at the last offset where one did.
+// If none failed there, it has the bindings of the first thread at the pattern's end.
 //
 // The future of a thread depends on its state alone. So at each offset, the first thread that fails
 // is the first of its state, and the last thread that fails is the last of its state. The pass
@@ -17,9 +17,11 @@
 //   leads to, and notes it then. It enters each state once.
 //
 // The order of the threads is reversed at the next offset. So the first threads there come from the
-// last ones here, and the last ones there from the first ones here: the two lists change roles. In
-// `$(a)* $(a)* c`, state 8 is before everything, 7 and 6 are in the first repetition, 5 is after
-// it, 4 and 3 are in the second one, 2 is before `c`, and 1 is at the end. A match of `a a`:
+// last ones here, and the last ones there from the first ones here: the two lists change roles.
+//
+// The pattern `$(a)* $(a)* c` has eight states. State 8 is before everything. States 7 and 6 are in
+// the first repetition, and 5 is after it. States 4 and 3 are in the second one. State 2 is before
+// `c`, and 1 is at the end. A match of `a a`:
 //
 //     offset  first of each state  steps  last of each state, the last first  steps
 //          0            8 7 5 4 2    7 4                           2 4 5 7 8    4 7
@@ -180,7 +182,7 @@ impl<'a, A: Allocator + Copy> FirstThreads<'a, A> {
     }
 }
 
-// Follows the first thread of each state. The result overwrites that of the previous offset.
+// Follows the first thread of each state. The result overwrites the previous offset's result.
 fn follow_firsts<'a, A: Allocator + Copy, G: FragmentGrammar>(
     grammar: &G,
     source: &Source<'a, A>,
@@ -319,8 +321,8 @@ impl<'a, A: Allocator + Copy> LastThreads<'a, A> {
     }
 }
 
-// Follows the last thread of each state, the last first. The result overwrites that of the previous
-// offset.
+// Follows the last thread of each state, the last first. The result overwrites the one of the
+// previous offset.
 fn follow_lasts<'a, A: Allocator + Copy, G: FragmentGrammar>(
     grammar: &G,
     source: &Source<'a, A>,

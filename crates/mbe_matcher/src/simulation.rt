@@ -82,7 +82,7 @@ fn push_only<'a, A: Allocator + Copy>(
     Ok(())
 }
 
-// Moves an only thread over its step, to the next offset.
+// Moves a thread that is alone over its step, to the next offset.
 #[inline(always)]
 fn advance_only<'a, A: Allocator + Copy>(
     source: Source<'a, A>,

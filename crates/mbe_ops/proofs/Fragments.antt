@@ -1,6 +1,6 @@
 -- What an iterator has consumed, and what a variable takes by what comes first.
 use Rattle.std.specs.Prelude.{◌≡◌, ◌≤◌, ◌<◌, ◌∷◌, take, ℕ, zero, suc, Bool, true, false, if◌then◌else◌, length, List}
-use Rattle.std.specs.Prelude.{Option, Some, None, option_map, Result, Ok, Err, IsOk, is_ok, ◌↔◌, refl, ◌==◌}
+use Rattle.std.specs.Prelude.{Option, Some, None, option_map, refl, ◌==◌}
 use Rattle.std.proofs.Common.{ap, sym, ◌∙◌, arith, subst}
 use Rattle.std.proofs.lemmas.Option.{none-some, same_Some}
 use Rattle.std.proofs.lemmas.Bool.{eq-eqb, ne_eqb}
@@ -14,8 +14,8 @@ use Rattle.mbe_tt.specs.Trees.Glue.{glue, glued, joined, if_joint, is_operator, 
 use Rattle.mbe_tt.specs.declared.grammar.Dialect.{Dialect}
 use Rattle.mbe_tt.specs.declared.tt.Punct.{Punct}
 use Rattle.mbe_tt.specs.declared.view.TokenTreesView.{TokenTreesView}
-use Rattle.mbe_semantics.specs.Fragments.FragmentFront.{ident_front, lifetime_front, unsigned_front, with_leaf}
-use Rattle.mbe_semantics.specs.Fragments.FragmentFront.{literal_front, tree_front}
+use Rattle.mbe_semantics.specs.Fragments.FragmentFront.{ident_front, lifetime_front, unsigned_front}
+use Rattle.mbe_semantics.specs.Fragments.FragmentFront.{tree_front}
 use Rattle.mbe_ops.specs.Views.{MatchesCut}
 
 skip-none : (n : ℕ) → skip n none ≡ none

@@ -43,37 +43,6 @@ each_op_once around os = record {
   once = ops_of_walk around os;
 }
 
--- ---- loops over an iterator
-
--- how much there is to go down into among the stops
-abbrev pub stops_weight : List OpEvent → ℕ
-stops_weight events = ops_weight (ops_in events)
-
--- of a walk over a body
-pub weight_of_walk : {A : Type 0} (w : OpDelimitedIter A) (around : Option Delimiter) (os : Ops)
-    → events_left w ≡ op_events around os
-    → stops_weight (events_left w) ≡ ops_weight os
-weight_of_walk w around os e = ap stops_weight e ∙ ap ops_weight (ops_of_walk around os)
-
--- neither what comes first nor what is left after it has more
-pub first_no_heavier : (s : OpEvent) (rest : List OpEvent) → stops_weight (s ∷ []) ≤ stops_weight (s ∷ rest)
-first_no_heavier (open_event d) rest = omega arith
-first_no_heavier (op_event o) rest = omega arith
-first_no_heavier (close_event d) rest = omega arith
-
-after_no_heavier : (s : OpEvent) (rest : List OpEvent) → stops_weight rest ≤ stops_weight (s ∷ rest)
-after_no_heavier (open_event d) rest = omega arith
-after_no_heavier (op_event o) rest = omega arith
-after_no_heavier (close_event d) rest = omega arith
-
-pub rest_no_heavier : (s : OpEvent) (all left rest : List OpEvent) → left ≡ s ∷ rest
-    → stops_weight left ≤ stops_weight all
-    → stops_weight rest ≤ stops_weight all
-rest_no_heavier s all left rest e h =
-    let less = after_no_heavier s rest in
-    let same = ap stops_weight e in
-    omega (arith, less, same, h)
-
 -- what is first is an op, or it is an opening or a closing
 pub op_first : {A : Type 0} (s : OpDelimited A) (o : Bor (code.Op A)) (left rest : List OpEvent) → left ≡ event_of s
     ∷ rest

@@ -87,11 +87,6 @@ pub separator_cut_in : (d : Dialect) (s : ops.Separator) (f : Forest) (c : Cut) 
     → IsCut f c
 separator_cut_in d s f c e = separator_cut s f c (unless_some (is_other_separator d s f) (separator_front s f) c e)
 
-pub between_cut : (d : Dialect) (s : Option ops.Separator) (f : Forest) (c : Cut) → between_front d s f ≡ Some c
-    → IsCut f c
-between_cut d None f c e = subst (IsCut f) (same_Some (cut none f) c e) refl
-between_cut d (Some s) f c e = separator_cut_in d s f c e
-
 ident_cut : (f : Forest) (c : Cut) → ident_front f ≡ Some c → IsCut f c
 ident_cut (leaf (ident i) rest) c e = go (is_underscore i.sym) e
   where

@@ -1,6 +1,6 @@
-// The kinds of fragments and the kinds of repetitions. For each kind of fragment this module says
-// what its specifier is, what parses it, what stands for it when it is missing, and what may follow
-// it in a pattern. A new specifier is one more arm in each of these functions.
+// The kinds of fragments and the kinds of repetitions. Each kind of fragment has a specifier, a
+// parser, a default for when it is missing, and a set of tokens that may follow it in a pattern. A
+// new specifier is one more arm in each of these functions.
 ghost use Rattle.std.specs.Prelude.{◌≡◌};
 ghost use Rattle.mbe_semantics.specs.Fragments.Kinds as spec;
 ghost use Rattle.mbe_semantics.specs.Fragments.Kinds.{facts};

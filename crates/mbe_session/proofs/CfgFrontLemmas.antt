@@ -1,20 +1,19 @@
 -- What precedes the rest of a piece.
-use Rattle.std.proofs.Common.{◌≡◌, ◌<◌, ◌+◌, ℕ, zero, suc, Bool, true, false, Option, Some, None, refl, ap, sym, ◌∙◌}
+use Rattle.std.proofs.Common.{◌≡◌, ◌<◌, ℕ, zero, suc, Bool, true, false, Option, Some, None, refl, ap, sym, ◌∙◌}
 use Rattle.std.proofs.Common.{arith}
-use Rattle.std.specs.Prelude.{if◌then◌else◌, option_and_then, nat_lt}
+use Rattle.std.specs.Prelude.{if◌then◌else◌, nat_lt}
 use Rattle.std.proofs.lemmas.Bool.{ltb-true}
 use Rattle.mbe_tt.specs.Trees.Tree.{Forest, Tree, Leaf_tree, Group_tree, none, leaf, group, append, leaves, first}
 use Rattle.mbe_tt.specs.Trees.Tree.{rest_of, first_span, flat_len, front_group}
 use Rattle.mbe_tt.specs.declared.span.Span.{Span}
 use Rattle.mbe_rewriter.specs.MacroItems.{MacroCall, MacroDefinition, FrontItem, Definition, CallItem, Other, End}
 use Rattle.mbe_rewriter.specs.MacroItems.{after_char, front}
-use Rattle.mbe_rewriter.specs.MacroItems as calls
 use Rattle.mbe_rewriter.specs.AttributedCalls.{is_known_attribute, after_known_attribute, on, past, after_attributes}
 use Rattle.mbe_rewriter.specs.AttributedCalls.{takes_attributes_alone, call_at, attributed_call, or_front}
 use Rattle.mbe_rewriter.specs.AttributedCalls.{front_item_with_attributes}
 use Rattle.mbe_cfg.specs.CfgStrip.{is_disabled, has_fault, after_disabled_target}
 use Rattle.mbe_session.specs.CallExpansion.{Setting}
-use Rattle.mbe_session.specs.CfgFront.{CfgFront, disabled, definition, call, tree, end, if_fewer, disabled_by, of_front}
+use Rattle.mbe_session.specs.CfgFront.{disabled, definition, call, tree, end, if_fewer, disabled_by, of_front}
 use Rattle.mbe_session.specs.CfgFront.{sound_front, unless_disabled, piece, EndsIn, EndsInCall}
 use Rattle.mbe_session.proofs.FrontLemmas.{Ahead, append_append, flat_append, then_some, if_some, if_some_of}
 use Rattle.mbe_session.proofs.FrontLemmas.{char_ahead, group_ahead, front_definition, front_call, front_tree, front_end}

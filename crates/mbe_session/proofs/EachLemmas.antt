@@ -13,7 +13,7 @@ use Rattle.mbe_tt.specs.Trees.Tree.{Forest, Tree, Leaf_tree, Group_tree, none, l
 use Rattle.mbe_tt.specs.declared.tt.DelimiterKind.{DelimiterKind}
 use Rattle.mbe_tt.specs.declared.tt.DelimiterKind.TheVariants.{Parenthesis, Brace, Bracket, Invisible}
 use Rattle.mbe_rewriter.specs.Surroundings.{is_standard_macro}
-use Rattle.mbe_rewriter.specs.MacroItems.{MacroCall, MacroDefinition, Definition, CallItem, front, is_item}
+use Rattle.mbe_rewriter.specs.MacroItems.{MacroCall, MacroDefinition, Definition, CallItem, is_item}
 use Rattle.mbe_rewriter.specs.AttributedCalls.{front_item_with_attributes}
 use Rattle.mbe_rewriter.specs.Splice.{SplicedPart}
 use Rattle.mbe_session.specs.NestedExpansion.{after_group}

@@ -234,10 +234,10 @@ impl LastToken {
 
     // Returns whether a punct may stay next to the token that it is adjacent to in a file.
     //
-    // - After a word, a `#` or a `'` may not: the word would be a prefix.
-    // - After a literal, a `.` may only if the token after it is adjacent too: `1.` alone is
-    //   another number.
-    // - After a punct that is alone, only a `'` may, since it begins a lifetime.
+    // - After a word, `#` and `'` may not. The word would become a prefix.
+    // - After a literal, `.` may only if the token after it is adjacent too. `1.` alone is another
+    //   number.
+    // - After a punct that is alone, only `'` may. It begins a lifetime.
     pub(crate) fn may_touch_punct(self, char: char, beside_next: bool) -> bool
         ensures { result ≡ spec.may_touch_punct self char beside_next }
     {

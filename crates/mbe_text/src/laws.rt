@@ -42,7 +42,7 @@ pub fn trees_round_trip()
     ensures { TreesRoundTrip }
 {}
 
-/// A string, byte string or C string that is read whole by itself is also read whole before any
+/// A string, byte string or C string that the lexer reads whole by itself is also read whole before
 /// text that doesn't continue its suffix, such as a `.`. So it is a literal of `IsRust`.
 pub fn strings_are_read()
     ensures { StringsAreRead }

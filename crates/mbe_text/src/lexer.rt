@@ -239,8 +239,8 @@ fn punct<A: Allocator>(char: char, spacing: Spacing, span: Span) -> Leaf<A>
     })
 }
 
-/// Returns how many `#`s the raw string of a doc comment with this text has: one more than the
-/// longest run of `#`s after a `"` in the text, but at most 255. It is 0 if the text has no `"`.
+/// Returns how many `#`s the raw string of a doc comment with this text has. If the text has no `"`,
+/// it has none. Otherwise it has one more than the longest run of `#`s after a `"`, at most 255.
 pub fn raw_hash_count(text: &str) -> u8
     ensures { result ≡ most_guards 0 text.now }
 {
@@ -343,7 +343,7 @@ pub fn lex<A: Allocator + Copy>(alloc: A, text: &str, file: u32) -> Result<TopSu
 }
 
 /// Does the same as `lex`, but takes symbols from that table, and memory from the table's
-/// allocator. Texts are shared with whatever else the table was asked for.
+/// allocator. Equal texts in the table share one symbol.
 pub fn lex_with_table<A: Allocator + Copy>(
     table: &mut SymbolTable<A>,
     text: &str,
@@ -359,8 +359,7 @@ pub fn lex_with_table<A: Allocator + Copy>(
 
 /// Lexes a file's text in that dialect. Returns its token trees as `lex` does.
 ///
-/// In `Dialect::Rust` the tokens are those of the Rust Reference ("Lexical structure"), as rustc's
-/// lexer reads them:
+/// In `Dialect::Rust` it follows the Rust Reference ("Lexical structure") and rustc's lexer:
 ///
 /// - A byte order mark and a `#!` line at the front are skipped.
 /// - A lifetime becomes two leaves: a joint `'` and an identifier.

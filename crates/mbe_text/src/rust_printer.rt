@@ -249,8 +249,8 @@ impl<A: Allocator + Copy> RustPrinter<A> {
         }
     }
 
-    /// Writes the trees. An attribute that the lexer made of a doc comment is written as a doc
-    /// comment: `/// ..` or `//! ..` if it has one line, and `/** .. */` or `/*! .. */` otherwise.
+    /// Writes the trees. An attribute that the lexer made of a doc comment becomes a doc comment
+    /// again. With one line it is `/// ..` or `//! ..`. Otherwise it is `/** .. */` or `/*! .. */`.
     /// Returns `AllocError` if out of memory.
     pub fn trees(&mut self, tokens: TokenTreesView<'_, A>) -> Result<(), AllocError>
         ensures { OnOk result (printer_state self.new

@@ -234,12 +234,12 @@ fn next_depth<A: Allocator>(tree: &Option<TtElement<'_, A>>, depth: usize) -> us
     }
 }
 
-/// Writes a line for each group and leaf, indented by two spaces for each group around it.
+/// Writes a line for each group and leaf. A line has two spaces for each group around it.
 ///
-/// - `SUBTREE`, the delimiters (`$$` if they are invisible), and the spans of both.
-/// - `IDENT`, the name, and the span.
-/// - `PUNCH`, the char, its spacing, and the span.
-/// - `LITERAL`, the kind, the text with its suffix and without its quotes, and the span.
+/// - A group: `SUBTREE`, the delimiters (`$$` if they are invisible), and the spans of both.
+/// - An identifier: `IDENT`, the name, and the span.
+/// - A punct: `PUNCH`, the char, its spacing, and the span.
+/// - A literal: `LITERAL`, the kind, the text with its suffix and without quotes, and the span.
 ///
 /// Returns the writer's first error. Then what was written is a prefix of the lines. A line of at
 /// most 128 bytes, with its indentation and line feed, is one call of the writer.

@@ -1,4 +1,4 @@
-// Where the threads of a match stop, and how they get from one offset to the next.
+// Decides whether the threads of a match stop, and moves them from one offset to the next.
 //
 // After the epsilon steps, some threads have a step that consumes tokens, and some are at the
 // pattern's end. The threads stop at the argument's end, at a local ambiguity, or where no thread
@@ -17,7 +17,7 @@ use crate::thread::{ThreadStack, TokenStep};
 use mbe_log::log::{Handle, again};
 use std::alloc::{AllocError, Allocator};
 
-/// Where the threads stop, and why. The numbers are offsets.
+/// Why the threads stop. The numbers are the offsets where they stop.
 #[derive(Drop)]
 pub enum Stop {
     /// The argument has one reading, which binds this.

@@ -41,14 +41,14 @@ pub struct Front {
 
 /// A grammar of fragments, which a caller of the expander hands in.
 ///
-/// An implementation states in its ghost member `grammar` what it returns, and proves two laws:
+/// An implementation states in its ghost member `grammar` what it returns. It proves two laws:
 ///
 /// - It counts at most as many flat tokens as there are.
 /// - It counts none without a fault only for `Vis`.
 ///
-/// In rustc's dialect, a call ends where a fragment begins and has a fault. So a grammar of that
-/// dialect counts none with a fault where the fragment doesn't begin, and at least one flat token
-/// where it begins and has a fault.
+/// In rustc's dialect, a call ends where a fragment begins and has a fault. A grammar for rustc's
+/// dialect counts zero flat tokens where the fragment doesn't begin. Where the fragment begins and
+/// has a fault, it counts at least one.
 pub trait FragmentGrammar {
     ghost use Rattle.mbe_tt.specs.Trees.Tree.{flat};
     ghost use Rattle.mbe_tt.specs.Views.View.{trees};

@@ -1,17 +1,16 @@
 -- Fragments that are written whole, in one invisible group.
-use Rattle.std.proofs.Common.{◌≡◌, ◌∷◌, Bool, true, false, Option, Some, None, if◌then◌else◌, refl, ap, sym, subst, ◌∙◌}
-use Rattle.std.specs.Prelude.{◌↔◌, ◌&&◌, ◌==◌, Result, Ok, Err, OnOk, option_map, is_ok, IsOk, IsTrue}
+use Rattle.std.proofs.Common.{◌≡◌, ◌∷◌, Bool, true, false, Some, None, if◌then◌else◌, refl, ap, sym, ◌∙◌}
+use Rattle.std.specs.Prelude.{◌↔◌, ◌&&◌, Result, Ok, Err, option_map, is_ok, IsOk, IsTrue}
 use Rattle.std.specs.Result.{result_ok}
 use Rattle.std.proofs.lemmas.Bool.{eq-eqb, ne_eqb}
 use Rattle.std.proofs.lemmas.Option.{none-some, same_Some}
 use Rattle.mbe_tt.specs.declared.fragment_group.FragmentGroup.{FragmentGroup}
 use Rattle.mbe_tt.specs.declared.span.Span.{Span}
 use Rattle.mbe_tt.specs.declared.tt.Delimiter.{Delimiter}
-use Rattle.mbe_tt.specs.declared.tt.Punct.{Punct}
 use Rattle.mbe_tt.specs.Buffers.GroupStack.{GroupStack, put, closed}
 use Rattle.mbe_tt.specs.Trees.FragmentGroup.{delimiter_of, is_around, is_literal_group}
 use Rattle.mbe_tt.specs.Trees.Leaf.{Leaf, ident, literal, punct}
-use Rattle.mbe_tt.specs.Trees.Tree.{Forest, none, leaf, group, alone, rest_of, first, Tree, Leaf_tree, front_char}
+use Rattle.mbe_tt.specs.Trees.Tree.{Forest, none, leaf, group, alone, rest_of, front_char}
 use Rattle.mbe_tt.specs.Trees.Tree.{front_literal, front_group, is_bool_text}
 use Rattle.mbe_semantics.specs.declared.fragment_kinds.MetaVarKind.{MetaVarKind}
 use Rattle.mbe_semantics.specs.Fragments.Kinds.{whole}

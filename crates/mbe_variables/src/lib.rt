@@ -1,5 +1,5 @@
-// The variables of a template: the binding of a variable in a round, the number of rounds of a
-// repetition, and the trees that a fragment is written as. A layer of `mbe`: use that crate.
+// The variables of a template. This crate looks up the binding of a variable in a round, counts the
+// rounds of a repetition, and emits the trees of a fragment. It is a layer of `mbe`: use `mbe`.
 #![tactic(auto)]
 
 pub mod fragment_writer;

@@ -17,9 +17,9 @@ use mbe_tt::grammar::Dialect;
 use mbe_tt::span::Edition;
 
 /// The grammar of Rust's fragments in rust-analyzer's dialect, for the editions from 2015 to 2024.
-/// `with_dialect` changes the dialect. Where a rule depends on the edition, the edition is that of
-/// the span's syntax context: `editions[n]` for context `n`, and `edition` for contexts that the
-/// list doesn't have. Each rule names rules that exist.
+/// `with_dialect` changes the dialect. Some rules depend on the edition of the span's context.
+/// Context `n` has the edition `editions[n]`. A context that isn't in the list has `edition`. Each
+/// rule names rules that exist.
 ///
 /// For each text that rustc accepts, a fragment has as many trees as in rustc 1.95. Groups are
 /// consumed whole: only the content of `pub (..)` and of a bound's `[const]` is looked at.

@@ -38,7 +38,8 @@ first_verdict : (g : Grammar) → verdict_reversed (open_grammar g) many_partial
 unfolding verdict_in run_in walk
 first_verdict g = refl
 
-first_none : (g : Grammar) → first_that (fails (input_of (open_grammar g) one_c) 0) (closure (input_of (open_grammar g) one_c) 0 (start many_partial
+first_none : (g : Grammar) → first_that (fails (input_of (open_grammar g) one_c) 0)
+    (closure (input_of (open_grammar g) one_c) 0 (start many_partial
     ∷ []))
     ≡ None
 unfolding tree

@@ -109,7 +109,8 @@ pub record DropFirstExample : Type 0 where
       (closure (input_of (open_grammar g) one_c) 0 (start many_partial ∷ [])) ≡ None
   pub all : (g : Grammar) → waits_for (first_that (fails (input_of (open_grammar g) one_c) 1)
       (closure (input_of (open_grammar g) one_c) 1
-      (reversed_targets (input_of (open_grammar g) one_c) 0 (closure (input_of (open_grammar g) one_c) 0 (start many_partial
+      (reversed_targets (input_of (open_grammar g) one_c) 0
+      (closure (input_of (open_grammar g) one_c) 0 (start many_partial
       ∷ [])))))
       ≡ Some (ident (ident_of (codes "b") (at 0 0 1)))
   pub two : (g : Grammar) →

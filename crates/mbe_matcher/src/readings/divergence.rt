@@ -25,8 +25,8 @@ use mbe_tt::grammar::FragmentGrammar;
 use mbe_tt::tt::TokenTreesView;
 use std::alloc::{AllocError, Allocator, Global};
 
-/// Where two readings diverge, and what each of them consumes next there. Clauses see it by
-/// `divergence_seen`.
+/// The offset at which two readings diverge, and what each of them consumes next there. Clauses see
+/// it by `divergence_seen`.
 #[derive(Drop)]
 pub struct Divergence<'a, A: Allocator = Global> {
     /// The offset in the argument, in flat tokens.

@@ -1,4 +1,4 @@
-use Rattle.std.proofs.Common.{◌≡◌, ◌∙◌, Bool, true, false, refl, ap, sym, subst}
+use Rattle.std.proofs.Common.{◌≡◌, ◌∙◌, refl, ap, subst}
 use Rattle.std.proofs.lemmas.Bool.{false≢true}
 use Rattle.std.specs.Prelude.{◌↔◌, IsTrue, IfOk}
 use denote.Enum.Bare.{sameb}
@@ -6,7 +6,7 @@ use Rattle.mbe_tt.specs.contracts.grammar.Dialect.{the_type}
 use Rattle.mbe_tt.specs.declared.grammar.Dialect.{Dialect}
 use Rattle.mbe_tt.specs.declared.grammar.Dialect.TheVariants.{RustAnalyzer, Rustc}
 use Rattle.mbe_tt.specs.Trees.Tree.{Forest}
-use Rattle.mbe_tt.specs.Views.View.{trees, group_of}
+use Rattle.mbe_tt.specs.Views.View.{group_of}
 use Rattle.mbe_semantics.specs.Expansion.Commitment.{Commits}
 use Rattle.mbe_semantics.specs.Fragments.FragmentFront.{is_rustc}
 use Rattle.mbe_ops.specs.Views.{template_of}

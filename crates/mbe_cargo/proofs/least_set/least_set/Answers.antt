@@ -15,8 +15,10 @@ loop-round-preserved c = c.apply_rules.ensures c.loop-round.invariant
 pub returns : goal.returns
 returns c = record {
   holds = elim c.loop-round-test.branch [
-    | else-loop-round-test w ↦ subst (AllHold c.args.rules.now) (sym (ap (λ v. v.items) w.marks-is)) c.loop-round.invariant
-    | then-loop-round-test+then-not-apply_rules w ↦ subst (AllHold c.args.rules.now) (sym (ap (λ v. v.items) w.marks-is))
+    | else-loop-round-test w ↦ subst (AllHold c.args.rules.now) (sym (ap (λ v. v.items) w.marks-is))
+        c.loop-round.invariant
+    | then-loop-round-test+then-not-apply_rules w ↦ subst (AllHold c.args.rules.now)
+        (sym (ap (λ v. v.items) w.marks-is))
         (w.apply_rules.ensures c.loop-round.invariant)
   ];
   marked = all_marked c.args.rules.now c.loop-round-test.marks.items

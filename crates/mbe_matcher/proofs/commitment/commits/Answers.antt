@@ -1,10 +1,10 @@
-use Rattle.std.proofs.Common.{◌≡◌, ◌∙◌, ◌≤◌, ◌+◌, ℕ, Bool, false, true, map, refl, sym, ap, rules, arith}
+use Rattle.std.proofs.Common.{◌≡◌, ◌∙◌, ◌≤◌, ◌+◌, ℕ, false, true, map, refl, sym, ap, rules, arith}
 use Rattle.std.proofs.lemmas.Bool.{false≢true}
 use Rattle.std.specs.Prelude.{Result, Ok, Err, IfOk}
 use denote.Enum.Bare.{same_true, same_false}
 use Rattle.mbe_tt.specs.contracts.grammar.Dialect.{the_type}
 use Rattle.mbe_tt.specs.declared.grammar.Dialect.TheVariants.{RustAnalyzer}
-use Rattle.mbe_tt.specs.Trees.Tree.{Forest, flat_len, rest_at}
+use Rattle.mbe_tt.specs.Trees.Tree.{flat_len, rest_at}
 use Rattle.mbe_tt.specs.Views.View.{trees}
 use Rattle.mbe_semantics.specs.Readings.Verdict.{stuck}
 use Rattle.mbe_ops.specs.Views.{template_of}

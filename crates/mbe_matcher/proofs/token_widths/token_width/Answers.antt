@@ -1,4 +1,4 @@
-use Rattle.std.proofs.Common.{◌≡◌, ◌∙◌, ap, sym}
+use Rattle.std.proofs.Common.{◌∙◌, ap, sym}
 use Rattle.mbe_ops.specs.Views.{op_of}
 use Rattle.mbe_matcher.specs.Fronts.{op_width}
 use Rattle.mbe_matcher.proofs.Widths.{open_width}

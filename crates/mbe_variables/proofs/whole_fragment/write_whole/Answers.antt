@@ -1,8 +1,7 @@
-use Rattle.std.proofs.Common.{◌∙◌, ap, sym}
+use Rattle.std.proofs.Common.{◌∙◌, ap}
 use Rattle.mbe_tt.specs.Views.View.{trees}
-use Rattle.mbe_tt.specs.Trees.FragmentGroup.{delimiter_of}
 use Rattle.mbe_tt.specs.Buffers.GroupStack.{put}
-use Rattle.mbe_semantics.specs.Transcription.FragmentTrees.{inside_group, whole_fragment, group_for}
+use Rattle.mbe_semantics.specs.Transcription.FragmentTrees.{inside_group, whole_fragment}
 use Rattle.mbe_variables.proofs.WholeLemmas.{whole_put}
 use Rattle.mbe_variables.proofs.whole_fragment.write_whole.Goals as goal
 

@@ -77,5 +77,6 @@ push_fixed-returns-in_err-push_fixed_op g t c =
 
 pub push_fixed-returns : goal.push_fixed-returns
 push_fixed-returns g t c =
-    all_added (fixed_in (map variable_seen c.args.bound.now) c.args.depth) refl _ _ c.ops.rest.now (nothing _ c.in_default.ensures.cases)
+    all_added (fixed_in (map variable_seen c.args.bound.now) c.args.depth) refl _ _ c.ops.rest.now
+    (nothing _ c.in_default.ensures.cases)
     c.ops.invariant.added

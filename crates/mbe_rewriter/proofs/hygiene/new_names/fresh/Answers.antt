@@ -9,7 +9,8 @@ use Rattle.mbe_rewriter.proofs.hygiene.new_names.fresh.Goals as goal
 pub numbers-init : goal.numbers-init
 numbers-init g c =
     begins_after (map word_of c.args.words.now) c.args.names.now (map naming_of c.args.given.now) c.args.text.now
-    c.count_named-number.result c.requires.taken c.count_named-number.ensures.count (omega (arith, c.count_named-number.ensures.few))
+    c.count_named-number.result c.requires.taken c.count_named-number.ensures.count
+    (omega (arith, c.count_named-number.ensures.few))
 
 -- a name that is taken is let go on two paths, as its text is in it or shared
 pub numbers-preserved : goal.numbers-preserved

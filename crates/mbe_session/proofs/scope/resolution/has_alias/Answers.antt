@@ -1,4 +1,4 @@
-use Rattle.std.proofs.Common.{◌∙◌, map}
+use Rattle.std.proofs.Common.{◌∙◌}
 use Rattle.mbe_session.specs.Resolution.{is_alias_name}
 use Rattle.mbe_session.specs.SessionViews.{declared_name_of}
 use Rattle.mbe_session.proofs.ItemLemmas.{any_shown}
