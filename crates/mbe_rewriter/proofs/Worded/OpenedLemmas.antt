@@ -84,7 +84,7 @@ fragment_none : (inner : Bool → Surroundings → Forest → Forest) (n : ℕ) 
 fragment_none inner n s p d f rest i h =
     let place = plain_span d.opening in
     let end = semicolon_if (needs_semicolon s d f rest) place in
-    grouped_none (is_bare p d f rest) place (append (inner (is_around groups.Path d) s f) end)
+    grouped_none (is_bare s p d f rest) place (append (inner (is_around groups.Path d) s f) end)
     (none_appended (inner (is_around groups.Path d) s f) end (i (is_around groups.Path d) s f h)
     (semicolon_none (needs_semicolon s d f rest) place))
 

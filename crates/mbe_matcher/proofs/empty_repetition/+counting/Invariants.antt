@@ -3,12 +3,11 @@ use Rattle.mbe_semantics.specs.Matching.States.{state_count}
 use Rattle.mbe_ops.specs.Views.{op_of, ops_of}
 use Rattle.mbe_ops.specs.OpIter.{events_left, ops_in}
 use Rattle.mbe_ops.proofs.EqualityLemmas.{op_weight, ops_weight}
-use Rattle.mbe_ops.proofs.WalkLemmas.{stops_weight}
 use Rattle.mbe_matcher.proofs.empty_repetition.+counting.Given as goal
 
 abbrev pub invariant-count_states-loop-stop : goal.invariant-count_states-loop-stop
 invariant-count_states-loop-stop g l = record {
-  lighter : stops_weight (events_left l.stop-iterator) ≤ ops_weight (ops_of l.fn.ops);
+  lighter : ops_weight (ops_in (events_left l.stop-iterator)) ≤ ops_weight (ops_of l.fn.ops);
   counted : l.count + state_count (ops_in (events_left l.stop-iterator)) ≡ state_count (ops_of l.fn.ops) + 1;
 }
 
