@@ -1,6 +1,6 @@
 #!/bin/sh
-# library.sh OUT_DIR: makes OUT_DIR/libmbe_c.a, and OUT_DIR/libmbe_c.so where there is a cc, over the proved libraries that `rt ci`
-# leaves in crates/*/out/rlib. It proves mbe_c once more. KIT is the toolchain's folder, else /opt/rattle.
+# library.sh OUT_DIR: makes OUT_DIR/libmbe_c.a over the proved libraries that `rt ci` leaves in crates/*/out/rlib. It proves mbe_c once
+# more. Where there is a cc with its tools, link.sh makes OUT_DIR/libmbe.a and OUT_DIR/libmbe.so.1 of it. KIT is the toolchain's folder, else /opt/rattle.
 set -eu
 out=$(mkdir -p "$1" && cd "$1" && pwd)
 root=$(cd "$(dirname "$0")/.." && pwd)
@@ -42,6 +42,7 @@ mkdir -p out/rlib
 for it in "$kit"/c/liblibc_c.a "$kit"/c/libos_c.a; do
     (cd "$out" && rm -rf objects && mkdir objects && cd objects && ar x "$it" && ar r ../libmbe_c.a ./*.o && cd .. && rm -rf objects)
 done
-if command -v cc >/dev/null; then
-    cc -shared -o "$out/libmbe_c.so" -Wl,--whole-archive "$out/libmbe_c.a" -Wl,--no-whole-archive
-fi
+for it in cc ld nm objcopy strip; do
+    command -v "$it" >/dev/null || { echo "library.sh: no $it: libmbe.a and libmbe.so.1 aren't made"; exit 0; }
+done
+sh "$root/bindings/link.sh" "$out"

@@ -1,4 +1,4 @@
-"""A program under test: it is run in an empty folder for each row of a table, and the rows that are as they say are counted."""
+"""A program under test. It runs in an empty folder for each row of a table. The rows that pass are counted."""
 import os
 import re
 import resource
@@ -29,7 +29,7 @@ class Program:
         self.failed = 0
 
     def run(self, words, files=None, stdin="", before=None):
-        """Runs the program with these words in a folder with these files, by path. `before` is called in the new process first."""
+        """Runs the program with these arguments in a folder with these files, by path. `before` is called in the new process first."""
         with tempfile.TemporaryDirectory() as folder:
             for path, text in (files or {}).items():
                 write(folder, path, text)
@@ -49,7 +49,7 @@ class Program:
         return Ran(ran.returncode, in_text(ran.stdout), in_text(ran.stderr), {}, processor_seconds() - start)
 
     def check(self, table, row, got, want):
-        """Counts a row: it passes if what was got is what it wants."""
+        """Counts a row. It passes if the result is the expected one."""
         if got == want:
             self.passed += 1
             return
@@ -64,7 +64,7 @@ def shown(value):
 
 
 def processor_seconds():
-    """What the processes that ended took of a processor."""
+    """The time of a processor that the ended processes took."""
     used = resource.getrusage(resource.RUSAGE_CHILDREN)
     return used.ru_utime + used.ru_stime
 

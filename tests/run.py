@@ -20,7 +20,7 @@ from programs import Program  # noqa: E402
 
 
 def modules_of(name, words):
-    """The modules of a program's tests, in order: those that are asked for, or all."""
+    """The modules of a program's tests, in order: the modules that are asked for, or all."""
     found = [file[:-3] for file in sorted(os.listdir(f"{HERE}/{name}")) if file.endswith(".py") and file != "__init__.py"]
     return [module for module in found if not words or f"{name}/{module}" in words]
 

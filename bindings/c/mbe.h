@@ -22,6 +22,7 @@
 
 #include <stddef.h>
 #include <stdint.h>
+#include <string.h>
 
 #ifdef __cplusplus
 extern "C" {
@@ -187,6 +188,41 @@ static inline int mbe_null_output(const mbe_output *out) {
 }
 
 /* ---- the calls */
+
+/* Returns a short English text for a status, which is never null and never freed. */
+static inline const char *mbe_status_text(mbe_status status) {
+    switch (status) {
+    case MBE_DONE: return "done";
+    case MBE_FAULTED: return "the expansion has an error";
+    case MBE_REFUSED: return "the definition has a fault";
+    case MBE_BAD_NUMBER: return "a number of the request stands for nothing";
+    case MBE_NOT_UTF8: return "a text is not UTF-8";
+    case MBE_TOO_LONG: return "a text has 2^32 bytes or more";
+    case MBE_NO_TOKENS: return "a text can't be lexed";
+    case MBE_NO_TREES: return "flat tokens are not trees";
+    case MBE_NO_GRAMMAR: return "the text of the grammar has a fault";
+    case MBE_OUT_OF_MEMORY: return "out of memory";
+    case MBE_NO_ROOM: return "a buffer is too small";
+    case MBE_NULL_POINTER: return "a pointer is null";
+    case MBE_NO_MACRO: return "the macro is empty";
+    case MBE_HAS_MACRO: return "the macro isn't empty";
+    }
+    return "unknown status";
+}
+
+/* Returns a request for a call `name!(..)` in edition 2024, with the tokens and the fragments of Rust. The inputs are texts. */
+static inline mbe_request mbe_rust_request(mbe_form form) {
+    mbe_request request = {2024, MBE_DIALECT_RUST, MBE_GRAMMAR_RUST, MBE_FN_LIKE, 0, 0, 0, {0, 0, 0, 0, 0}};
+    request.form = (uint32_t)form;
+    return request;
+}
+
+/* Returns the input of a text that ends in a zero byte. */
+static inline mbe_input mbe_text(const char *text) {
+    mbe_input input = {text, 0, NULL, 0};
+    if (text) input.text_len = strlen(text);
+    return input;
+}
 
 /* Returns the version of the library. Compare it with MBE_VERSION. */
 static inline uint32_t mbe_version(void) { return mbe_c_version(); }

@@ -1,9 +1,11 @@
 """The calls from Python: a line for each that fails, and `N passed, M failed`."""
 import ctypes
+import pickle
 import sys
+from concurrent.futures import ThreadPoolExecutor
 
 import mbe
-import mbe_c as c
+from mbe import c
 
 ROWS = [
     ("($x:ident) => {$x $x}", "a", b"a a", 0),
@@ -31,6 +33,15 @@ def error(call, *words, **named):
     except mbe.Error as wrong:
         return wrong
     return None
+
+
+def raised(call, *words):
+    """The name of what a call raises, or no text."""
+    try:
+        call(*words)
+    except Exception as wrong:
+        return type(wrong).__name__
+    return ""
 
 
 for definition, argument, expansion, rule in ROWS:
@@ -79,6 +90,41 @@ sums = "expr = operand ('+' operand!)*\noperand = NAME"
 check(mbe.Macro("($e:expr) => {$e}", grammar=sums).expand("a + b").fault, None)
 wrong = error(mbe.check_grammar, "a = b")
 check((wrong.status, wrong.place, wrong.column), ("no grammar", 1, 5))
+rust = mbe.rust_macro("($x:ident) => {$x}; ($e:expr) => {[$e]}")
+check((rust.rules, repr(rust)), (2, "<mbe.Macro, rules: 2>"))
+check(str(rust.expand("r#fn", form="rust")), "r#fn")
+check(mbe.Span(1, 2, 3, 4, 5) == mbe.Span(file=1, ast=2, start=3, end=4, context=5), True)
+check([mbe.Span() == other for other in (mbe.Span(end=1), 0, c.RawVerdict())], [False] * 3)
+check(repr(mbe.Span(end=9)), "Span(file=0, ast=0, start=0, end=9, context=0)")
+check(raised(hash, mbe.Span()), "TypeError")
+trees = mbe.convert("a (b) c")
+check([text for _, text in trees.group(2).leaves()], ["b"])
+check(raised(trees.group, 1), "ValueError")
+check(str(rust.expand(trees.group(2), form="rust")), "b")
+check(rust.expand("a").check() == rust.expand("a").trees, True)
+try:
+    rust.expand("+ +").check()
+    check("an expansion", "an error")
+except mbe.ExpansionError as wrong:
+    check((str(wrong), wrong.span.file, wrong.span.start), (wrong.message, 1, 0))
+    again = pickle.loads(pickle.dumps(wrong))
+    check((again.message, again.span, again.rule), (wrong.message, wrong.span, wrong.rule))
+wrong = error(mbe.rust_macro, "($x) => {}")
+check(str(wrong), "definition at 0: refused: missing fragment specifier")
+check(vars(pickle.loads(pickle.dumps(wrong))), vars(wrong))
+# `é` has two bytes, and is one code point.
+text = "é + é"
+plus = [token for token, leaf in mbe.convert(text, dialect="rust").leaves() if leaf == "+"][0]
+check((plus.span.start, plus.span.end, plus.span.code_points(text)), (3, 4, (2, 3)))
+check(mbe.Span(end=99).code_points(text), (0, 5))
+for call in (lambda: rust.expand("a", form="text"), lambda: rust.expand("a", style="bang"), lambda: mbe.convert("a", dialect="c"),
+             lambda: rust.expand_each(["a"], form=""), lambda: rust.expand_each(["a", "b"], call_sites=[mbe.Span()])):
+    check(raised(call), "ValueError")
+with mbe.rust_macro("() => {}") as closed:
+    check(closed.expand("").fault, None)
+check(error(closed.expand, "").status, "no macro")
+with ThreadPoolExecutor(1) as pool:
+    check(pool.submit(raised, rust.expand, "a").result(), "RuntimeError")
 check(mbe.Macro("($t:ty) => {$t}", dialect="rust", grammar="rust").expand("Vec<&'a str>", form="rust").trees.text, b"Vec<&'a str>")
 print(f"{passed} passed, {failed} failed")
 sys.exit(failed != 0)

@@ -2,7 +2,7 @@
 import sys
 
 import mbe
-import mbe_c as c
+from mbe import c
 from tests import random_tokens, rust_texts, rust_tokens
 from tests.suffixes import SUFFIXES
 

@@ -1,21 +1,21 @@
-"""What the tests of `expandm` have in common: texts with a definition, files in rows, and what is in reports."""
+"""Helpers of the tests of `expandm`: texts with a definition, files in rows, and parts of reports."""
 import json
 import re
 
 
 def defined(rules, rest):
-    """The text of a definition and what follows it in the next line."""
+    """The text of a definition, and the text after it in the next line."""
     return f"macro_rules! {rules}\n{rest}"
 
 
 def check_becomes(program, table, row, text, want):
-    """A text becomes that, calls nine deep in others too, and nothing is reported."""
+    """A text has this expansion, also with calls nine deep in others, and nothing is reported."""
     ran = program.run(["--depth", "9", "a.rs"], {"a.rs": text})
     program.check(table, row, (ran.status, ran.out, ran.err), (0, want, ""))
 
 
 def check_like(program, table, rows):
-    """What follows a definition becomes what the row says, and nothing is reported."""
+    """The text after a definition has the expansion of the row, and nothing is reported."""
     for row in rows:
         rules, rest, want = row
         check_becomes(program, table, row, defined(rules, rest), defined(rules, want))
@@ -66,7 +66,7 @@ def notes(err):
 
 
 def notes_in_lines(err):
-    """The same of notes in the form `FILE:LINE:COL: note: MESSAGE`."""
+    """The location and the message of each note in the form `FILE:LINE:COL: note: MESSAGE`."""
     return [f"{place} {note}" for place, note in re.findall(r"^a\.rs:(\d+:\d+): note: (.*)$", err, re.M)]
 
 

@@ -1,10 +1,10 @@
-"""What attributes mean, as rustc 1.95 says, whom `tools/rustc/cfg-forms.py` asks: whether what they are on is compiled, under
-`--cfg yes --cfg 'mode="fast"' --features std`, and the options of targets.
+"""The meaning of attributes: whether their target is compiled under `--cfg yes --cfg 'mode="fast"' --features std`. Also the options of
+targets. `tools/rustc/cfg-forms.py` compares the rows with rustc 1.95.
 """
 from expandm import defined
 from programs import spelled
 
-# Attributes that are in order, and whether what they are on is compiled.
+# Attributes without a fault, and whether their target is compiled.
 HOLD = (
     ("", True),
     ("#[inline]", True),
@@ -54,7 +54,7 @@ HOLD = (
     ('#[cfg_attr(yes, cfg_attr(unix, doc = "a, b", cfg(no)))]', False),
 )
 
-# Attributes that have a fault, the byte where it is, and what it is.
+# Attributes with a fault, the byte of the fault, and its message.
 FAULTS = (
     ("#[cfg]", 2, "Malformed"),
     ('#[cfg = "a"]', 2, "Malformed"),
@@ -115,7 +115,7 @@ MESSAGES = {
     "TooDeep": "predicates are nested too deep",
 }
 
-# Targets, an option that each has, and those of `unix` and `windows` that it has.
+# Targets, an option that each has, and which of `unix` and `windows` it has.
 TARGETS = (
     ("x86_64-unknown-linux-gnu", 'target_os = "linux"', "unix"),
     ("x86_64-pc-windows-msvc", 'target_env = "msvc"', "windows"),
@@ -124,7 +124,7 @@ TARGETS = (
     ("wasm32-unknown-unknown", 'target_family = "wasm"', ""),
 )
 
-# What holds with the feature `a-b` and tests, and what doesn't.
+# Predicates that hold with the feature `a-b` and tests, and predicates that don't.
 GIVEN = (
     ("test", True),
     ('feature = "a-b"', True),
@@ -146,14 +146,14 @@ def ran_on(program, words, attribute):
 
 
 def check_holds(program, table, words, attribute, holds):
-    """The call is expanded just if what the attribute is on is compiled."""
+    """The call is expanded exactly if the target of the attribute is compiled."""
     text, ran = ran_on(program, words, attribute)
     want = defined(M, text.replace("m!()", "1") if holds else text)
     program.check(table, (words, attribute), (ran.status, ran.out, ran.err), (0, want, ""))
 
 
 def check_fault(program, table, attribute, at, wrong):
-    """The fault is said where it is, first of all."""
+    """The first report is the fault, at its location."""
     _, ran = ran_on(program, OPTIONS, attribute)
     said = ran.err.split("\n")[0]
     program.check(table, attribute, (ran.status, said), (1, f"a.rs:2:{at + 1}: error: {MESSAGES[wrong]}"))

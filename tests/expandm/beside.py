@@ -1,9 +1,9 @@
-"""Calls beside operators, groups and statements: what an expansion is put in so that the text means what the call meant. Worked
-out by hand, by the precedences of the Rust Reference.
+"""Calls beside operators, groups and statements: the delimiters that an expansion gets so that the text means the same as the call.
+Worked out by hand, by the precedences of the Rust Reference.
 """
 from expandm import check_like
 
-# A definition, what follows it, and what that becomes.
+# A definition, the text after it, and the expansion of that text.
 ROWS = (
     ("m { ($x:expr) => { |y| y + $x } }", "f = m!(1)(2);", "f = (|y| y + 1)(2);"),
     (
@@ -60,8 +60,8 @@ ROWS = (
     ("m { ($t:ty) => { $t } }", "let x: m!(V<u8>) = y; [m!(V<u8>); 2]", "let x: V<u8> = y; [V<u8>; 2]"),
 )
 
-# The same, where rustc takes the value of a call in parentheses or brackets and ignores the `;` of its template. `rustc -Zunpretty=expanded`
-# shows this. A call in braces at the end of a block is a statement.
+# Such rows for templates that end in a `;`. rustc takes the value of a call in parentheses or brackets, and ignores this `;`.
+# `rustc -Zunpretty=expanded` shows this. A call in braces at the end of a block is a statement.
 SEMICOLONS = (
     ("m { () => { 31; } }", "fn f() -> u8 { m!() } fn g() -> u8 { m![] }", "fn f() -> u8 { 31 } fn g() -> u8 { 31 }"),
     ("m { () => { 31; } }", "x = { m!() }; x = if a { m!() } else { 4 };", "x = { 31 }; x = if a { 31 } else { 4 };"),

@@ -1,7 +1,7 @@
-"""Names that hygiene keeps apart. Which ones these are was worked out by the rules of hygiene."""
+"""Names that hygiene keeps apart. They are worked out by hand, by the rules of hygiene."""
 from expandm import check_becomes, check_like, defined, joined, objects
 
-# A definition, a call of it, and the notes: each with the byte of the call's line, or of the definition's (from 0), where it is.
+# A definition, a call of it, and the notes: each with its line (0 for the definition, 1 for the call) and its byte in that line.
 ROWS = (
     (
         "m { ($x:ident) => { let $x = 1; a + $x } }",
@@ -36,7 +36,7 @@ ROWS = (
         "0:44 this `a` is the one that the call binds; 1:3 `a` is bound here; ",
     ),
     ("m { ($x:ident) => { let S { $x: b } = c; a } }", "m!(a);", ""),
-    # What may be the macro's local, and may be none.
+    # Words that may or may not be the macro's local.
     (
         "m { ($x:expr) => { let a = 1; S { a } + $x } }",
         "m!(a);",
@@ -47,7 +47,7 @@ ROWS = (
         "m!(a);",
         "0:46 `a` keeps its name, since this may be the one that a macro binds; 0:36 `a` is bound here; ",
     ),
-    # A string of the template's own: what it names is the local, however often and however its brace is written.
+    # A string of the template: the names in it are the local, however often, and however its brace is written.
     (
         'm { ($x:expr) => { let a = 1; f!("{a} {a:?} {:a$}", $x) } }',
         "m!(a);",
@@ -80,7 +80,7 @@ ROWS = (
         "m!(a);",
         "0:57 `a` keeps its name, since this may be the one that a macro binds; 0:38 `a` is bound here; ",
     ),
-    # A call that may be a pattern: what it binds is a local of its own.
+    # A call that may be a pattern: a name that it binds is a local of the call alone.
     (
         "m { () => { a } }",
         'let m!() = 2; f!("{a}");',
@@ -125,8 +125,8 @@ STRINGS = (
 )
 OTHER_STRINGS = ('"a"', '"{}a"', '"{b}a{c}"', '"{ab} {ba} {a_1}"', '"{:?} a: {}"', r'"\u{61}a"', 'b"{a}"', "'a'")
 
-# A definition, what follows it, and what that becomes: locals and labels of the macro have names of their own where others have
-# theirs. Where the text has white space is the writer's choice.
+# A definition, the text after it, and the expansion of that text. Locals and labels of the macro are renamed if other words have their
+# names. The white space of the text is the printer's choice.
 RENAMED = (
     ("m { ($x:expr) => {{ let a = 1; a + $x }} }", "y = m!(a);", "y = {\n    let a_1 = 1;\n    a_1 + a\n};"),
     ("m { ($x:expr) => {{ let a = 1; a + $x }} }", "y = m!(b);", "y = {\n    let a = 1;\n    a + b\n};"),
@@ -169,7 +169,7 @@ RENAMED = (
         "macro_rules! n {\n    () => {\n        {\n            let b = 1;\n            a + b\n        }\n    }\n"
         "} y = {\n    let b = 1;\n    a + b\n};",
     ),
-    # A string has the names that the text of a format takes from around it.
+    # A string has the names that a format uses from its surroundings.
     *(
         (
             "m { ($x:tt) => {{ let a = 1; f!(a, $x) }} }",
@@ -202,7 +202,7 @@ RENAMED = (
     ("m { ($x:expr) => { let a = $x; } }", '{ m!(1); #[doc = "{a}"] fn f() {} }', '{ let a = 1; #[doc = "{a}"] fn f() {} }'),
     ("m { ($x:expr) => { { let a = $x; } } }", '{ m!(1); f!("{a}") }', '{ {\n    let a = 1;\n}; f!("{a}") }'),
     ("m { ($i:ident $j:ident) => {{ let $i = 1; $j }} }", "y = m!(a a);", "y = {\n    let a = 1;\n    a\n};"),
-    # What a built-in macro takes as text, or as the names of other things, keeps its names.
+    # The names in the argument of a builtin macro that uses them as text, or as names of other things, are unchanged.
     (
         "m { ($x:expr) => {{ let a = $x; f(a, stringify!(a), std::stringify!((a + 1)), core::stringify!([a])) }} }",
         "y = m!(a);",
@@ -244,7 +244,7 @@ RENAMED = (
     ),
 )
 
-# The example of docs/EXPANDM.md: a text, and what it becomes.
+# The example of docs/EXPANDM.md: a text, and its expansion.
 EXAMPLES = (
     (
         """\
@@ -268,7 +268,7 @@ fn f(a: i32) -> i32 { {
 
 
 def noted(text, report):
-    """The line of a report, from 0, the byte of it where it is, and what it says but for where."""
+    """The line of a report, from 0, the byte in that line, and its message without the location."""
     before = text.encode()[: report["spans"][0]["byte_start"]]
     line, byte = before.count(b"\n"), len(before.rpartition(b"\n")[2])
     return f"{line}:{byte} {report['message'].removeprefix('in the expansion of `m!` ')}"

@@ -1,4 +1,4 @@
-"""What the command line asks for, and the one line of an error in it."""
+"""The options of the command line, and the one line of an error in it."""
 import re
 
 # Command lines of runs.

@@ -1,9 +1,9 @@
-"""What texts with `#[cfg]` become, by the words of a run."""
+"""The expansions of texts with `#[cfg]`, by the arguments of a run."""
 
-# What is before each text.
+# The text before each row's text.
 M = "#[cfg(a)] macro_rules! m { () => { 1 }; }\n#[cfg(not(a))] macro_rules! m { () => { 2 }; }\n"
 
-# Words, a text, what it becomes, and the status.
+# Arguments, a text, its expansion, and the status.
 ROWS = (
     ("a.rs", "x = m!();", "x = 2;", 0),
     ("--cfg a a.rs", "x = m!();", "x = 1;", 0),

@@ -1,9 +1,9 @@
-"""Characters of a file that a terminal would obey, in what is reported: a sign is in place of each. The signs are those of rustc 1.95, which
-leaves U+0080 to U+009F as they are.
+"""Control characters of a file in reports: a sign replaces each, so that no terminal obeys it. The signs are the same as in rustc 1.95,
+except that rustc leaves U+0080 to U+009F unchanged.
 """
 from expandm import objects
 
-# A character in a string, and what is shown in its place.
+# A character in a string, and the sign that is shown for it.
 ROWS = (
     ("\x01", "␁"),
     ("\x07", "␇"),

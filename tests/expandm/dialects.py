@@ -1,10 +1,15 @@
-"""The two dialects: what rustc 1.95 makes of a call, and what `--dialect rust-analyzer` does. rustc keeps most fragments whole, so `tt`
-takes one as a token tree and no token of a pattern matches it; it lets no empty `vis` match at the end; raw and plain identifiers differ;
-and it tries no later rule where a fragment has begun, after a local ambiguity, or where a rule's template faults.
+"""The two dialects: how rustc 1.95 expands a call, and how `--dialect rust-analyzer` does.
+
+In rustc's dialect:
+
+- Most fragments stay whole. `tt` matches such a fragment as one token tree, and no token of a pattern matches it.
+- An empty `vis` doesn't match at the end.
+- Raw and plain identifiers differ.
+- No later rule is tried if a fragment has begun, after a local ambiguity, or if a rule's template faults.
 """
 from expandm import defined
 
-# Rules of `m`; what follows; what rustc makes of it; what rust-analyzer does.
+# Rules of `m`; the text after them; its expansion by rustc; its expansion by rust-analyzer.
 ROWS = (
     # A fragment is one token tree.
     *(
@@ -52,7 +57,7 @@ ROWS = (
         "x = 3;",
         "x = 3;",
     ),
-    # The kinds that take a fragment again.
+    # The kinds that match a fragment again.
     (
         "m { ($l:literal) => { (k!($l), l!($l), n!($l)) } } macro_rules! k { ($x:literal) => { 3 } } "
         "macro_rules! l { ($x:expr) => { 4 } } macro_rules! n { ($x:pat) => { 5 } }",
@@ -73,7 +78,7 @@ ROWS = (
         "x = 3;",
         "x = 3;",
     ),
-    # What is passed on is written as before.
+    # A fragment that is passed on is emitted in the same way.
     (
         "m { ($e:expr) => { k!($e) } } macro_rules! k { ($e:expr) => { $e * 2 } }",
         "x = m!(1 + 2); x = m!(a);",
@@ -89,7 +94,7 @@ ROWS = (
     # Raw and plain names.
     ("m { (a) => { 6 }; (r#a) => { 7 } }", "x = m!(r#a); x = m!(a);", "x = 7; x = 6;", "x = 6; x = 6;"),
     ("m { ($($x:ident)r#a*) => { 6 }; ($($x:tt)*) => { 7 } }", "x = m!(b r#a b); x = m!(b a b);", "x = 6; x = 7;", "x = 6; x = 6;"),
-    # What begins no fragment. rustc tries the next rule.
+    # Tokens that begin no fragment. rustc tries the next rule.
     *(
         (f"m {{ ($x:{kind}) => {{ 1 }}; ($($t:tt)*) => {{ 2 }} }}", f"x = m!({argument});", "x = 2;", "x = 2;")
         for kind, argument in (
@@ -110,7 +115,7 @@ ROWS = (
     ('m { (1) => { 6 }; ("1") => { 7 } }', 'x = m!("1"); x = m!(1);', "x = 7; x = 6;", "x = 6; x = 6;"),
 )
 
-# Rules of `m`, its argument, which rustc reports without a look at later rules, and what rust-analyzer makes of the call.
+# Rules of `m`, an argument, for which rustc reports an error without a look at later rules, and the expansion by rust-analyzer.
 COMMITTED = (
     # A fragment begins and has a fault inside.
     ("($a:expr) => { 1 }; (1 +) => { 4 }", "1 +", "4"),
@@ -130,8 +135,8 @@ COMMITTED = (
 # The kinds of an inner macro's variable.
 KINDS = "expr literal path ty pat pat_param stmt block item meta vis ident lifetime tt"
 
-# What a variable of that kind is bound to; and for each of the kinds above what rustc does with the fragment there: `1` if it is taken,
-# `2` if the next rule is tried, which takes any tokens, and `-` if the call ends with an error.
+# A fragment of one kind, and what rustc does with it for a variable of each of the kinds above: `1` if the variable matches it, `2` if
+# the next rule is tried, which matches any tokens, and `-` if the call ends with an error.
 TAKEN = (
     ("expr", "a.b", "1 2 - 2 1 1 1 - - - 2 2 2 1"),
     ("expr", "1", "1 1 - 2 1 1 1 - - - 2 2 2 1"),
@@ -158,8 +163,8 @@ TAKEN = (
 
 FOLLOWED_KINDS = "expr literal path ty pat stmt block item meta vis"
 
-# Kinds and arguments as above, what is passed on, in which `$x` is the fragment, and what rustc does with it for each of these kinds. What is
-# in parentheses isn't looked at, unlike in rustc.
+# Kinds and arguments as above; the tokens that are passed on, in which `$x` is the fragment; and what rustc does with them for each of
+# these kinds. Unlike rustc, `expandm` doesn't look into parentheses.
 FOLLOWED = (
     ("ty", "V<u8>", "$x::A", "2 2 2 2 - - 2 - - 2"),
     ("ty", "u8", "$x::A", "2 2 2 2 - - 2 - 2 2"),

@@ -1,9 +1,9 @@
-"""What is reported of calls beside errors: what rules say of them, steps, and where tokens are from. Where each rule stops, what it
-wants there, what its variables took, and where each token is from was worked out by hand.
+"""Reports on calls beside errors: explanations of rules, steps, and the origins of tokens. These are worked out by hand: where each rule
+stops, what it expects there, what its variables are bound to, and the origin of each token.
 """
 from expandm import defined, joined, notes, notes_in_lines, objects, shown
 
-# A definition, a call of it in the next line, and what its rules say: each note with its line and column.
+# A definition, a call in the next line, and the notes on its rules, each with its line and column.
 ROWS = (
     (
         "m { ($($x:expr),*) => {} }",
@@ -112,8 +112,8 @@ ROWS = (
     ),
 )
 
-# A definition, a call of it in the next line, and where each token of each expansion is from, in the order of the steps; a group is
-# where it opens. An expression with operators is in parentheses, which are where its variable is.
+# A definition, a call in the next line, and the origin of each token of each expansion, in the order of the steps. The origin of a group
+# is that of its opening. An expression with operators is in parentheses. The variable in the template is their origin.
 ORIGINS = (
     ("m { ($x:ident) => { fn $x() {} } }", "m!(a);", "1:34 `fn`; 2:4 `a`; 1:39 `(`; 1:42 `{`; "),
     (
@@ -129,8 +129,7 @@ ORIGINS = (
     ("m { ($($x:ident)*) => { $(struct $x;)* } }", "m!();", ""),
 )
 
-# A definition, a call of it in the next line, and what rustc 1.95 notes of it under `trace_macros`, but for line breaks, each at its
-# call.
+# A definition, a call in the next line, and the notes of rustc 1.95 under `trace_macros`, each at its call. Line breaks don't count.
 STEPS = (
     ("m { ($x:ident) => { fn $x() {} } }", "m!(a);", "2:1 expanding `m! { a }`; 2:1 to `fn a () {}`; "),
     (
@@ -146,8 +145,8 @@ STEPS = (
     ),
 )
 
-# Words, a file, and what is reported of it: the example of docs/EXPANDM.md, and wide characters, which take two columns, where tabs
-# take four.
+# Arguments, a file, and its reports: the example of docs/EXPANDM.md, and a file with tabs and wide characters. A tab has four columns, and
+# a wide character two.
 REPORTS = (
     (
         "--explain=2:13 a.rs",
@@ -196,7 +195,7 @@ error: no rules expected `b` in the call of `m!`
     ),
 )
 
-# Words, the file of the example, and the notes on it.
+# Arguments, the file of the example, and the notes on it.
 NOTES = (
     (
         "--explain=3 a.rs",
@@ -220,7 +219,7 @@ fn main() { pair!(a -> 1); pair!(b = 2 + 3); }
     ),
 )
 
-# Words, a file, and its objects. Where its lines end with carriage returns, too, bytes are those of the file as it is.
+# Arguments, a file, and its objects. Bytes count in the file as it is, also if its lines end with carriage returns.
 OBJECTS = (
     (
         "--explain=2 a.rs",
@@ -234,7 +233,7 @@ OBJECTS = (
 )
 
 
-# What README.md shows: the file crates/expandm/data/mistake.rs, the explanation of its call, and the text with the missing `:`.
+# The example of README.md: the file crates/expandm/data/mistake.rs, the explanation of its call, and the text with the missing `:`.
 MISTAKE = """\
 macro_rules! pairs {
     ($($key:ident: $value:expr),*) => {
@@ -285,12 +284,12 @@ def unspaced(text):
 
 
 def reported(program, words, text):
-    """What is on standard error of a run on the file `a.rs`."""
+    """The standard error of a run on the file `a.rs`."""
     return program.run(words.split(), {"a.rs": text}).err
 
 
 def tokens(said):
-    """Of notes on tokens, the place and the token."""
+    """The location and the token of each note on a token."""
     return [note.split(" in the expansion of `m!`")[0] for note in said if " in the expansion of `m!`" in note]
 
 

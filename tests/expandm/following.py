@@ -1,13 +1,17 @@
-"""What is found of rules alone, by the reports of `expandm --lint`, in edition 2024: `followed NAME PLACE NEXT;` for what may follow a
-fragment and mayn't, `twice NAME PLACE LATER;`, `unknown NAME PLACE;`, `unbound NAME PLACE;`, `unused NAME PLACE;` and
-`repeats NAME PLACE USED;`. Places are byte offsets in the text of a definition, of names and of what follows.
+"""Findings in rules alone, by the reports of `expandm --lint`, in edition 2024. A finding is one of these:
+
+- `followed NAME PLACE NEXT;`: a token follows the fragment that mustn't follow it;
+- `twice NAME PLACE LATER;`, `unknown NAME PLACE;`, `unbound NAME PLACE;`, `unused NAME PLACE;`;
+- `repeats NAME PLACE USED;`.
+
+PLACE, NEXT, LATER and USED are byte offsets in the text of a definition: of names, and of the token that follows.
 """
 import re
 
 from expandm import joined, objects
 
-# What may follow a fragment, and names that are bound twice or have an unknown specifier: rustc 1.95 refuses each of these
-# definitions at the second place of each line, or the only one, and nowhere else.
+# Tokens that follow a fragment, and names that are bound twice or have an unknown specifier. rustc 1.95 refuses each of these definitions
+# at the last offset of each line, and nowhere else.
 FOLLOWING = (
     ("($_e:expr =>) => {}", ""),
     ("($_e:expr ,) => {}", ""),
@@ -198,8 +202,8 @@ OTHERS = {
     "($x:ident) => {}; ($y:ident) => {$x}": "unreachable rule: rule 1 matches everything it does; ",
 }
 
-# Of each kind of finding, what is reported: the part of the text and what is said of it; and of the note at the variable, if that is
-# elsewhere, what it says. Of a punct of several chars the first one is the part.
+# What is reported for each kind of finding: the part of the text and the message, and the message of the note at the variable, if the
+# variable is elsewhere. The part of an operator of several chars is its first char.
 KINDS = (
     (
         "followed",
@@ -215,7 +219,7 @@ KINDS = (
 
 VARIABLE = re.compile(r"\$(?P<name>\w+)(:(?P<specifier>\w+))?")
 
-# What is before a definition's text.
+# The text before a definition.
 BEFORE = "macro_rules! m { "
 
 
@@ -226,7 +230,7 @@ def part_of(text, report):
 
 
 def place_of(text, report):
-    """Where that part begins; of a variable, where its name does."""
+    """The byte at which that part begins, or at which its name begins if it is a variable."""
     (at,) = report["spans"]
     return at["byte_start"] - len(BEFORE) + part_of(text, report).startswith("$")
 
@@ -243,7 +247,7 @@ def grouped(reports):
 
 
 def finding(text, report, rest):
-    """What a row says of a report and the notes after it, or nothing if it isn't of a finding."""
+    """The form of a report and of the notes after it in a row, or nothing if it isn't on a finding."""
     said = f"{part_of(text, report)}: {report['message']}"
     for kind, form, note in KINDS:
         at = next((it for it in rest if note and re.fullmatch(note, it["message"])), report)

@@ -1,10 +1,14 @@
-"""What a fragment is to rustc, which keeps it whole, and calls of macros that are built in. Worked out by hand, and by what rustc 1.95
-makes of such calls: `u8 < 1` after `as` begins generic arguments, `-2.pow(2)` is -4 and `(-2).pow(2)` is 4, `stringify!` shows no
-parentheses that the argument doesn't have, `concat!` takes none, and `line!()` and `column!()` are the place of the outermost call.
+"""Fragments, which rustc keeps whole, and calls of builtin macros. The rows are worked out by hand, and by how rustc 1.95 expands such
+calls:
+
+- `u8 < 1` after `as` begins generic arguments.
+- `-2.pow(2)` is -4, and `(-2).pow(2)` is 4.
+- `stringify!` shows no parentheses that the argument doesn't have, and `concat!` accepts none.
+- `line!()` and `column!()` are the line and the column of the outermost call.
 """
 from expandm import check_like
 
-# A definition, what follows it, and what that becomes.
+# A definition, the text after it, and the expansion of that text.
 TYPES = (
     ("m { ($x:expr, $t:ty) => { $x as $t << 1 } }", "x = m!(y, u32);", "x = y as (u32) << 1;"),
     (
@@ -65,7 +69,7 @@ RECEIVERS = (
         "x = (-5).abs(); x = ((-5).abs()).abs();",
     ),
     ("m { ($e:expr) => { n!($e.f()) } } macro_rules! n { ($e:expr) => { $e.g() } }", "x = m!(-5);", "x = ((-5).f()).g();"),
-    # What another variable takes may begin with a `.`.
+    # The fragment of another variable may begin with a `.`.
     (
         "m { ($e:expr; $($t:tt)*) => { $e $($t)* } }",
         "x = m!(-2; .pow(2)); x = m!(-2; + 1); x = m!(-2; ..3);",
@@ -107,8 +111,8 @@ SINGLE_OPERANDS = (
     ("m { ($e:expr) => { $e; } }", "m!(n!(2));", "(n!(2));"),
 )
 
-# Patterns and types after a sign that would apply to a part of them, and paths before a `<`. rustc accepts `&(3 | 4)`, refuses `&1..=5`
-# and `&dyn A + B`, and reads `&mut x` as a reference to what is mutable.
+# Patterns and types after a sign that would apply to a part of them, and paths before a `<`. rustc accepts `&(3 | 4)`. It refuses `&1..=5`
+# and `&dyn A + B`. It reads `&mut x` as a mutable reference.
 OPERANDS = (
     ("m { ($p:pat) => { match x { &$p => 1, z @ $p => 2, $p => 3 } } }", "m!(3 | 4);", "match x {\n    &(3 | 4) => 1, z @ (3 | 4) => 2, 3 | 4 => 3\n};"),
     ("m { ($p:pat) => { match x { &$p => 1, z @ $p => 2 } } }", "m!(1..=5);", "match x {\n    &(1..=5) => 1, z @ (1..=5) => 2\n};"),
@@ -120,7 +124,7 @@ OPERANDS = (
     ("m { ($t:path) => { 3 as $t << 1 } }", "x = m!(i64);", "x = 3 as (i64) << 1;"),
 )
 
-# Statements end before what follows them, and a `let` needs its `;`. In the argument of a macro nothing is added.
+# A statement ends before the next token, and a `let` needs its `;`. In the argument of a macro nothing is added.
 STATEMENTS = (
     ("s { ($s:stmt) => { $s - 1; } }", "fn f() { s!(let a = 3); }", "fn f() { let a = 3;\n- 1; }"),
     ("t { ($($s:stmt);*) => { $($s)* } }", "fn f() { t!(z = 2; -3) }", "fn f() { z = 2;\n-3 }"),

@@ -1,22 +1,24 @@
-"""What is said of definitions alone. Where a row's messages are errors, rustc 1.95 reports them with these words at these places, except
-that a definition without rules is reported at its name, and that errors of depths are at the call's expansion; the warnings on unknown
-variables are those of its lint `meta_variable_misuse`. The specifiers that are similar are those that it names for fields of these names: tools/rustc/lint-rows.py asks
-it. The rest was worked out by hand.
+"""Lints of definitions.
+
+rustc 1.95 reports the errors of these rows in these words and at these locations, with two exceptions: a definition without rules is
+reported at its name here, and rustc reports errors of depths at the call's expansion. The warnings on unknown variables are the warnings
+of rustc's lint `meta_variable_misuse`. The similar specifiers are the names that rustc suggests for fields of these names, as
+tools/rustc/lint-rows.py shows. The rest is worked out by hand.
 """
 import re
 
 from expandm import joined, messages, objects, shown
 
-# The list of specifiers, which is said of each unknown one.
+# The list of specifiers, which is reported for each unknown one.
 VALID = (
     "valid fragment specifiers are `ident`, `block`, `stmt`, `expr`, `pat`, `ty`, `lifetime`, `literal`, `path`, "
     "`meta`, `tt`, `item` and `vis`, along with `expr_2021` and `pat_param` for edition compatibility"
 )
 
-# What is said of a repetition without a variable that repeats there.
+# The message on a repetition without a variable that repeats there.
 FIXED = "attempted to repeat an expression containing no syntax variables matched as repeating at this depth"
 
-# A file, and what is said of its definitions.
+# A file, and the lints of its definitions.
 DEFINITIONS = (
     ("", ""),
     ("#[cfg(windows)] macro_rules! m { ($x:ident $x:ident) => { $x } }", ""),
@@ -77,7 +79,7 @@ DEFINITIONS = (
         "macro_rules! m { ($($x:ident)*) => { $x } }",
         "1:38 error: variable `x` is still repeating at this depth; 1:21 note: bound at depth 1, and used at depth 0; ",
     ),
-    # rustc says `may be` where something else can follow: a later token, a separator, or the end of a group.
+    # rustc says `may be` if something else can follow: a later token, a separator, or the end of a group.
     (
         "macro_rules! m { (($e:expr $(bar)?)) => { $e } }",
         "1:30 error: `$e:expr` may be followed by `bar`, which is not allowed for `expr` fragments; "
@@ -216,22 +218,22 @@ DEFINITIONS = (
     ("m! { macro_rules! n { ($x:tt) => {} } }\nmacro_rules! o { () => { macro_rules! p { ($x:zzz) => {} } } }", ""),
 )
 
-# A definition of `m!`, and which of its rules no call reaches, each with its place and the earlier rule that takes what it takes.
+# A definition of `m!`, and its unreachable rules, each with its location and the earlier rule that matches everything it does.
 UNREACHED = (
     ("macro_rules! m { (a $x:ty) => { $x }; (a $y:ty) => { $y } }", "1:39 by 1; "),
     ("macro_rules! m { (a) => { 1 };\n (b) => { 2 };\n (a) => { 3 };\n (b) => { 4 } }", "3:2 by 1; 4:2 by 2; "),
     ("macro_rules! m { (a) => {}; (a) => {}; (a) => {} }", "1:29 by 1; 1:40 by 1; "),
-    # Each fits what the other doesn't.
+    # Each rule matches calls that the other doesn't.
     ("macro_rules! m { ($x:ty) => { $x }; ($x:expr) => { $x } }", ""),
     ("macro_rules! m { ($($x:ident),*) => { $($x)* }; ($($x:ident);*) => { $($x)* } }", ""),
     ("macro_rules! m { ($($x:ident)*) => { $($x)* }; ($($x:ident)+) => { $($x)+ } }", ""),
     ("macro_rules! m { ((a)) => {}; ([a]) => {} }", ""),
     ("macro_rules! m { (+ =) => {}; (+=) => {} }", ""),
-    # `$($t:tt)*` takes everything, and `$($t:tt)+` not.
+    # `$($t:tt)*` matches everything, and `$($t:tt)+` doesn't.
     ("macro_rules! m { ($($t:tt)*) => { $($t)* }; (a [b $x:expr]) => { $x } }", "1:45 by 1; "),
     ("macro_rules! m { ($($t:tt)+) => { $($t)* }; (a) => {} }", ""),
     ("macro_rules! m { ($($t:tt),*) => { $($t)* }; (a) => {} }", ""),
-    # Where the earlier rule's substitution faults, the search goes on.
+    # If the template of the earlier rule faults, the search goes on.
     ("macro_rules! m { ($($x:ident)*) => { $($x)+ }; ($($_y:ident)*) => {} }", ""),
     (
         "macro_rules! m { ($($x:ident)* ; $($y:ident)*) => { $($x $y)* }; "
@@ -287,7 +289,7 @@ SIMILAR = (
     ("paht", "pat"),
 )
 
-# The example of docs/EXPANDM.md: a file, what is reported of it, and the objects of the same reports.
+# The example of docs/EXPANDM.md: a file, its reports, and these reports as objects.
 EXAMPLES = (
     (
         """\
@@ -356,10 +358,10 @@ note: bound at depth 1, and used at depth 0
     ),
 )
 
-# Of a message that no call reaches a rule, where the rule is, and the number of the earlier one.
+# A message on an unreachable rule: the location of the rule, and the number of the earlier rule.
 REACHES = re.compile(r"(\S+) warning: unreachable rule: rule (\d+) matches everything it does")
 
-# Of a message on an unknown specifier, the similar one.
+# A message on an unknown specifier: the similar specifier.
 EXISTS = re.compile(r"\S+ help: a fragment specifier with a similar name exists: `(\w+)`")
 
 

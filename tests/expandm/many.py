@@ -1,14 +1,14 @@
-"""Runs that report many things: each of them is reported, whatever the form of the reports is."""
+"""Runs with many reports: each one is written, in every form of reports."""
 from collections import Counter
 
 from expandm import objects
 
-# How many calls fail in a text, how many rules a macro has, and how many definitions are reported on. None of these has made a run end
-# early, with a stack of the usual size.
+# The number of failing calls in a text, of rules in a macro, and of definitions with a report. With a stack of the usual size, no run must
+# end early.
 MANY = 50_000
 
-# Texts by their names. In `unreached`, rule 1 takes what the other rules take; their number is smaller, since each is compared with the
-# ones before it.
+# Texts by their names. In `unreached`, rule 1 matches everything that the other rules do. There are fewer of them, because each is compared
+# with the rules before it.
 TEXTS = {
     "calls": "macro_rules! m { (a) => {} }\n" + "m!(b);\n" * MANY,
     "rules": "macro_rules! m {\n" + "(a) => {};\n" * MANY + "}\nm!(b);\n",
@@ -16,8 +16,8 @@ TEXTS = {
     "unreached": "macro_rules! m {\n" + "(a) => {};\n" * 10_000 + "}\n",
 }
 
-# The name of a text, the words, and how many reports of each level there are. Of a call that no rule fits each rule says where it
-# stops, and where it has what it wants. With the warning of an unused variable comes a help, as in rustc.
+# The name of a text, the arguments, and the number of reports of each level. If no rule matches a call, each rule has a note where it
+# stops, and a note at what it expects. A help follows the warning of an unused variable, as in rustc.
 ROWS = (
     ("calls", "", {"error": MANY}),
     ("calls", "--json", {"error": MANY}),
@@ -30,7 +30,7 @@ ROWS = (
 
 
 def level(line):
-    """The level of a report that begins in a line: in the form of rustc, or with its place before it."""
+    """The level of a report that begins in a line: in the form of rustc, or with its location before it."""
     front = line.split(": ", 2)
     return front[1] if front[0].startswith("a.rs:") else front[0]
 

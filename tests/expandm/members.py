@@ -1,8 +1,8 @@
-"""The objects of `--json`, as a reader of JSON takes them. The members are those of rustc's `--error-format=json`."""
+"""The objects of `--json`, as a reader of JSON reads them. They have the members of rustc's `--error-format=json`."""
 from expandm import objects
 
-# A word, a file and its text; the status; and the first reports, each by its level, its message, where it is (the
-# bytes, the line and the columns), that line, and the line below it.
+# An argument, a file and its text; the status; and the first reports. A report has its level, its message, its location (the bytes, the
+# line and the columns), the text of that line, and the line below it.
 ROWS = (
     (
         "--explain", 'dir/a "b".rs', 'xyz\nmacro_rules! m { ("\\\\漢\n") => {} }\nx = m!(b);\n', 1,
@@ -25,7 +25,7 @@ ROWS = (
     ),
 )
 
-# What is said of no place.
+# Messages without a location.
 UNREADABLE = "couldn't read `b.rs`: No such file or directory (os error 2)"
 
 

@@ -1,4 +1,4 @@
-"""Calls that no rule matches: the message and its place, which are those of rustc 1.95. `expandm` adds the name of the macro."""
+"""Calls that no rule matches: the message and the location of rustc 1.95. `expandm` adds the name of the macro."""
 from expandm import defined, objects
 
 # Rules; an argument with `§` before the token at fault, or at the end where that is the closing; rustc's message.

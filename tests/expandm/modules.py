@@ -1,10 +1,10 @@
-"""What the files of crates become whose modules are in files, and where each is written."""
+"""The expansions of crates whose modules are in files, and where each file is written."""
 import os
 
 from expandm import counted, files_of
 
-# Words, of which the last is a crate's root; files, that one first, each `PATH: TEXT` and a `|` after it; what they become, a `|` after
-# each; and how many notes there are.
+# Arguments, the last of which is a crate's root; the files, the root first, each `PATH: TEXT` with a `|` after it; their expansions, each
+# with a `|` after it; and the number of notes.
 ROWS = (
     (
         "src/lib.rs",
@@ -163,19 +163,19 @@ HERE = "/proc/self/cwd"
 
 
 def is_read(words, texts, path):
-    """Whether a run reads a file: one of a module isn't, where none is followed, in standard input, and where it is left out."""
+    """Whether a run reads a file. A module's file isn't read if modules aren't followed, for standard input, and if it is left out."""
     name = os.path.basename(path).removesuffix(".rs")
     is_left_out = any(f"#[cfg(no)] mod {name};" in text for text in texts)
     return path in words or not ("--no-modules" in words or "-" in words or is_left_out)
 
 
 def written(words, path):
-    """Where what a file becomes is: of those that the words name, under its own name, and else from their folder on."""
+    """The path of a file's expansion. A file that the arguments name keeps its last name. Others keep the path from its folder on."""
     return "out/" + (os.path.basename(path) if path in words else path.removeprefix("src/"))
 
 
 def check_crate(program, row):
-    """The files of a crate that are read become what the row says, the others stay, and there are so many notes."""
+    """Each file that is read has the expansion of the row, the others are unchanged, and there are this many notes."""
     words, texts, want, count = row
     words, files = words.split(), files_of(texts)
     places = {path: written(words, path) if is_read(words, files.values(), path) else path for path in files}
@@ -193,7 +193,7 @@ def here(path):
 
 
 def crate_at(folder, path):
-    """A root in the folder, and its `#[path]` for that file: from the folder on, where the path goes on from there."""
+    """A root in the folder, and its `#[path]` for that file: from the folder on, if the path continues from there."""
     start = os.path.join(folder, "")
     if path.startswith(start) and not path.startswith("/"):
         return f"{start}lib.rs", path.removeprefix(start)

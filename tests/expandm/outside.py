@@ -1,8 +1,8 @@
-"""What calls of macros of other crates become."""
+"""The expansions of calls of macros of other crates."""
 from expandm import counted, files_of
 
-# Words; files, each `PATH: TEXT` with a `|` between them, the one that the words name first, and then the roots of other crates; what
-# the first file becomes; and how many notes there are.
+# Arguments; files, each `PATH: TEXT` with a `|` between them; the expansion of the first file; and the number of notes. The arguments name
+# the first file. The roots of other crates follow it.
 ROWS = (
     (
         "--extern maths=maths.rs a.rs",

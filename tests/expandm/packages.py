@@ -49,15 +49,15 @@ def library(name, text, rest="", edition="2021"):
 OPTIONAL = 'path = "d", optional = true'
 PATH = 'path = "d"'
 
-# Words, files, and what is printed, which is what rustc expands the calls to.
+# Arguments, files, and the output, which has the expansions of rustc.
 ROWS = (
     # a path dependency
     ("", {**using(PATH, CALL), **library("d", ONE)}, "const A: u8 = 1;"),
-    # the features of a dependency: those asked for, and `default`
+    # The features of a dependency: the features that are asked for, and `default`.
     ("", {**using('path = "d", features = ["a"]', BOTH), **library("d", FEATURED, FEATURES)}, 'const A: &str = ("a", "no b");'),
     ("", {**using(PATH, BOTH), **library("d", FEATURED, B_BY_DEFAULT)}, 'const A: &str = ("no a", "b");'),
     ("", {**using('path = "d", default-features = false', BOTH), **library("d", FEATURED, B_BY_DEFAULT)}, 'const A: &str = ("no a", "no b");'),
-    # the features of the package aren't those of a dependency
+    # The features of the package aren't features of a dependency.
     ("--features a", {**using(PATH, 'const A: &str = d::a!(); #[cfg(feature = "a")] const B: &str = d::b!();', "[features]\na = []"),
                       **library("d", FEATURED, FEATURES)},
      'const A: &str = "no a"; #[cfg(feature = "a")] const B: &str = "no b";'),
@@ -119,7 +119,7 @@ ROWS = (
      "p 2021 src/lib.rs\nd 2018 d/src/lib.rs a,b\n"),
 )
 
-# Words, files, and the notes.
+# Arguments, files, and the notes.
 NOTES = (
     ("", {**using(PATH, ""), **library("d", "", "[lib]\nproc-macro = true")}, "note: Cargo.toml: procedural macros that are not expanded: 1\n"),
     ("--test", root("", ""), "note: dependencies of tests are not read\n"),
@@ -137,7 +137,7 @@ NOTES = (
      "note: crate `d` has another edition: its `pat` and `expr` are parsed as in the package\n"),
 )
 
-# Words, files, and the error.
+# Arguments, files, and the error.
 ERRORS = (
     ("", {}, "no FILE.rs is named, and there is no Cargo.toml in this folder or above it"),
     ("--lib a.rs", {"a.rs": ""}, "'--lib' is for a package, and a file is named"),
@@ -161,7 +161,7 @@ ERRORS = (
 
 
 def by_cargo(program, words, files):
-    """A run as Cargo starts it: of a program `cargo-expandm`, with the word `expandm` first."""
+    """A run as Cargo starts it: a program `cargo-expandm`, with the first argument `expandm`."""
     with tempfile.TemporaryDirectory() as folder:
         path = f"{folder}/cargo-expandm"
         os.symlink(program.path, path)

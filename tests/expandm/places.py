@@ -1,7 +1,7 @@
 """Lines and columns of a text's bytes."""
 
-# A text, a byte of it, the line and the column of that, and the line's text. A byte counts as if lines ended with a line feed alone.
-# Nothing is reported beyond a text: a byte there is tried as its end.
+# A text, a byte of it, the byte's line and column, and the line's text. A byte counts as if lines ended with a line feed alone.
+# Nothing is reported beyond a text: a byte there counts as its end.
 ROWS = (
     ("", 0, 1, 1, ""),
     ("", 9, 1, 1, ""),
@@ -19,7 +19,7 @@ ROWS = (
     ("a\r\nb\r\n", 2, 2, 1, "b"),
 )
 
-# What isn't Rust wherever it is.
+# Text that isn't Rust anywhere.
 FAULT = "`"
 
 

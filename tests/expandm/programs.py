@@ -1,9 +1,9 @@
-"""Programs with each kind of fragment, with repetitions, and with calls in calls. What they become was worked out by hand, by the
-rules of macros; where the text has white space is the writer's choice.
+"""Programs with each kind of fragment, with repetitions, and with calls in calls. Their expansions are worked out by hand, by the rules of
+macros. The white space of the text is the printer's choice.
 """
 from expandm import check_like
 
-# A definition, what follows it, and what that becomes.
+# A definition, the text after it, and the expansion of that text.
 ROWS = (
     ("m { ($b:block) => { $b }; }", "fn f() -> u8 m!({ 1 })", "fn f() -> u8 {\n    1\n}"),
     ("m { ($e:expr, $f:expr) => { $e * $f }; }", "x = m!(1 + 2, 3) - 1;", "x = ((1 + 2) * 3) - 1;"),

@@ -1,5 +1,5 @@
-"""Where definitions are refused, by the reports of `--lint`: the rule and the place, which is before the token after `§`.
-That is no part of the text; where no token is after it, the place is that of the closing.
+"""The locations at which definitions are refused, by the reports of `--lint`: the rule, and the token after `§`. The `§` is no part of the
+text. If no token follows it, the location is the closing.
 """
 import re
 
@@ -7,7 +7,7 @@ from expandm import objects
 
 EMPTY_REPETITION = "empty token tree in repetition"
 
-# Rules that `;` separates, with the place of the fault; the message, and the number of the rule.
+# Rules that `;` separates, with the location of the fault; the message, and the number of the rule.
 FAULTS = (
     # The trees of a rule.
     ("§a", "expected subtree", 1),
@@ -44,7 +44,7 @@ FAULTS = (
     ("() => {}; ($x:tt) => {$$}; (b §$y) => {}", "missing fragment specifier", 3),
 )
 
-# A repetition that can read nothing and has no separator; where its group is, as rustc 1.95 says.
+# A repetition without a separator that can match nothing, and the location of its group, as in rustc 1.95.
 EMPTY = (
     ("($§()*) => {}", 1),
     ("(a $§($x:vis)*) => {}", 1),
@@ -69,7 +69,7 @@ READ = (
     "(a [$(($x:ty)) , +]) => {..= $( $x )'a?}; (..=) => {}",
 )
 
-# The arguments and the body of a `macro`, with the fault and its place, if there is one.
+# The arguments and the body of a `macro`, with the fault and its location, if there is one.
 PARTS = (
     ("$x:tt, §$y", "$x", "missing fragment specifier"),
     ("$x:tt", "a {$x §$-}", "expected ident"),

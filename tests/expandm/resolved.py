@@ -1,4 +1,4 @@
-"""Which definition a call resolves to, and what is noted where that isn't certain. What a call becomes is what rustc 1.95 makes of it."""
+"""The definition that a call resolves to, and the notes if that isn't certain. rustc 1.95 expands the calls in this way."""
 import re
 
 from expandm import files_of
@@ -16,8 +16,8 @@ USES = "macro_rules! n { ($n:ident, $e:expr) => { macro_rules! $n { () => { $e }
 MODULE = "macro_rules! n { ($n:ident, $e:expr) => { #[macro_use] mod made { macro_rules! $n { () => { $e } } } } }"
 ITEM = "macro_rules! n { ($n:ident, $e:expr) => { pub macro $n() { $e } } }"
 
-# Words, of which the last is the first file; files, each `PATH: TEXT` with a `|` between them; what that file becomes, where `..` is its
-# text up to the last line; and the notes, each by its place and its message, and a name for the message's `{}`.
+# Arguments, the last of which is the first file; files, each `PATH: TEXT` with a `|` between them; the expansion of the first file, in
+# which `..` is its text up to the last line; and the notes. A note has its location, its message, and a name for the message's `{}`.
 ROWS = (
     # A path of two names: the module that it names decides.
     ("a.rs", f"a.rs: {IN_A}\n{IN_B}\nx = [a::m!(), b::m!()];", "..x = [1, 2];", ()),
@@ -94,7 +94,7 @@ ROWS = (
         "a.rs", "a.rs: mod a { macro_rules! vec { () => { 2 } } pub(crate) use vec; }\nuse a::vec; x = vec![];",
         "..use a::vec; x = vec![];", (("2:17", UNSURE, "vec"), ("1:22", HERE, "vec")),
     ),
-    # A `#[macro_use]` module is in the order of the text: what is after it sees its macros, and they shadow earlier ones.
+    # A `#[macro_use]` module is in the order of the text. The code after it sees its macros, and they shadow earlier ones.
     ("a.rs", f"a.rs: {ONE}\n#[macro_use] mod a {{ {TWO} }}\nx = m!();", "..x = 2;", ()),
     ("a.rs", f"a.rs: #[macro_use] mod a {{ {ONE} }}\n{TWO} x = m!();", f"..{TWO} x = 2;", ()),
     (
@@ -140,7 +140,7 @@ ROWS = (
         "a.rs", "a.rs: \nmod a { macro m() { 1 } x = m!(); } fn f() { x = m!(); macro m() { 2 } }",
         "..mod a { macro m() { 1 } x = 1; } fn f() { x = 2; macro m() { 2 } }", (),
     ),
-    # A path of two names finds what only another module has, if a `use` may bring it.
+    # A path of two names finds a macro that only another module has, if a `use` may bring it.
     ("a.rs", f"a.rs: {IN_A}\nmod b {{ pub(crate) use super::a::m; }} x = b::m!();", "..mod b { pub(crate) use super::a::m; } x = 1;", ()),
     ("a.rs", f"a.rs: {IN_A}\nmod b {{ pub(crate) use super::a::*; }} x = b::m!();", "..mod b { pub(crate) use super::a::*; } x = 1;", ()),
     (
@@ -221,7 +221,7 @@ ROWS = (
         f"a.rs: {IN_A}\nmod n {{ pub use b::*; }} x = n::m!();|b.rs: #[macro_export] {TWO}", "..mod n { pub use b::*; } x = n::m!();",
         (("2:32", UNSURE, "m"), ("1:22", HERE, "m"), ("1:30", HERE, "m")),
     ),
-    # A file that is given before another one offers what is in no group.
+    # A file that is given before another one offers its definitions in no group.
     ("b.rs a.rs", f"a.rs: x = m!();|b.rs: {ONE}", "x = 1;", ()),
     ("b.rs a.rs", f"a.rs: x = vec![];|b.rs: macro_rules! vec {{ () => {{ 1 }} }}", "x = vec![];", ()),
     (
@@ -231,7 +231,7 @@ ROWS = (
 )
 
 
-# What docs/EXPANDM.md shows: a file, its last line as it becomes, and the messages.
+# The example of docs/EXPANDM.md: a file, the expansion of its last line, and the messages.
 DOCUMENTED = """\
 mod a { macro_rules! m { () => { 1 } } pub(crate) use m; }
 mod b { macro_rules! m { () => { 2 } } pub(crate) use m; }
@@ -254,7 +254,7 @@ def test_documented(program):
 
 
 def becomes(text, want):
-    """What a file becomes: what the row says, where `..` is the text up to the last line."""
+    """The expansion of a file, as the row has it: `..` is the text up to the last line."""
     if want.startswith(".."):
         return text[: text.rindex("\n") + 1] + want[2:]
     return want

@@ -1,6 +1,6 @@
-"""Attributes before calls. rustc evaluates `cfg` and `cfg_attr` there before it expands the call, and ignores every other attribute that
-it knows; so where a call is expanded, no attribute of it is left to fall on what the call becomes, or on what follows. Where the text
-has white space is the writer's choice.
+"""Attributes before calls. rustc evaluates `cfg` and `cfg_attr` there before it expands the call. It ignores every other attribute that it
+knows. So no attribute of an expanded call is left that could apply to the expansion, or to the code after it. The white space of the text
+is the printer's choice.
 """
 from expandm import check_becomes, check_like, defined
 
@@ -9,7 +9,7 @@ TWO = "two { () => { fn a() {} fn b() {} } }"
 ONE = "e { ($x:expr) => { $x } }"
 A_AND_B = "fn a() {}\nfn b() {}"
 
-# A definition, what follows it, and what that becomes.
+# A definition, the text after it, and the expansion of that text.
 ROWS = (
     (NONE, "#[inline] none! { a } fn f() {}", " fn f() {}"),
     (NONE, "#[cfg(unix)] none! { a } fn main() {}", " fn main() {}"),
@@ -26,11 +26,11 @@ ROWS = (
     # The attribute is on more than the call.
     (ONE, "fn f() { #[allow(unused)] e!(x).len(); }", "fn f() { #[allow(unused)] x.len(); }"),
     (ONE, "match x { #[cfg(unix)] e!(1) => {} }", "match x { #[cfg(unix)] 1 => {} }"),
-    # Unknown macros stay, with what is on them.
+    # Calls of unknown macros are unchanged, with their attributes.
     (ONE, "#[cfg(unix)] n! { e!(1) } #[inline] println!(\"{}\", e!(1));", "#[cfg(unix)] n! { e!(1) } #[inline] println!(\"{}\", 1);"),
     # An attribute that may be a procedural macro.
     (TWO, "#[other] two! {}", f"#[other] {A_AND_B}"),
-    # In an expansion: what a `cfg` disables stays as it is there, and no definition in it counts.
+    # In an expansion: disabled code is unchanged, and no definition in it counts.
     (
         "on { ($(#[$m:meta])* $a:ident) => { $(#[$m])* two!(); } } macro_rules! two { () => { fn a() {} fn b() {} } }",
         "on! { #[cfg(unix)] #[inline] x } on! { #[cfg(windows)] x }",
@@ -49,7 +49,7 @@ ROWS = (
     ),
 )
 
-# The same without `--test`: rustc drops what `#[test]` is on.
+# Texts without `--test`: rustc drops a function with `#[test]`.
 TESTS = (
     (ONE, "#[test] fn f() { e!(1 2); } fn g() { e!(3) }", "#[test] fn f() { e!(1 2); } fn g() { 3 }"),
     (ONE, "#[cfg_attr(unix, test)] fn f() { e!(1 2); }", "#[cfg_attr(unix, test)] fn f() { e!(1 2); }"),
@@ -57,7 +57,7 @@ TESTS = (
     (TWO, "#[test] two! {}", "#[test] two! {}"),
 )
 
-# The example of docs/EXPANDM.md, and what it becomes.
+# The example of docs/EXPANDM.md, and its expansion.
 EXAMPLE = """\
 macro_rules! two { () => { fn a() {} fn b() {} }; }
 #[cfg(unix)]
@@ -71,7 +71,7 @@ EXPANDED = EXAMPLE.replace("#[cfg(unix)]\ntwo! {}", A_AND_B)
 # With `--test`.
 WITH_TESTS = ((ONE, "#[test] fn f() { e!(1) }", "#[test] fn f() { 1 }"),)
 
-# An expansion with attributes that have a fault: each is reported where it stands, and stays before what it is on.
+# An expansion with attributes that have a fault: each is reported at its location, and stays before its target.
 FAULTY = (
     "macro_rules! n { () => { fn a() {} } } macro_rules! m { () => { #[inline] #[cfg(a b)] n!(); #[cfg(a(b))] fn f() {} } }\n"
     "m!();\n",

@@ -1,6 +1,6 @@
-"""What each kind of fragment takes of texts of Rust, as rustc 1.95 says, and the Rust Reference. A text is read by
-`$x:SPECIFIER $($t:tt)*`. What the fragment takes ends before `§`, which is no part of the text; a text without it has
-no such fragment at its front, and in the dialect of rust-analyzer another rule reads it.
+"""The fragments of each kind at the front of Rust texts, by rustc 1.95 and the Rust Reference. A text is matched by
+`$x:SPECIFIER $($t:tt)*`. The fragment ends before `§`, which is no part of the text. A text without `§` has no such
+fragment at its front. In rust-analyzer's dialect another rule matches it.
 """
 from expandm import defined
 
@@ -234,7 +234,7 @@ def squeezed(text):
 
 
 def is_taken(program, edition, specifier, text):
-    """What is left of the text is written after `left`, or the other rule writes `none`."""
+    """The rest of the text is emitted after `left`, or the other rule emits `none`."""
     rules = f"m {{ ($x:{specifier} $($t:tt)*) => {{ left($($t)*) }}; ($($t:tt)*) => {{ none }} }}"
     _, mark, left = text.partition("§")
     whole = text.replace("§", "")

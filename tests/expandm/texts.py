@@ -1,9 +1,9 @@
-"""What a file's text becomes."""
+"""The expansion of a file's text."""
 from expandm import counted
 
 M = "macro_rules! m { () => { m!(1) }; (1) => { 1 } }\n"
 
-# What follows the definition of `m`, the words that say how deep its calls are expanded, what it becomes, and how many notes there are.
+# The text after the definition of `m`, the arguments that limit the depth of calls, the expansion, and the number of notes.
 ROWS = (
     ("", "--depth 9 a.rs", "", 0),
     ("f(m);  // m!()", "--depth 9 a.rs", "f(m);  // m!()", 0),

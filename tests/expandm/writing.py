@@ -1,4 +1,4 @@
-"""What `--write` refuses to write, and that a refused or failing run leaves every file as it was."""
+"""Runs that `--write` refuses. A refused or failing run leaves every file unchanged."""
 import os
 import resource
 import signal
@@ -15,7 +15,7 @@ FILES = {
     "dep/lib.rs": "#[macro_export] macro_rules! d { () => { 2 } }",
 }
 
-# What these become below a folder.
+# The expansions of these files below a folder.
 BECOME = {
     "lib.rs": "macro_rules! m { () => { 1 } } mod a; mod b; x = 1;",
     "a.rs": "y = 1;",
@@ -23,8 +23,8 @@ BECOME = {
     "b/c.rs": "z = 1;",
 }
 
-# What else is there before the run, a `|` between two: `PATH: TEXT`, `PATH -> WHERE` for a symbolic link, `PATH = FILE` for another name
-# of a file; the words before the crate's root; and the error.
+# The other files before the run, with a `|` between two; the arguments before the crate's root; and the error. A file is `PATH: TEXT`,
+# `PATH -> WHERE` for a symbolic link, or `PATH = FILE` for another name of a file.
 REFUSED = (
     ("", "--write src", "`--write src` would overwrite `src/lib.rs`, which this run reads"),
     ("", "--write ./src/.", "`--write ./src/.` would overwrite `src/lib.rs`, which this run reads"),
@@ -46,7 +46,7 @@ REFUSED = (
     ("", "--write|", "the folder after `--write` is empty"),
 )
 
-# The same of runs that write: what is there, the words, and the folder in which the files are afterwards.
+# Runs that write: the other files before the run, the arguments, and the folder in which the files are afterwards.
 TAKEN = (
     ("", "--write out", "out"),
     ("", "--write new/er/est", "new/er/est"),
@@ -61,7 +61,7 @@ TAKEN = (
 
 
 def make(folder, one):
-    """Makes a file, a symbolic link or another name of a file; what these name is made first."""
+    """Makes a file, a symbolic link or another name of a file. The file that it names is made first."""
     if " -> " in one:
         path, where = one.split(" -> ")
         os.makedirs(os.path.dirname(os.path.join(folder, path)), exist_ok=True)
@@ -75,7 +75,7 @@ def make(folder, one):
 
 
 def there(folder):
-    """What is below a folder: the text of each file, and where each symbolic link leads."""
+    """The content of a folder: the text of each file, and the target of each symbolic link."""
     found = {}
     for at, folders, names in os.walk(folder):
         for name in folders + names:
@@ -88,7 +88,7 @@ def there(folder):
 
 
 def ran_beside(program, beside, words, before=None):
-    """A run beside the files, with what is there before and after it. An empty word is after a `|`."""
+    """A run beside the files, with the content of the folder before and after it. An empty argument follows a `|`."""
     with tempfile.TemporaryDirectory() as folder:
         for path, text in FILES.items():
             write(folder, path, text)
@@ -123,7 +123,7 @@ def full_at(size):
 
 
 def check_full(program):
-    """Where a file can't be written to its end, the file that was there stays, and nothing else is left."""
+    """If a file can't be written to its end, the file that was there is unchanged, and nothing else is left."""
     ran, was, now = ran_beside(program, "out/lib.rs: old", "--write out", full_at(8))
     error = "error: couldn't write `out/lib.rs`: File too large (os error 27)\n"
     program.check("writing.full", "8 bytes", (ran.status, ran.out, ran.err, now), (2, "", error, was))

@@ -1,4 +1,4 @@
-"""What the modules of mbex's tests share: runs on the texts of a definition and an argument, and worked rows."""
+"""Helpers of the modules of mbex's tests: runs on the texts of a definition and an argument, and rows with their results."""
 from programs import spelled
 
 DEF, ARG = "the.def", "the.arg"
@@ -15,14 +15,14 @@ def prints(program, table, row, run, want):
 
 
 def printed(argument, error, arm, trees):
-    """The status, and what is printed of an argument."""
+    """The status, and the text that is printed for an argument."""
     end = len(argument.encode())
     rest = f"arm {arm}\nSUBTREE $$ 1@0..{end} 1@0..{end}\n{trees}"
     return (1, f"error: {error}\n{rest}") if error else (0, rest)
 
 
 def worked(program, table, rows, edition=2024):
-    """Rows of a definition, an argument, the error with its place, or none, the arm, and the trees that are written."""
+    """Rows of a definition, an argument, the error with its location or none, the arm, and the trees that are emitted."""
     for row in rows:
         definition, argument, error, arm, trees = row
         argument = spelled(argument)

@@ -1,4 +1,4 @@
-"""The whole program on files: its status, its output and its line on standard error, which it can write or not."""
+"""The whole program on files: its status, its output and its line on standard error, also if it can't write them."""
 import ctypes
 import os
 import resource
@@ -22,8 +22,8 @@ FILES = {
     "half": b"a\xc3",
 }
 
-# The words, the status, standard output, and the line on standard error without its end. The word `?` is a byte that is
-# in no text. Nobody may read `secret`, reading `broken` fails, and `huge` is larger than the memory of a run.
+# The arguments, the status, standard output, and the line on standard error without its end. The argument `?` is a byte
+# that is in no text. Nobody may read `secret`, reading `broken` fails, and `huge` is larger than the memory of a run.
 RUNS = (
     (
         "first.def first.arg", 0,
@@ -40,7 +40,7 @@ RUNS = (
     ("good.def good.arg 2018", 0, "arm 0\nSUBTREE $$ 1@0..1 1@0..1\n  IDENT   a 1@0..1\n", ""),
     ("good.def good.arg 2021", 0, "arm 0\nSUBTREE $$ 1@0..1 1@0..1\n  IDENT   a 1@0..1\n", ""),
     ("good.def good.arg 2024", 0, "arm 0\nSUBTREE $$ 1@0..1 1@0..1\n  IDENT   a 1@0..1\n", ""),
-    # `pat` takes a `|` from edition 2021 on.
+    # `pat` matches a `|` from edition 2021 on.
     ("old.def either.arg 2021", 0, "arm 0\nSUBTREE $$ 1@0..5 1@0..5\n", ""),
     ("old.def either.arg 2018", 1, "error: leftover tokens at 1@0..5\narm 0\nSUBTREE $$ 1@0..5 1@0..5\n", ""),
     (
@@ -67,7 +67,7 @@ RUNS = (
     ("--lint good.def good.arg", 0, "rule 0: one reading\n", ""),
     ("--lint good.def other.arg", 0, "rule 0: stuck at 0\n", ""),
     ("--lint good.def other.arg 2018", 0, "rule 0: stuck at 0\n", ""),
-    # `pat` takes the first name alone.
+    # `pat` matches the first name alone.
     ("--lint old.def either.arg 2018", 0, "rule 0: stuck at 1\n", ""),
     ("--lint old.def either.arg 2021", 0, "rule 0: one reading\n", ""),
     ("--lint empty good.arg", 0, "", ""),
@@ -109,7 +109,7 @@ RUNS = (
 HUGE = 1 << 30
 MEMORY = 100 << 20
 
-# What prctl calls leaving out a right, and the two by which root reads every file.
+# The number by which prctl drops a capability, and the two capabilities by which root reads every file.
 PR_CAPBSET_DROP, CAP_DAC_OVERRIDE, CAP_DAC_READ_SEARCH = 24, 1, 2
 
 
@@ -125,7 +125,7 @@ def make_files(folder):
 
 
 def limit():
-    """In the new process: memory has an end, and root can't read what nobody may."""
+    """In the new process: memory is limited, and root can't read a file that nobody may read."""
     if os.geteuid() == 0:
         prctl = ctypes.CDLL(None).prctl
         prctl(PR_CAPBSET_DROP, CAP_DAC_OVERRIDE, 0, 0, 0)
@@ -152,13 +152,13 @@ def unread(number):
 
 
 def full():
-    """In the new process: standard output is a device that takes nothing."""
+    """In the new process: standard output is a device that accepts nothing."""
     os.dup2(os.open("/dev/full", os.O_WRONLY), 1)
     limit()
 
 
 def to_file(room):
-    """Standard output is the file `out`, which takes so many bytes."""
+    """Standard output is the file `out`, which accepts this number of bytes."""
     def before():
         os.dup2(os.open("out", os.O_WRONLY | os.O_CREAT | os.O_TRUNC), 1)
         signal.signal(signal.SIGXFSZ, signal.SIG_IGN)
@@ -183,7 +183,7 @@ class Commands:
         self.program.check(what, row, (run.status, run.out + self.written(), run.err), (status, output, said))
 
     def written(self):
-        """What is in the file `out`, which is removed; nothing if there is none."""
+        """Removes the file `out`, and returns its content; nothing if there is no such file."""
         if not os.path.exists(f"{self.folder}/out"):
             return ""
         written = text_of(self.folder, "out")
@@ -191,7 +191,7 @@ class Commands:
         return written
 
     def breaks(self, row, before, room, what):
-        """An output that takes so many bytes holds these, and the status is 3 unless that is all."""
+        """An output that accepts this number of bytes holds them, and the status is 3 unless they are all."""
         _, status, output, line = row
         want = (status, output, line) if room >= len(output) else (3, output[:room], "cannot write")
         self.ends(row, before, want, what)

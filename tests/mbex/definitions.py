@@ -1,4 +1,4 @@
-"""Definitions that are read, and faults of those that are refused."""
+"""Definitions that are parsed, and the faults of refused definitions."""
 import tempfile
 
 from mbex.runs import Texts
@@ -51,7 +51,7 @@ REFUSED = (
     ("($x ident) => {}", "missing fragment specifier"),
     ("($x::ident) => {}", "missing fragment specifier"),
     ("([a {$x}]) => {}", "missing fragment specifier"),
-    # What comes after a dollar.
+    # Tokens after a dollar.
     ("($1) => {}", "expected ident"),
     ("($+) => {}", "expected ident"),
     ("() => {$1}", "expected ident"),
@@ -91,7 +91,7 @@ REFUSED = (
     ("($(a)) => {}", "invalid repeat"),
     ("($($x)) => {}", "invalid repeat"),
     ("($(a)b c*) => {}", "invalid repeat"),
-    # A suffix is read before its body, and the body before what comes after the suffix.
+    # A suffix is read before its body, and the body before the tokens after the suffix.
     ("($($x)*) => {}", "missing fragment specifier"),
     ("($($x:_),*) => {}", "missing fragment specifier"),
     ("($($$)b c*) => {}", "invalid repeat"),
@@ -174,7 +174,7 @@ INVALID_TEXTS = (
     'len("two")',
 )
 
-# Repetitions without separator that can read nothing, and those that pass.
+# Repetitions without a separator that can match nothing, and repetitions that pass.
 EMPTY = (
     "($()*) => {}", "($()+) => {}", "($()?) => {}", "($($v:vis)*) => {}", "($($v:vis)?) => {}", "($($(a)?)*) => {}",
     "($($(a)*)+) => {}", "($($(a),*)*) => {}", "($( $($v:vis),+ )*) => {}", "($($v:vis $(a)?)*) => {}",
@@ -192,7 +192,7 @@ BODIES = (
     "([a $($x:expr $(, $y:ty)?);+]) => {}", "() => {$([$($x),*])*}", "($(a)*$(b)?) => {$$(a)*}",
 )
 
-# What comes after a repetition, in a pattern and in a template.
+# Tokens after a repetition, in a pattern and in a template.
 SUFFIXES = (
     "*", "+", "?", ",*", ",+", ";?", "=>*", ";;*", ";;;*", "..=+", "-,-?", "$*", "b*", "b +", "_?", "true*", "1*",
     "1 +", "'b*", "'_+", "**", "+*", "*;;;;", "*[a]",
@@ -205,7 +205,7 @@ INVALID_SUFFIXES = (
 
 INVALID = "invalid metavariable expression"
 
-# What comes before texts and what comes after them, how many rules such a definition has or its fault, and the texts.
+# The parts of a definition before a text and after it, its number of rules or its fault, and the texts.
 PARTS = (
     ("() => {}; ($x:", ") => {}", 2, UNKNOWN),
     ("($x:ident) => { ${", "} }", 1, FORMS),
@@ -221,7 +221,7 @@ PARTS = (
     ("() => {}; () => {$(a)", "}", "invalid repeat", INVALID_SUFFIXES),
 )
 
-# Pieces of definitions, and what is read of each prefix that ends in one: how many rules, or the fault, or that the
+# Pieces of definitions, and the result for each prefix that ends in one: the number of rules, or the fault, or that the
 # prefix isn't lexed. A group that is open at the end is closed there.
 PIECES = (
     (

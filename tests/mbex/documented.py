@@ -1,4 +1,4 @@
-"""The calls that docs/MACROS.md shows: errors with their places, and what rustc says otherwise."""
+"""The calls that docs/MACROS.md shows: errors with their locations, and calls for which rustc differs."""
 from mbex import ran, worked
 
 # Rules, an argument, and the error with its span.
@@ -32,7 +32,7 @@ ERRORS = (
     ),
 )
 
-# Calls on which rustc says something else; tools/rustc/documented.py runs them on rustc.
+# Calls for which rustc differs; tools/rustc/documented.py runs them on rustc.
 BESIDE_RUSTC = (
     ("($($l:lifetime)? 'a) => {X}", "'b 'a", "leftover tokens at 1@0..5", 0, "  IDENT   X 0@25..26\n"),
     ("(1) => {X}", '"1"', "", 0, "  IDENT   X 0@8..9\n"),

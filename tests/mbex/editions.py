@@ -1,4 +1,4 @@
-"""What the edition decides: `pat` takes a `|` from 2021 on, and `expr` takes `_` and `const` blocks from 2024 on."""
+"""Editions: `pat` matches a `|` from 2021 on, and `expr` matches `_` and `const` blocks from 2024 on."""
 from mbex import worked
 
 BEFORE_2021 = (
@@ -26,7 +26,7 @@ ALWAYS = (
     ("($p:pat_param) => {A}; ($($t:tt)*) => {B}", "a | b", "", 1, "  IDENT   B 0@39..40\n"),
     ("($e:expr_2021) => {A}; ($($t:tt)*) => {B}", "_", "", 1, "  IDENT   B 0@39..40\n"),
     ("($e:expr_2021) => {A}; ($($t:tt)*) => {B}", "const { 1 }", "", 1, "  IDENT   B 0@39..40\n"),
-    # Names and words that begin an expression, and those that don't.
+    # Names and keywords that begin an expression, and others.
     ("($e:expr) => {A}; ($($t:tt)*) => {B}", "a", "", 0, "  IDENT   A 0@14..15\n"),
     ("($e:expr) => {A}; ($($t:tt)*) => {B}", "1", "", 0, "  IDENT   A 0@14..15\n"),
     ("($e:expr) => {A}; ($($t:tt)*) => {B}", "let", "", 1, "  IDENT   B 0@34..35\n"),

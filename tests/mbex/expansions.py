@@ -61,7 +61,7 @@ WRITTEN = (
     ),
 )
 
-# A definition and an argument, the status, and what is written of them.
+# A definition and an argument, the status, and the output.
 EXPANDED = (
     (
         "($x:ident = $t:tt;) => { pair ($t) $x }", "a = 1;", 0,
@@ -103,7 +103,7 @@ EXPANDED = (
     ),
     # Groups that are open end with the text.
     ("\n() => { { }\n", "", 0, "arm 0\nSUBTREE $$ 1@0..0 1@0..0\n  SUBTREE {} 0@9..10 0@11..12\n"),
-    # Leaves fit by their texts.
+    # Leaves match by their texts.
     ("(1) => {}", '"1"', 0, "arm 0\nSUBTREE $$ 1@0..3 1@0..3\n"),
     ("(foo) => {}", "r#foo", 0, "arm 0\nSUBTREE $$ 1@0..5 1@0..5\n"),
     # An unbound name is written back.
@@ -118,7 +118,7 @@ EXPANDED = (
         "  PUNCH   ; [alone] 1@0..1\n"
         "  PUNCH   + [alone] 1@1..2\n",
     ),
-    # A variable of unknown kind never fits.
+    # A variable of unknown kind never matches.
     ("($x:foo) => {}; (a) => {}", "a", 0, "arm 1\nSUBTREE $$ 1@0..1 1@0..1\n"),
     # No rule is of the style of the call.
     ("", "c", 1, "error: no rule matches input tokens at 1@0..1\narm none\nSUBTREE $$ 1@0..1 1@0..1\n"),
@@ -212,8 +212,8 @@ ROWS = (
     ),
 )
 
-# What each kind of fragment takes whole of these, by the Rust Reference. No two entry points of the grammar take the
-# same of them. Before 2021 `pat` takes no `|`.
+# The texts that each kind of fragment matches whole, by the Rust Reference. No two entry points of the grammar match
+# the same texts. Before 2021 `pat` matches no `|`.
 TAKEN = {
     "path": ("a::b",),
     "ty": ("a::b", "&a"),
@@ -233,7 +233,7 @@ BY_EDITION = ((2015, TAKEN_BEFORE_2021), (2018, TAKEN_BEFORE_2021), (2021, TAKEN
 
 
 def are_taken(program):
-    """Each kind takes its texts, and no other of them."""
+    """Each kind matches its texts, and none of the others."""
     for edition, taken in BY_EDITION:
         for specifier, texts in taken.items():
             for text in TEXTS:

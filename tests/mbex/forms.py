@@ -1,6 +1,6 @@
-"""Each form of the sample grammar, what isn't one, and the operators, by the rules of `specs/SampleGrammar`. A text is
-read by `$x:SPECIFIER $($t:tt $($u:tt)*)?` in edition 2024. What the fragment takes ends before `§`, which is no part of
-the text, and `$t` is what comes next; a text without it has no such fragment at its front, and another rule reads it.
+"""The forms of the sample grammar, texts that are none, and the operators, by the rules of `specs/SampleGrammar`. A
+text is matched by `$x:SPECIFIER $($t:tt $($u:tt)*)?` in edition 2024. The fragment ends before `§`, which is no part of
+the text, and `$t` is the next tree. A text without `§` has no such fragment at its front, and another rule matches it.
 """
 import re
 
@@ -165,18 +165,18 @@ VISIBILITIES = (
     "pub§(a) x", "§r#pub x", "§(crate)",
 )
 
-# What is between two operands. No operand may be missing after it.
+# The operators between two operands. No operand may be missing after them.
 OPERATORS = (
     "+", "-", "*", "/", "%", "^", "&", "|", "&&", "||", "==", "!=", "<", ">", "<=", ">=", "<<", ">>", "=", "+=", "-=",
     "*=", "/=", "%=", "^=", "&=", "|=", "<<=", ">>=",
 )
 
-# What ends an expression before it.
+# Tokens that end the expression before them.
 NO_OPERATORS = (
     "=>", "->", "<-", "..", "..=", "...", ":", ";", ",", "!", "@", "#", "$", "as", "~",
 )
 
-# A specifier, and a chain of a million links, each of which recursion would take a call of the stack for.
+# A specifier, and a chain of a million links. A recursion would need a call on the stack for each link.
 CHAINS = (
     ("ty", "«1000000 &»x§"),
     ("ty", "«1000000 &'a mut »x§"),

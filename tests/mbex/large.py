@@ -1,15 +1,15 @@
-"""Arguments that are long or deep, and patterns that read them in more ways than can be counted."""
+"""Arguments that are long or deep, and patterns with more readings of them than can be counted."""
 from mbex import printed, prints, ran, worked
 from programs import spelled
 
-# Every place of a semicolon may end a round of each of the three repetitions.
+# Every semicolon may end a round of each of the three repetitions.
 SEMICOLONS = (
     ("($($($();*);+);*) => {}", "«15 ;»", "unexpected token in input at 1@0..15", 0, ""),
     ("($($($();*);+);*) => {}", "«30 ;»", "unexpected token in input at 1@0..30", 0, ""),
     ("($($($();*);+);*) => {}", "«60 ;»", "unexpected token in input at 1@0..60", 0, ""),
 )
 
-# A thousand words, of which two fit at any place, or too many rounds.
+# A thousand words, two of which match at any offset, or too many rounds.
 ERRORS = (
     (
         "($($a:ident)* $($b:ident)* $($c:ident)* $($d:ident)* $($e:ident)* $($f:ident)* $($g:ident)* "
@@ -23,7 +23,7 @@ ERRORS = (
     ("($($x:ident)*) => {$($x)*}", "«65535 a »a", "Expand exceed limit at 1@0..131071", 0, ""),
 )
 
-# Groups in one another are one tree, and those of the pattern are entered.
+# Nested groups are one tree, and the matcher enters the groups of the pattern.
 GROUPS = (
     ("($t:tt) => {}", "«10000 (»«10000 )»", "", 0, ""),
     ("($($t:tt)*) => {${count($t)}}", "«10000 (»«10000 )» ()", "", 0, "  LITERAL Integer 2 1@0..20003\n"),
@@ -50,7 +50,7 @@ VERDICTS = (
 )
 
 # The names of a variable and of the argument, of 100,000 letters each; a name of 200,000 parts; and a rule after a
-# thousand that don't fit.
+# thousand that don't match.
 LONG = (
     (
         "($«100000 x»:ident) => {${concat(b, $«100000 x»)}}", "«100000 a»", "", 0,
@@ -61,12 +61,12 @@ LONG = (
     ("«1000 (b) => {};»(a) => {c}", "c", "unexpected token in input at 1@0..1", 0, ""),
 )
 
-# A definition that writes as many words as the argument has, which they are, and from which byte of which file on.
+# A definition that emits as many words as the argument has, the words, and the file and the byte of the first one.
 ROUNDS = (
     ("($($x:ident)*) => {$($x)*}", "«65534 a »a", 65535, 1, 0),
 )
 
-# The same: a pattern and a template of 6,000 words each. The template's first word is at byte 1 + 11,999 + 6.
+# Such a definition: a pattern and a template of 6,000 words each. The template's first word is at byte 1 + 11,999 + 6.
 RULE = (
     ("(«5999 a »a) => {«5999 a »a}", "«5999 a »a", 6000, 0, 12006),
 )

@@ -2,8 +2,8 @@
 from mbex import printed, prints, ran
 from programs import spelled
 
-# Texts with their tokens: a literal is its kind and its text with the suffix, a punct its char and its spacing. After
-# each are its bytes, and after an opening those of the closing too.
+# Texts with their tokens: a literal is its kind and its text with the suffix, a punct its char and its spacing. The
+# bytes follow each token. The bytes of the closing follow an opening, too.
 TOKENS = (
     # White space and comments are passed over, block comments nest, and one without an end is at fault where it begins.
     (" \t\r\n", ""),
@@ -33,7 +33,7 @@ TOKENS = (
     ("b 'a'", "b 0..1, Char a 2..5"),
     ("br'a'", "br 0..2, Char a 2..5"),
     ("c'a'", "c 0..1, Char a 1..4"),
-    # A string ends at the next quote that no `\` takes with it.
+    # A string ends at the next quote that no `\` escapes.
     ('"a"', "Str a 0..3"),
     ('""', "Str  0..2"),
     ('"a\nb"', "Str a\nb 0..5"),
@@ -96,7 +96,7 @@ TOKENS = (
     ("1.0f32", "Float 1.0f32 0..6"),
     ("1r#a", "Integer 1r 0..2, # alone 2..3, a 3..4"),
     ("1'a'", "Integer 1 0..1, Char a 1..4"),
-    # A closing fits the open group; groups that are open at the end are closed there.
+    # A closing matches the open group; groups that are open at the end are closed there.
     ("(a[b]{c})", "( 0..1 8..9, a 1..2, [ 2..3 4..5, b 3..4, end, { 5..6 7..8, c 6..7, end, end"),
     ("( [", "( 0..1 3..3, [ 2..3 3..3, end, end"),
     ("()a", "( 0..1 1..2, end, a 2..3"),
@@ -149,7 +149,7 @@ FAULTS = (
     ("x b'", 2),
     ('u8""', 0),
     ("ⓐ", 0),
-    # A string ends at the next quote that no `\` takes with it.
+    # A string ends at the next quote that no `\` escapes.
     ('"abc', 0),
     ('a "b\\"', 2),
     ('"\\', 0),
@@ -173,7 +173,7 @@ FAULTS = (
     # An identifier directly after a literal is its suffix.
     ('1u8"a"', 1),
     ("'a'b'c'", 3),
-    # A closing fits the open group; groups that are open at the end are closed there.
+    # A closing matches the open group; groups that are open at the end are closed there.
     (")", 0),
     ("(]", 1),
     ("{ ( }", 4),
@@ -193,7 +193,7 @@ FAULTS = (
     ('"b"«255 a»b', 3),
 )
 
-# All puncts, which side by side are joint but for the last.
+# All puncts. Side by side, each one except the last is joint.
 PUNCTS = "=<>!&|~@.,;:#$?+-*/%^"
 
 LITERALS = ("Integer", "Float", "Char", "Str")

@@ -1,9 +1,9 @@
-"""How each rule of a definition reads an argument, as the program writes it."""
+"""The verdict of each rule of a definition on an argument, as the program prints it."""
 from mbex import prints, ran
 
 # A definition and an argument, and the lines.
 LINTS = (
-    # A further name and the word `as` both go on at the start.
+    # At the start, the match can continue with a further name or with the word `as`.
     ("($($t:ident),* as $ty:ident) => {}", "as u32", "rule 0: ambiguous at 0\n"),
     ("($(a)? $(a)?) => {}", "a", "rule 0: several readings\n"),
     ("\n($($e:expr),* $(,)?) => {\n    $($e);* ;\n};\n", "\n    _,\n    const { 1 },\n", "rule 0: one reading\n"),
@@ -31,7 +31,7 @@ LINTS = (
         "rule 2: stuck at 0\n",
     ),
     ("", "a", ""),
-    # The first of two ambiguous positions, in two digits.
+    # The first of two ambiguous offsets, in two digits.
     (
         "(a a a a a a a a a a $($x:ident)* b $($y:ident)* c) => {}", "a a a a a a a a a a b c",
         "rule 0: ambiguous at 10\n",
@@ -45,7 +45,7 @@ LINTS = (
     ("attr() ([a]) => {}; derive() ([a b]) => {}", "[a c]", "rule 0: stuck at 2\nrule 1: stuck at 2\n"),
     # So does the closing.
     ("([$x:ident] b) => {}", "[x] c", "rule 0: stuck at 3\n"),
-    # Rounds, and what is between them.
+    # Rounds, and the separators between them.
     ("($( b $(x)? )x*) => {}", "b x b", "rule 0: one reading\n"),
     ("($(a)+*) => {}", "a *", "rule 0: one reading\n"),
     ("($(a),?) => {}", "a", "rule 0: one reading\n"),
@@ -59,7 +59,7 @@ LINTS = (
     ("(($(a)*) b) => {}", "(a a) c", "rule 0: stuck at 4\n"),
 )
 
-# A pattern, an argument, how many trees that has, and how many of the current group are left where the match stops.
+# A pattern, an argument, the argument's number of trees, and the number of unmatched trees.
 LEFT = (
     ("$(a),?", "a,", 2, 1),
     ("$(a);;*", "a;;a", 4, 3),
@@ -79,7 +79,7 @@ FAILURES = (
 
 
 def taking(count):
-    """A pattern that takes so many trees, and then stops."""
+    """A pattern that matches this number of trees, and then stops."""
     return "$t:tt " * count + "$u:unknown"
 
 

@@ -1,11 +1,11 @@
-"""Which arguments a pattern fits, what its variables take, and what a `$` of a template stands for."""
+"""Which arguments a pattern matches, what its variables are bound to, and what a `$` of a template means."""
 from mbex import ran, worked
 from programs import spelled
 
-# Tables of a definition, an argument, no error, the rule, and the trees. Those whose names end in NOT have a definition
-# and an argument that its first rule doesn't fit; it is the closest one.
+# Tables of a definition, an argument, no error, the rule, and the trees. A table whose name ends in NOT has a definition
+# and an argument that the first rule doesn't match. This rule is the closest one.
 
-# The first rule that fits is used.
+# The first rule that matches is used.
 EXPANDED = (
     ("(a) => {A}; (b) => {B}", "a", "", 0, "  IDENT   A 0@8..9\n"),
     ("(a) => {A}; (b) => {B}", "b", "", 1, "  IDENT   B 0@20..21\n"),
@@ -75,7 +75,7 @@ NOT_WHOLE_NOT = (
     ("($x:tt $y:tt) => {}", "a"),
 )
 
-# Puncts fit where they are together.
+# Puncts match if they are adjacent.
 PUNCTS = (
     ("(->) => {}", "->", "", 0, ""),
     ("(- >) => {}", "- >", "", 0, ""),
@@ -152,7 +152,7 @@ IDENTS = (
     ("($x:ident) => {$x}", "__", "", 0, "  IDENT   __ 1@0..2\n"),
 )
 
-# An unknown specifier fits nothing.
+# An unknown specifier matches nothing.
 IDENTS_NOT = (
     ("($x:ident) => {$x}", "_"),
     ("($x:ident) => {$x}", "1"),
@@ -272,7 +272,7 @@ EXPRESSIONS = (
     ("() => {${index()}}", "", "", 0, "  LITERAL Integer 0 1@0..0\n"),
 )
 
-# Names and literals are told apart by their texts alone, and true and false are names.
+# Names and literals match by their texts alone, and true and false are names.
 TEXTS = (
     ("($x:ident) => {$x}", "r#b", "", 0, "  IDENT   r#b 1@0..3\n"),
     ("($l:literal) => {$l}", '"a b"', "", 0, "  LITERAL Str a b 1@0..5\n"),
@@ -302,7 +302,7 @@ UNFIT = (
 
 
 def unfit(program, rows):
-    """The first rule of each row doesn't fit, and is the closest one."""
+    """The first rule of each row doesn't match, and is the closest one."""
     for row in rows:
         definition, argument = row
         run = ran(program, spelled(definition), spelled(argument))

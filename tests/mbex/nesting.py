@@ -4,7 +4,7 @@ from mbex import ran
 # How many levels docs/DECISIONS.md gives.
 LIMIT = 256
 
-# What a definition says before and after its levels, what opens and closes each, and what is in the innermost.
+# The text of a definition before and after its levels, the opening and the closing of each level, and the content of the innermost.
 NESTS = (
     ("(", "(", "$x:ident", ")", ") => {}"),
     ("(", "$(", "$x:ident", ")+", ") => {}"),
@@ -12,7 +12,7 @@ NESTS = (
     ("($($x:ident)*) => {", "$(", "$x", ")*", "}"),
 )
 
-# What opens and closes each level of pattern and template, and of the argument.
+# The opening and the closing of each level of the pattern, the template and the argument.
 RULES = (
     ("(", ")", "(", ")"),
     ("$(", ")+", "", ""),
@@ -21,7 +21,7 @@ RULES = (
 
 MILLION = 1_000_000
 
-# Parts of a definition and of an argument a million levels deep, as above; the status, and what is on standard error.
+# Parts of a definition and of an argument a million levels deep, as above; the status, and the text on standard error.
 DEEP = (
     (("(", "(", "$x:ident", ")", ") => {}"), ("", "", "a", "", ""), 5, "out of memory\n"),
     (("(", "$(", "$x:ident", ")+", ") => {}"), ("", "", "a", "", ""), 5, "out of memory\n"),
@@ -53,7 +53,7 @@ def is_limited(program, nest):
 
 
 def is_deepest(program, opening, closing, before, after):
-    """Whether a rule of as many levels as may be matches, and writes the argument's word."""
+    """Whether a rule of the largest number of levels matches, and emits the argument's word."""
     pattern = nested(opening, "$x:ident", closing, LIMIT)
     template = nested(opening, "$x", closing, LIMIT)
     run = ran(program, f"({pattern}) => {{{template}}}", nested(before, "a", after, LIMIT))

@@ -1,4 +1,4 @@
-"""What many optional parts take of memory: each that may be skipped is a position more, at each place."""
+"""The memory that many optional parts need: each part that may be skipped is one more thread at each offset."""
 import subprocess
 import sys
 import tempfile
@@ -6,9 +6,12 @@ import tempfile
 from mbex import ARG, DEF, printed
 from programs import text_of, write
 
-# A part, with its number, and what a template writes of it; what an argument has of it, and what is printed of that, with its
-# bytes, the last before a blank; how many parts, and how many megabytes a run may hold. If what no position needs any more were
-# kept, they would hold 841 and 116.
+# A row has, in this order:
+#
+# 1. A part of a pattern, with its number, and the part of the template that emits it.
+# 2. The part of an argument that it matches, and the line that is printed for that, with its bytes, the last before a blank.
+# 3. The number of parts, and how many megabytes a run may hold. If entries were kept that no thread needs any more, the runs
+#    would hold 841 and 116.
 PARTS = (
     ("$(a)? ", "", "a ", "", 2000, 150),
     ("$(k{0} $x{0}:ident)? ", "$($x{0})? ", "k{0} v ", "  IDENT   v 1@{0}..{1}\n", 2000, 60),

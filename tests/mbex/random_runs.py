@@ -35,7 +35,7 @@ WORDS = (
     "pub ", "_ ", "a + 1 ", "x::y ", "{} ", "&u8 ", "-2 ",
 )
 
-# A rule for each kind of fragment that the grammar finds; what comes after it is any tokens.
+# A rule for each kind of fragment that the grammar finds. Any tokens may follow the fragment.
 FRONTS = "".join(
     f"($x:{specifier} $($t:tt)*) => {{}};\n"
     for specifier in ("path", "expr", "ty", "pat", "pat_param", "stmt", "block", "meta", "item", "vis")
@@ -68,7 +68,7 @@ class Numbers:
         return "".join(chr(code) for code in codes if not 0xD800 <= code < 0xE000)
 
     def pieces(self, pieces, repeats):
-        """Up to nine pieces. Where there are suffixes, some become the body of a repetition, also one in another."""
+        """Up to nine pieces. If there are suffixes, some pieces become the body of a repetition, also nested ones."""
         done = body = ""
         for _ in range(self.below(10)):
             turn = self.below(6)

@@ -1,4 +1,4 @@
-"""What a match that fails reports: its first error, and what is bound where it ends."""
+"""Reports of a failed match: its first error, and the bindings where it ends."""
 from mbex import printed, prints, ran, worked
 
 RECOVERED = (
@@ -59,7 +59,7 @@ ERRORS = (
     ("($(a),*) => {}", "a,", "expected ident: `a` at 1@0..2", 0, ""),
 )
 
-# What is bound by the position that failed last.
+# The bindings of the thread that failed last.
 REPORTED = (
     (
         "($x:ident b) => {[$x]}", "p q", "unexpected token in input at 1@2..3", 0,
@@ -83,8 +83,9 @@ REPORTED = (
     ),
 )
 
-# Three positions or more meet before each of the repetitions, and the match fails. At the pattern's end what the first
-# of them bound is written, and where `a` fails what the last did: `Y` for each of its rounds, and the `$x` of a round.
+# Three threads or more meet before each of the repetitions, and the match fails. At the pattern's end the bindings of
+# the first thread are emitted. If `a` fails, the bindings of the last one are: `Y` for each of its rounds, and the `$x`
+# of a round.
 MEETING = (
     ("($(a)* $(a $(: $x:ident)?)* c) => {$(Y $($x)?)*}", "a a a a c d", "YYYY"),
     ("($(a)* $(a $(: $x:ident)?)* c) => {$(Y $($x)?)*}", "a a a", "YY"),
@@ -108,8 +109,8 @@ MISSING = (
     ("($x:ident) => {$(${ignore($x)})* b}", "1", "expected ident at 1@0..1", 0, "  IDENT   b 0@33..34\n"),
 )
 
-# A specifier, what its variable asks for, and what is written for a fragment that is missing, at each place of the
-# variable's name as `@`.
+# A specifier, the name of the fragment in the error, and the lines for a missing fragment. `@` stands for the span of the
+# variable's name.
 DEFAULTS = (
     ("path", "Path", "    IDENT   missing @\n"),
     ("ty", "Ty", "    IDENT   missing @\n"),
@@ -144,7 +145,7 @@ def defaults(program):
 
 
 def entries(program):
-    """What the grammar finds nothing of is reported at its first token, by the name of its entry point."""
+    """A fragment that the grammar doesn't find is reported at its first token, by the name of its entry point."""
     for row in DEFAULTS:
         specifier, asked, default = row
         if asked[0].isupper():

@@ -217,7 +217,7 @@ REPEATED_NAMES = (
     ),
 )
 
-# The closest rule is recovered: the match ends without an only reading, or its substitution faults.
+# The closest rule is recovered: its match doesn't have exactly one reading, or its template faults.
 RECOVERED = (
     ("($($v:vis),*) => {}", "", "unexpected token in input at 1@0..0", 0, ""),
     ("($x:ident) => {$($x)*}", "a", "Expand exceed limit at 1@0..1", 0, ""),
@@ -238,7 +238,7 @@ RECOVERED = (
     ),
 )
 
-# The rule with fewest trees left is recovered, then the one with most bindings, then the first.
+# The rule with the fewest unmatched trees is recovered, then the one with the most bindings, then the first.
 CLOSEST = (
     ("(p $x:tt) => {$($x)*}; ($x:tt $y:tt) => {$($x)*}", "p q", "Expand exceed limit at 1@0..3", 1, ""),
     (
@@ -261,7 +261,7 @@ CLOSEST = (
 )
 
 STOPS = (
-    # Where no position fails, the first at the pattern's end is reported.
+    # If no thread fails, the first one at the pattern's end is reported.
     (
         "($x:ident) => {[$x]}", "a b", "leftover tokens at 1@0..3", 0,
         "  SUBTREE [] 0@15..16 0@18..19\n"
@@ -289,7 +289,7 @@ STOPS = (
 )
 
 FAULTS = (
-    # What comes before and after a repetition past its limit is kept.
+    # The trees before and after a repetition past its limit are kept.
     (
         "($x:ident) => {a $($x)* b}", "a", "Expand exceed limit at 1@0..1", 0,
         "  IDENT   a 0@15..16\n"

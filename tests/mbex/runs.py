@@ -1,4 +1,4 @@
-"""How runs end: their statuses, their lines on standard error, and what their words ask for."""
+"""How runs end: their statuses, their lines on standard error, and the meaning of their arguments."""
 import tempfile
 
 from mbex import ARG, DEF, ran
@@ -17,7 +17,7 @@ FAILURES = (
     ("", 'é "', 4, "cannot lex the.arg at 3"),
 )
 
-# Words, and whether they ask for a lint, and which edition; or that they are wrong.
+# Arguments, whether they ask for a lint, and the edition; or "usage" if they are invalid.
 WORDS = (
     ("", "usage"),
     ("d", "usage"),
@@ -36,21 +36,21 @@ WORDS = (
     ("--lint d a 2018 x", "usage"),
 )
 
-# A definition whose rules tell the editions apart: `pat` takes a `|` from 2021 on, and `expr` takes `_` from 2024 on.
-# The fragments of 2015 are those of 2018. Of each edition, the first rule that reads the argument.
+# A definition whose rules tell the editions apart: `pat` matches a `|` from 2021 on, and `expr` matches `_` from 2024
+# on. The fragments of 2015 are the same as in 2018. The list has the first rule that matches in each edition.
 BY_EDITION = "($p:pat, $e:expr) => {}; ($p:pat, _) => {}; ($($t:tt)*) => {}"
 ALTERNATIVES = "a | b, _"
 FIRST_RULE = {2015: 2, 2018: 2, 2021: 1, 2024: 0}
 
 USAGE = "usage: mbex [--lint] DEF-FILE ARG-FILE [EDITION]\n"
 
-# Words, the status, and the line on standard error, where it is no text that is at fault.
+# Arguments, the status, and the line on standard error. No text is at fault here.
 LINES = (
     ("", 3, "usage: mbex [--lint] DEF-FILE ARG-FILE [EDITION]"),
     ("a.b a", 3, "cannot read a.b"),
 )
 
-# The words, and the status. The program's own file isn't UTF-8.
+# The arguments, and the status. The program's own file isn't UTF-8.
 FILES = (
     ("/no/such/file /dev/null", 3),
     ("/dev/null /no/such/file", 3),

@@ -1,7 +1,7 @@
-"""What templates write of what their arguments bound, and beside a fault: worked out by hand."""
+"""The expansions of templates, with and without a fault: worked out by hand."""
 from mbex import worked
 
-# What rounds write.
+# The expansions of rounds.
 ROUNDS = (
     # Separators of each form come between the rounds, and jointness is as it is in the template.
     ("($($x:ident)*) => {$($x),+}", "a", "", 0, "  IDENT   a 1@0..1\n"),
@@ -49,7 +49,7 @@ ROUNDS = (
         "  PUNCH   $ [alone] 0@25..26\n"
         "  IDENT   y 0@25..26\n",
     ),
-    # What a repetition within another binds.
+    # The bindings of nested repetitions.
     (
         "($($x:ident),* ; $y:tt) => {$($x)*}", "a, b ; c", "", 0,
         "  IDENT   a 1@0..1\n"
@@ -181,7 +181,7 @@ FRAGMENTS = (
     ),
 )
 
-# What templates write beside a fault.
+# The partial expansions beside a fault.
 FAULTS = (
     ("($x:ident) => {$(${count($x)})*}", "a", "Expand exceed limit at 1@0..1", 0, ""),
     (
@@ -199,7 +199,7 @@ FAULTS = (
         "expected simple binding, found nested binding `x` at 0@21..22", 0, "  SUBTREE [] 0@19..20 0@36..37\n",
     ),
     ("($($x:ident)*) => {${ignore($y)} $x}", "c", "could not find binding y at 0@29..30", 0, ""),
-    # Where one round faults, the others are written, and no separator comes after it.
+    # If one round faults, the other rounds are emitted, and no separator follows the round that faults.
     (
         "($($x:tt)*) => {$(${concat(a, $x)});*}", "(d) e f",
         "metavariables of `${concat(..)}` must be of type `ident`, `literal` or `tt` at 0@31..32", 0,

@@ -4,7 +4,7 @@ from mbex import printed, prints, ran
 # So many times `a = 1 + 2;`, which is six tokens.
 STATEMENTS = 850
 
-# What is printed of a statement, and which of its bytes each line is of.
+# The lines that are printed for a statement, and the byte of each.
 STATEMENT = (
     ("  IDENT   a", 0),
     (
@@ -24,7 +24,7 @@ LEVELS, SECONDS = 256, 6
 
 
 def line(text, start):
-    """A line that ends with the place of that byte of the argument."""
+    """A line that ends with the location of that byte of the argument."""
     return f"{text} 1@{start}..{start + 1}\n"
 
 

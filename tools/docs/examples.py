@@ -108,13 +108,13 @@ def lost_json(text):
 def lost_files(room, skipped):
     """What doesn't compile among the files of a page. `skipped` is told what can't be tried."""
     for at, folders, names in os.walk(room):
-        folders[:] = sorted(it for it in folders if it not in ("target", ".bin"))
+        folders[:] = sorted(it for it in folders if it != "target" and not it.startswith("."))
         for name in sorted(names):
             command = compilation(f"{at}/{name}")
             if command and not shutil.which(command[0]):
                 skipped(f"not compiled, without {command[0]}: {name}")
             elif command:
-                env = {**os.environ, "MBE_LIB_DIR": room}
+                env = {**os.environ, "DOCS_RS": "1"}  # the crates then link no library
                 ran = common.run(command, cwd=at, env=env)
                 if ran.returncode:
                     yield f"{name} doesn't compile:\n{ran.stdout}{ran.stderr}"
@@ -126,6 +126,6 @@ def compilation(path):
         return ["cc", "-fsyntax-only", "-Wall", "-Wextra", "-Werror", f"-I{TOP}/bindings/c", path]
     if path.endswith(".py"):
         return [sys.executable, "-c", "import ast, sys; ast.parse(open(sys.argv[1]).read())", path]
-    if path.endswith("/Cargo.toml") and "mbe_rs" in common.read(path):
+    if path.endswith("twice/Cargo.toml") and "mbe" in common.read(path):
         return ["cargo", "check", "--quiet", "--offline"]
     return None

@@ -115,7 +115,7 @@ def run(job):
         ran = by_mbex(program, folder, edition)
         status, output = by_c(mbe, text, argument, edition)
         same = (ran.returncode, ran.stdout) == (status, output)
-        # Where neither is right, a macro that is read once says so of its definition, and mbex of the argument.
+        # The definition is refused, and the argument can't be lexed: C reports the first, and mbex the second.
         if (ran.returncode, status) == (4, 2):
             common.write(f"{folder}/a", "")
             same = by_mbex(program, folder, edition).returncode == 2

@@ -224,7 +224,7 @@ class Judge:
         written(f"{self.folder}/out", "crate", text)
 
     def compare(self, programs, wanted, text, said):
-        """Compares the outputs. Where a program doesn't end, those after it are judged again."""
+        """Compares the outputs. If a program doesn't end, the programs after it are judged again."""
         got, last = outputs(text), last_of(text)
         if text.endswith(ENDLESS):
             self.batch([p for p in programs if p.number > last])

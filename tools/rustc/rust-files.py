@@ -62,7 +62,7 @@ def without_shebang(text):
 
 
 def lexed(program, folder, rows):
-    """Of each text its tokens, and those of what is written of it."""
+    """The tokens of each text, and the tokens of its printed trees."""
     lines = "".join(f"{edition}\t{folder}/{number}\n" for number, (_, edition, _) in enumerate(rows))
     run = common.run([program], binary=True, input=lines)
     if run.returncode != 0:

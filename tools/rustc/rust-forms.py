@@ -49,7 +49,7 @@ def forms():
 
 
 def by_rustc(edition, asked, folder):
-    """Where the fragment of each form ends, in bytes; none where rustc refuses it."""
+    """The byte at which the fragment of each form ends; none if rustc refuses it."""
     source, starts = "", []
     for kind, text, _ in asked:
         source += f"k::k_{kind}!{{( "

@@ -250,7 +250,7 @@ class Lift:
         return f"${name}:{kind}", Node(cat, [f"${name}"], var=kind), kind
 
     def inner_rows(self, column):
-        """The same of a hole that is a list itself. All of them have one shape."""
+        """The matcher, the node and the kind of holes that are lists themselves. All of them have one shape."""
         first = column[0]
         every = [row for rows in column for row in rows.rows]
         joined = Rows(first.shape, every, first.sep, first.rep)

@@ -72,7 +72,7 @@ class Writer:
         return self.count
 
     def form(self, table, rooms):
-        """A node by one of the forms. Where it is deep, the form is a short one."""
+        """A node by one of the forms. A deep node has a short form."""
         choices = getattr(forms, table)
         self.budget -= 1
         if rooms <= 0 or self.budget < 0:

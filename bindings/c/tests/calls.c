@@ -412,6 +412,24 @@ static void grammars(void) {
     check(mbe_define(&request, words("() =>"), message, sizeof message, &reply) == MBE_REFUSED, "no definition");
 }
 
+/* The requests and the inputs of the header's own functions are those that are written out. */
+static void header_functions(void) {
+    mbe_request request = mbe_rust_request(MBE_LINES), written = asked(MBE_LINES);
+    mbe_input input = mbe_text("ab"), none = mbe_text(NULL);
+    const char *before = "";
+    written.dialect = MBE_DIALECT_RUST;
+    written.grammar = MBE_GRAMMAR_RUST;
+    check(memcmp(&request, &written, sizeof request) == 0, "a request for Rust");
+    check(input.text_len == 2 && memcmp(input.text, "ab", 2) == 0 && !input.tokens && input.token_len == 0, "the input of a text");
+    check(!none.text && none.text_len == 0, "the input of no text");
+    for (int status = MBE_DONE; status <= MBE_HAS_MACRO; status++) {
+        const char *its = mbe_status_text((mbe_status)status);
+        check(strlen(its) > 3 && strcmp(its, before) != 0 && strcmp(its, "unknown status") != 0, "the text of a status");
+        before = its;
+    }
+    check(strcmp(mbe_status_text((mbe_status)(MBE_HAS_MACRO + 1)), "unknown status") == 0, "the text of no status");
+}
+
 /* Bytes of no meaning, as texts, tokens and numbers. */
 static void nonsense(void) {
     static unsigned char bytes[2048];
@@ -466,6 +484,7 @@ int main(void) {
     round_trips();
     verdicts();
     grammars();
+    header_functions();
     nonsense();
     printf("%d passed, %d failed\n", passed, failed);
     return failed != 0;

@@ -13,9 +13,9 @@ use Rattle.mbe_c.specs.Copies.{Buffers, done, Gives, GivesFailure}
 use Rattle.mbe_c.specs.Batch.{IsNoExpansion}
 use Rattle.mbe_c.specs.HandleOwnership.{HeldMacro}
 
--- A handle without a macro gets the macro that is read, and the reply has the number of its rules;
--- or it gets none, and the reply says why. A handle with a macro is unchanged, and the reply says
--- that it has one.
+-- A handle without a macro gets the macro that is read, and the reply has the number of its rules.
+-- If no macro can be read, the handle gets none, and the reply says why. A handle with a macro is
+-- unchanged, and the reply says that it has one.
 pub data GivesMacro (r : Request) (grammar : List ℕ) (definition : Source)
     (old new : Option HeldMacro)
     (before after : List ℕ) (reply : Reply) : Type 0 where

@@ -1,8 +1,8 @@
 // The expander for C, and for every language that calls C. `bindings/c/mbe.h` declares its exports.
 //
 // Each export calls a function of `mbe_program::replies`, and copies the answer into buffers of the
-// caller. What a call allocates is freed when it returns, except for the macro that
-// `mbe_c_macro_read` leaves in a handle.
+// caller. A call frees all memory that it allocates, except for the macro that `mbe_c_macro_read`
+// leaves in a handle.
 #![tactic(auto)]
 
 ghost use Rattle.std.specs.Prelude.{◌≡◌, ◌-◌, ◌^◌, length, min, nat_le, None};
@@ -28,7 +28,7 @@ use mbe_program::replies::requests::{
 };
 use std::alloc::{Allocator, Global};
 
-/// The reply to a call: what the answer says, in numbers.
+/// The reply to a call: the answer in numbers.
 #[repr(C)]
 #[derive(Clone, Copy, Default, Drop)]
 pub struct Reply {

@@ -2,10 +2,14 @@
 // the test supplies.
 use test_rows::rows;
 
-// Each row: how many flat tokens the grammar counts (with `fault` if it faults, or `out` if memory
-// runs out), a definition, an argument, the index of the rule, the tokens of the expansion, and the
-// error with its file and its bytes, if there is one. Without an index the first rule doesn't
-// match, whatever the error is.
+// Each row has, in this order:
+//
+// 1. How many flat tokens the grammar counts, with `fault` if it faults, or `out` if memory runs
+//    out.
+// 2. A definition and an argument.
+// 3. The index of the rule. Without an index the first rule doesn't match, whatever the error is.
+// 4. The tokens of the expansion.
+// 5. The error with its file and its bytes, if there is one.
 pub const ROWS: &str = rows![
     // Trees that no text gives.
     ("0 fault", "([a]) => {}", "tokens 10

@@ -25,9 +25,13 @@ const CALL: TestSpan = (2, 40, 44);
 // The context that the marker sets.
 const MARKED: u32 = 7;
 
-// Each row: how many flat tokens the grammar counts without a fault, a definition, an argument, the
-// index of the rule, the error with its file and its bytes, and the expansion, each token with the
-// number of its context.
+// Each row has, in this order:
+//
+// 1. How many flat tokens the grammar counts without a fault.
+// 2. A definition and an argument.
+// 3. The index of the rule.
+// 4. The error with its file and its bytes.
+// 5. The expansion, each token with the number of its context.
 pub const ROWS: &str = rows![
     (1, "(a b) => {X}", "a c", 0, "unexpected token in input 1 2 3", "word X 0:7 10 11"),
     // An error at the end of the argument, or of a group in it, is at the argument's closing.

@@ -61,9 +61,13 @@ pub fn passes(
     }
 }
 
-// Each row: how many flat tokens the grammar counts, and how it ends; an entry point and a text;
-// the numbers of trees and of flat tokens of the fragment; where the next tree is; and the error
-// with its file and its bytes.
+// Each row has, in this order:
+//
+// 1. How many flat tokens the grammar counts, and how it ends.
+// 2. An entry point and a text.
+// 3. The numbers of trees and of flat tokens of the fragment.
+// 4. The position of the next tree.
+// 5. The error with its file and its bytes.
 pub const ROWS: &str = rows![
     // Whole trees.
     ("0", "Vis", "", "0 0", "", ""),

@@ -1,6 +1,10 @@
-// Tests of what a built program can't show and no contract says: trees that no text gives, grammars
-// and markers that a caller supplies, rules that are kept beside a fault, equality of macros,
-// `Debug` texts, allocation failures at any request, and writers that fail at any call.
+// Tests of what a built program can't show and no contract says:
+//
+// - Trees that no text gives.
+// - Grammars and markers that a caller supplies.
+// - Rules that are kept beside a fault, and equality of macros.
+// - `Debug` texts.
+// - Allocation failures at any request, and writers that fail at any call.
 //
 // The tests call `mbe`, `mbe_tt` and `run` of `mbe_program`. `calling` has the examples of
 // docs/CALLING.md. `text` tests the crates of texts and of Rust files. What the programs print is

@@ -5,8 +5,8 @@ use mbe::{DeclarativeMacro, MacroCallStyle, ParseError};
 use std::alloc::{AllocError, Global};
 use test_rows::{Fields, rows};
 
-// Each row: the kind of definition, the definition, the argument of a call and its style, the index
-// of a rule and the expansion; or the error, if no rule has the style.
+// Each row has the kind of definition, the definition, and the argument of a call with its style.
+// The index of a rule and the expansion follow, or the error if no rule has the style.
 pub const ROWS: &str = rows![
     ("rules", "attr() () => {A}; () => {B}", "", "attribute", 0, "word A 0 14 15"),
     ("rules", "() => {A}; unsafe derive[x] () => {B}; derive() () => {C}", "", "derive", 1, "word B 0 35 36"),

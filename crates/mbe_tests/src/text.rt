@@ -1,9 +1,10 @@
 // Tests of the crates of texts and of Rust files, through their public functions, where no program
 // shows the result.
 //
-// They cover `mbe_text`, the grammars of `mbe_grammar`, and deep trees. They also cover what is
-// around an expansion: calls and definitions at the front of trees, splicing, code that `cfg`
-// disables, the files of modules, new names for locals, and carets.
+// They cover `mbe_text`, the grammars of `mbe_grammar`, and deep trees. They also cover the steps
+// before an expansion: removing code that `cfg` disables, finding the files of modules, and finding
+// calls and definitions at the front of trees. The steps after it are splicing, renaming locals,
+// and drawing carets.
 mod call_fronts;
 mod carets;
 mod conversions;

@@ -1,7 +1,6 @@
-// Tests as tables. A table is one text with a row for each case, which the macro `rows` joins from
-// literals. A test implements `RowTest` for what it checks of a row, and `check_rows` or `all` runs
-// it over
-// all rows and names the row that fails.
+// Tests as tables. A table is one text with a row for each case. The macro `rows` joins it from
+// literals. A test implements `RowTest` for what it checks of a row. `check_rows` or `all` runs it
+// over all rows and names the row that fails.
 #![tactic(auto)]
 
 pub mod failing_allocator;

@@ -3,7 +3,7 @@
 #
 #     sh tools/speed/bench/unproved-library.sh CHECKOUT OUT_DIR
 #
-# It makes OUT_DIR/libmbe_c.a and OUT_DIR/libmbe_c.so, as bindings/library.sh does. Then
+# It makes OUT_DIR/libmbe_c.a, libmbe.a and libmbe.so.1, as bindings/library.sh does. Then
 # `MBE_LIB_DIR=OUT_DIR sh bindings/test.sh` tries them. In a copy of the crates, mbe_c becomes a
 # program whose `main` calls each export. The rest is as in unproved.sh, CHECKS=kept too.
 set -eu
@@ -77,4 +77,4 @@ ar rc "$out/libmbe_c.a" "$work/kept.o"
 for it in "$kit"/c/liblibc_c.a "$kit"/c/libos_c.a; do
     (mkdir "$work/objects" && cd "$work/objects" && ar x "$it" && ar r "$out/libmbe_c.a" ./*.o && cd .. && rm -rf objects) 2>/dev/null
 done
-cc -shared -o "$out/libmbe_c.so" -Wl,--whole-archive "$out/libmbe_c.a" -Wl,--no-whole-archive
+sh "$tools/../../../bindings/link.sh" "$out"

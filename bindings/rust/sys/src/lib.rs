@@ -1,5 +1,5 @@
-//! What `bindings/c/mbe.h` declares, and a safe call for each export: the only file with `unsafe`. `mbe_rs` is what programs use.
-#![warn(missing_docs)]
+//! The declarations of `mbe.h`, and a safe call for each export. Programs use the crate `mbe`.
+#![deny(missing_docs)]
 
 use std::os::raw::{c_char, c_void};
 
@@ -141,79 +141,123 @@ extern "C" {
     fn mbe_c_version() -> u32;
     fn mbe_c_expand(
         request: *const Request,
-        grammar: *const c_char, grammar_len: usize,
-        definition: *const c_char, definition_len: usize,
-        definition_tokens: *const Token, definition_token_len: usize,
-        argument: *const c_char, argument_len: usize,
-        argument_tokens: *const Token, argument_token_len: usize,
-        tokens: *mut Token, token_room: usize,
-        text: *mut c_char, text_room: usize,
-        message: *mut c_char, message_room: usize,
+        grammar: *const c_char,
+        grammar_len: usize,
+        definition: *const c_char,
+        definition_len: usize,
+        definition_tokens: *const Token,
+        definition_token_len: usize,
+        argument: *const c_char,
+        argument_len: usize,
+        argument_tokens: *const Token,
+        argument_token_len: usize,
+        tokens: *mut Token,
+        token_room: usize,
+        text: *mut c_char,
+        text_room: usize,
+        message: *mut c_char,
+        message_room: usize,
         reply: *mut Reply,
     ) -> u32;
     fn mbe_c_expand_each(
         request: *const Request,
-        grammar: *const c_char, grammar_len: usize,
-        definition: *const c_char, definition_len: usize,
-        definition_tokens: *const Token, definition_token_len: usize,
-        arguments: *const c_char, arguments_len: usize,
-        argument_tokens: *const Token, argument_token_len: usize,
-        pieces: *const Piece, piece_len: usize,
-        replies: *mut Reply, reply_room: usize,
-        tokens: *mut Token, token_room: usize,
-        text: *mut c_char, text_room: usize,
-        message: *mut c_char, message_room: usize,
+        grammar: *const c_char,
+        grammar_len: usize,
+        definition: *const c_char,
+        definition_len: usize,
+        definition_tokens: *const Token,
+        definition_token_len: usize,
+        arguments: *const c_char,
+        arguments_len: usize,
+        argument_tokens: *const Token,
+        argument_token_len: usize,
+        pieces: *const Piece,
+        piece_len: usize,
+        replies: *mut Reply,
+        reply_room: usize,
+        tokens: *mut Token,
+        token_room: usize,
+        text: *mut c_char,
+        text_room: usize,
+        message: *mut c_char,
+        message_room: usize,
         reply: *mut Reply,
     ) -> u32;
     fn mbe_c_explain(
         request: *const Request,
-        grammar: *const c_char, grammar_len: usize,
-        definition: *const c_char, definition_len: usize,
-        definition_tokens: *const Token, definition_token_len: usize,
-        argument: *const c_char, argument_len: usize,
-        argument_tokens: *const Token, argument_token_len: usize,
-        verdicts: *mut Verdict, verdict_room: usize,
-        message: *mut c_char, message_room: usize,
+        grammar: *const c_char,
+        grammar_len: usize,
+        definition: *const c_char,
+        definition_len: usize,
+        definition_tokens: *const Token,
+        definition_token_len: usize,
+        argument: *const c_char,
+        argument_len: usize,
+        argument_tokens: *const Token,
+        argument_token_len: usize,
+        verdicts: *mut Verdict,
+        verdict_room: usize,
+        message: *mut c_char,
+        message_room: usize,
         reply: *mut Reply,
     ) -> u32;
     fn mbe_c_convert(
         request: *const Request,
-        input: *const c_char, input_len: usize,
-        input_tokens: *const Token, input_token_len: usize,
-        tokens: *mut Token, token_room: usize,
-        text: *mut c_char, text_room: usize,
-        message: *mut c_char, message_room: usize,
+        input: *const c_char,
+        input_len: usize,
+        input_tokens: *const Token,
+        input_token_len: usize,
+        tokens: *mut Token,
+        token_room: usize,
+        text: *mut c_char,
+        text_room: usize,
+        message: *mut c_char,
+        message_room: usize,
         reply: *mut Reply,
     ) -> u32;
     fn mbe_c_define(
         request: *const Request,
-        definition: *const c_char, definition_len: usize,
-        definition_tokens: *const Token, definition_token_len: usize,
-        message: *mut c_char, message_room: usize,
+        definition: *const c_char,
+        definition_len: usize,
+        definition_tokens: *const Token,
+        definition_token_len: usize,
+        message: *mut c_char,
+        message_room: usize,
         reply: *mut Reply,
     ) -> u32;
     fn mbe_c_grammar(
-        grammar: *const c_char, grammar_len: usize,
-        message: *mut c_char, message_room: usize,
+        grammar: *const c_char,
+        grammar_len: usize,
+        message: *mut c_char,
+        message_room: usize,
         reply: *mut Reply,
     ) -> u32;
     fn mbe_c_macro_read(
         request: *const Request,
-        grammar: *const c_char, grammar_len: usize,
-        definition: *const c_char, definition_len: usize,
-        definition_tokens: *const Token, definition_token_len: usize,
+        grammar: *const c_char,
+        grammar_len: usize,
+        definition: *const c_char,
+        definition_len: usize,
+        definition_tokens: *const Token,
+        definition_token_len: usize,
         it: *mut Macro,
-        message: *mut c_char, message_room: usize,
+        message: *mut c_char,
+        message_room: usize,
         reply: *mut Reply,
     ) -> u32;
     fn mbe_c_macro_expand(
         it: *mut Macro,
         call: *const Call,
-        argument: *const c_char, argument_len: usize,
-        argument_tokens: *const Token, argument_token_len: usize,
-        tokens: *mut Token, token_room: usize,
-        text: *mut c_char, text_room: usize,
-        message: *mut c_char, message_room: usize,
+        argument: *const c_char,
+        argument_len: usize,
+        argument_tokens: *const Token,
+        argument_token_len: usize,
+        tokens: *mut Token,
+        token_room: usize,
+        text: *mut c_char,
+        text_room: usize,
+        message: *mut c_char,
+        message_room: usize,
         reply: *mut Reply,
     ) -> u32;
     fn mbe_c_macro_free(it: *mut Macro) -> u32;
@@ -247,24 +291,39 @@ pub struct Bytes<'a> {
 // struct with a raw pointer does.
 
 /// The version of the interface.
+#[must_use]
 pub fn version() -> u32 {
     unsafe { mbe_c_version() }
 }
 
 /// `mbe_expand`.
-pub fn expand(request: &Request, grammar: &[u8], definition: Bytes, argument: Bytes, out: &mut Buffers) -> Reply {
+pub fn expand(
+    request: &Request,
+    grammar: &[u8],
+    definition: Bytes,
+    argument: Bytes,
+    out: &mut Buffers,
+) -> Reply {
     let mut reply = Reply::default();
     unsafe {
         mbe_c_expand(
             request,
-            grammar.as_ptr().cast(), grammar.len(),
-            definition.text.as_ptr().cast(), definition.text.len(),
-            definition.tokens.as_ptr(), definition.tokens.len(),
-            argument.text.as_ptr().cast(), argument.text.len(),
-            argument.tokens.as_ptr(), argument.tokens.len(),
-            out.tokens.as_mut_ptr(), out.tokens.len(),
-            out.text.as_mut_ptr().cast(), out.text.len(),
-            out.message.as_mut_ptr().cast(), out.message.len(),
+            grammar.as_ptr().cast(),
+            grammar.len(),
+            definition.text.as_ptr().cast(),
+            definition.text.len(),
+            definition.tokens.as_ptr(),
+            definition.tokens.len(),
+            argument.text.as_ptr().cast(),
+            argument.text.len(),
+            argument.tokens.as_ptr(),
+            argument.tokens.len(),
+            out.tokens.as_mut_ptr(),
+            out.tokens.len(),
+            out.text.as_mut_ptr().cast(),
+            out.text.len(),
+            out.message.as_mut_ptr().cast(),
+            out.message.len(),
             &mut reply,
         )
     };
@@ -273,22 +332,38 @@ pub fn expand(request: &Request, grammar: &[u8], definition: Bytes, argument: By
 
 /// `mbe_expand_each`; `replies` has as many elements as `pieces`.
 pub fn expand_each(
-    request: &Request, grammar: &[u8], definition: Bytes, arguments: Bytes, pieces: &[Piece], replies: &mut [Reply], out: &mut Buffers,
+    request: &Request,
+    grammar: &[u8],
+    definition: Bytes,
+    arguments: Bytes,
+    pieces: &[Piece],
+    replies: &mut [Reply],
+    out: &mut Buffers,
 ) -> Reply {
     let mut reply = Reply::default();
     unsafe {
         mbe_c_expand_each(
             request,
-            grammar.as_ptr().cast(), grammar.len(),
-            definition.text.as_ptr().cast(), definition.text.len(),
-            definition.tokens.as_ptr(), definition.tokens.len(),
-            arguments.text.as_ptr().cast(), arguments.text.len(),
-            arguments.tokens.as_ptr(), arguments.tokens.len(),
-            pieces.as_ptr(), pieces.len(),
-            replies.as_mut_ptr(), replies.len(),
-            out.tokens.as_mut_ptr(), out.tokens.len(),
-            out.text.as_mut_ptr().cast(), out.text.len(),
-            out.message.as_mut_ptr().cast(), out.message.len(),
+            grammar.as_ptr().cast(),
+            grammar.len(),
+            definition.text.as_ptr().cast(),
+            definition.text.len(),
+            definition.tokens.as_ptr(),
+            definition.tokens.len(),
+            arguments.text.as_ptr().cast(),
+            arguments.text.len(),
+            arguments.tokens.as_ptr(),
+            arguments.tokens.len(),
+            pieces.as_ptr(),
+            pieces.len(),
+            replies.as_mut_ptr(),
+            replies.len(),
+            out.tokens.as_mut_ptr(),
+            out.tokens.len(),
+            out.text.as_mut_ptr().cast(),
+            out.text.len(),
+            out.message.as_mut_ptr().cast(),
+            out.message.len(),
             &mut reply,
         )
     };
@@ -296,18 +371,31 @@ pub fn expand_each(
 }
 
 /// `mbe_explain`.
-pub fn explain(request: &Request, grammar: &[u8], definition: Bytes, argument: Bytes, out: &mut Buffers) -> Reply {
+pub fn explain(
+    request: &Request,
+    grammar: &[u8],
+    definition: Bytes,
+    argument: Bytes,
+    out: &mut Buffers,
+) -> Reply {
     let mut reply = Reply::default();
     unsafe {
         mbe_c_explain(
             request,
-            grammar.as_ptr().cast(), grammar.len(),
-            definition.text.as_ptr().cast(), definition.text.len(),
-            definition.tokens.as_ptr(), definition.tokens.len(),
-            argument.text.as_ptr().cast(), argument.text.len(),
-            argument.tokens.as_ptr(), argument.tokens.len(),
-            out.verdicts.as_mut_ptr(), out.verdicts.len(),
-            out.message.as_mut_ptr().cast(), out.message.len(),
+            grammar.as_ptr().cast(),
+            grammar.len(),
+            definition.text.as_ptr().cast(),
+            definition.text.len(),
+            definition.tokens.as_ptr(),
+            definition.tokens.len(),
+            argument.text.as_ptr().cast(),
+            argument.text.len(),
+            argument.tokens.as_ptr(),
+            argument.tokens.len(),
+            out.verdicts.as_mut_ptr(),
+            out.verdicts.len(),
+            out.message.as_mut_ptr().cast(),
+            out.message.len(),
             &mut reply,
         )
     };
@@ -320,11 +408,16 @@ pub fn convert(request: &Request, input: Bytes, out: &mut Buffers) -> Reply {
     unsafe {
         mbe_c_convert(
             request,
-            input.text.as_ptr().cast(), input.text.len(),
-            input.tokens.as_ptr(), input.tokens.len(),
-            out.tokens.as_mut_ptr(), out.tokens.len(),
-            out.text.as_mut_ptr().cast(), out.text.len(),
-            out.message.as_mut_ptr().cast(), out.message.len(),
+            input.text.as_ptr().cast(),
+            input.text.len(),
+            input.tokens.as_ptr(),
+            input.tokens.len(),
+            out.tokens.as_mut_ptr(),
+            out.tokens.len(),
+            out.text.as_mut_ptr().cast(),
+            out.text.len(),
+            out.message.as_mut_ptr().cast(),
+            out.message.len(),
             &mut reply,
         )
     };
@@ -337,9 +430,12 @@ pub fn define(request: &Request, definition: Bytes, out: &mut Buffers) -> Reply 
     unsafe {
         mbe_c_define(
             request,
-            definition.text.as_ptr().cast(), definition.text.len(),
-            definition.tokens.as_ptr(), definition.tokens.len(),
-            out.message.as_mut_ptr().cast(), out.message.len(),
+            definition.text.as_ptr().cast(),
+            definition.text.len(),
+            definition.tokens.as_ptr(),
+            definition.tokens.len(),
+            out.message.as_mut_ptr().cast(),
+            out.message.len(),
             &mut reply,
         )
     };
@@ -351,8 +447,10 @@ pub fn grammar(text: &[u8], out: &mut Buffers) -> Reply {
     let mut reply = Reply::default();
     unsafe {
         mbe_c_grammar(
-            text.as_ptr().cast(), text.len(),
-            out.message.as_mut_ptr().cast(), out.message.len(),
+            text.as_ptr().cast(),
+            text.len(),
+            out.message.as_mut_ptr().cast(),
+            out.message.len(),
             &mut reply,
         )
     };
@@ -367,16 +465,26 @@ impl Default for Macro {
 
 impl Macro {
     /// `mbe_macro_read`.
-    pub fn read(&mut self, request: &Request, grammar: &[u8], definition: Bytes, out: &mut Buffers) -> Reply {
+    pub fn read(
+        &mut self,
+        request: &Request,
+        grammar: &[u8],
+        definition: Bytes,
+        out: &mut Buffers,
+    ) -> Reply {
         let mut reply = Reply::default();
         unsafe {
             mbe_c_macro_read(
                 request,
-                grammar.as_ptr().cast(), grammar.len(),
-                definition.text.as_ptr().cast(), definition.text.len(),
-                definition.tokens.as_ptr(), definition.tokens.len(),
+                grammar.as_ptr().cast(),
+                grammar.len(),
+                definition.text.as_ptr().cast(),
+                definition.text.len(),
+                definition.tokens.as_ptr(),
+                definition.tokens.len(),
                 self,
-                out.message.as_mut_ptr().cast(), out.message.len(),
+                out.message.as_mut_ptr().cast(),
+                out.message.len(),
                 &mut reply,
             )
         };
@@ -390,11 +498,16 @@ impl Macro {
             mbe_c_macro_expand(
                 self,
                 call,
-                argument.text.as_ptr().cast(), argument.text.len(),
-                argument.tokens.as_ptr(), argument.tokens.len(),
-                out.tokens.as_mut_ptr(), out.tokens.len(),
-                out.text.as_mut_ptr().cast(), out.text.len(),
-                out.message.as_mut_ptr().cast(), out.message.len(),
+                argument.text.as_ptr().cast(),
+                argument.text.len(),
+                argument.tokens.as_ptr(),
+                argument.tokens.len(),
+                out.tokens.as_mut_ptr(),
+                out.tokens.len(),
+                out.text.as_mut_ptr().cast(),
+                out.text.len(),
+                out.message.as_mut_ptr().cast(),
+                out.message.len(),
                 &mut reply,
             )
         };

@@ -44,7 +44,8 @@ pub fn trees_of(
     Ok((one, two))
 }
 
-/// Where the second token of a text ends, or the text.
+/// Returns the byte at which the second token of a text ends. If the text has fewer tokens, this is
+/// the end of the text.
 pub fn end_of_second(text: &str) -> Result<u32, LexFault>
     requires { length text.now < 2 ^ 32 }
 {

@@ -5,8 +5,8 @@ use mbe_tt::tt::{
 };
 use std::alloc::{AllocError, Allocator, Global};
 
-/// Reads `name = tree;` and leaves the iterator after it. Where something else is there, the
-/// iterator stays.
+/// Reads `name = tree;` and leaves the iterator after it. If something else is there, the iterator
+/// is unchanged.
 pub fn assignment<'a, A: Allocator>(
     iter: &mut TtIter<'a, A>,
 ) -> Option<(&'a Ident<A>, TokenTreesView<'a, A>)> {
@@ -85,8 +85,7 @@ pub fn count_leaves<A: Allocator>(trees: TokenTreesView<'_, A>) -> usize {
 }
 
 /// Consumes the next tree if it is a leaf, and returns it as a view. Before a group it does
-/// nothing; at the end, the view
-/// is empty.
+/// nothing. At the end, the view is empty.
 pub fn next_leaf<'a, A: Allocator>(iter: &mut TtIter<'a, A>) -> Option<TokenTreesView<'a, A>> {
     let mut cursor = iter.remaining().cursor();
     cursor.bump_or_end();

@@ -8,7 +8,7 @@ use mbe_tt::span::Edition;
 use std::alloc::{AllocError, Global};
 use test_rows::rows;
 
-// Each row: a text, and its nodes, those of the rules' names first.
+// Each row: a text, and its nodes. The nodes of the rules' names come first.
 pub const NODES: &str = rows![
     ("", "[]"),
     ("# nothing", "[]"),

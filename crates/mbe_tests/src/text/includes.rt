@@ -1,8 +1,8 @@
 // Crates of a few files, with `include!` and `#[path]`, and the tree of each.
 use test_rows::rows;
 
-// Each row: the files of a crate, the root first, each `PATH: TEXT` and a `|` after it; the tree of
-// the crate; and its modules and includes without a file.
+// Each row has the files of a crate, the tree of the crate, and its modules and includes without a
+// file. The root is the first file. Each file is `PATH: TEXT` with a `|` after it.
 pub const ROWS: &str = rows![
     (
         "src/lib.rs: a include!(\"b.rs\"); c|src/b.rs: d",

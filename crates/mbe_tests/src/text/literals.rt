@@ -5,8 +5,11 @@ use mbe_tt::tt::{LitKind, Literal};
 use std::alloc::{AllocError, Global};
 use test_rows::rows;
 
-// Each row: a literal's kind, by its letter and the number of its `#`; the length of its suffix and
-// its text; what comes before the suffix, the suffix, and how the literal is written.
+// Each row has, in this order:
+//
+// 1. A literal's kind, by its letter and the number of its `#`.
+// 2. The length of its suffix, and its text.
+// 3. The text before the suffix, the suffix, and how the literal is written.
 pub const LITERALS: &str = rows![
     ("i", 3, "12u16", "12", "u16", "12u16"),
     ("f", 0, "1.5", "1.5", "", "1.5"),
@@ -32,8 +35,10 @@ fn small(row: &str) -> u8 {
     row.parse::<u8>().unwrap_or(u8::MAX)
 }
 
-// Returns the kind of a literal by its letter: a string of Rust, of bytes (`t`, raw `w`) or of C
-// (`z`, raw `y`); an integer (`i`), a float, a char, a byte; or a literal with a fault (`e`).
+// Returns the kind of a literal by its letter.
+//
+// - A string is of Rust, of bytes (`t`, raw `w`) or of C (`z`, raw `y`).
+// - Other kinds are an integer (`i`), a float, a char, a byte, and a literal with a fault (`e`).
 fn kind_of(row: &str) -> LitKind {
     let (letter, hashes) = row.split_at_checked(1).unwrap_or((row, ""));
     match letter {

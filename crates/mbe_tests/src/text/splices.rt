@@ -24,9 +24,8 @@ pub fn is_spliced(alloc: Global, parts: &str, want: &str) -> Result<bool, AllocE
     Ok(splice(alloc, "a! b! é!", &replacements)?.as_str() == want)
 }
 
-// Each row: the replacements, and the spliced text. The replacements of the last rows are skipped:
-// one that goes back, one whose start is after its end, one beyond the text, and two that cut the
-// `é`.
+// Each row: the replacements, and the spliced text. The replacements of the last rows are skipped.
+// One goes back, one starts after its end, one is beyond the text, and two cut the `é`.
 pub const ROWS: &str = rows![
     ("", "a! b! é!"),
     ("0 2 x", "x b! é!"),

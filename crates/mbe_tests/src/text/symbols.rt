@@ -94,8 +94,8 @@ fn takes_none(alloc: &FailingAllocator<Global>) -> Option<bool> {
     )
 }
 
-/// Whether a text that the table has needs no memory. The request that fails is the first after
-/// those of the first text.
+/// Whether a text that the table has needs no memory. The requests for the first text succeed. The
+/// request after them fails.
 pub fn is_kept(global: Global) -> bool {
     for number in 1..100 {
         if let Some(passes) = takes_none(&FailingAllocator::new(global, number)) {
