@@ -150,7 +150,7 @@ whole f rest = record { kept = up_to (flat_len rest) f; faults = []; rest = rest
 abbrev pub with_fault : List CfgFault → Stripped → Forest → Step
 with_fault faults t rest = record { kept = t.kept; faults = faults ++ t.faults; rest = rest }
 
--- an attribute that adds nothing is left out, but for what is wrong in it
+-- An attribute that adds nothing is left out. Its faults are kept.
 abbrev pub inert_or_tree : (Forest → Stripped) → CfgOptions → Forest → Tree → Forest → Option Forest
     → Step
 inert_or_tree within s f t rest (Some after) =

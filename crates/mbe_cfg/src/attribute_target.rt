@@ -1,4 +1,4 @@
-// Finds the end of what attributes are on: an item, a statement, an arm, a field and so on.
+// Finds the end of the target of attributes: an item, a statement, an arm, a field and so on.
 ghost use Rattle.std.specs.Prelude.{◌≡◌, IfOk, option_map};
 ghost use Rattle.mbe_tt.specs.Views.View.{trees};
 ghost use Rattle.mbe_cfg.specs.AttributeTarget as spec;
@@ -110,7 +110,7 @@ fn after_parsed_statement<'t, A: Allocator>(
     }
 }
 
-// Returns the trees after the statement at the front. If there is none, returns those after the
+// Returns the trees after the statement at the front. If there is none, returns the trees after the
 // next comma.
 fn after_statement<'t, A: Allocator, G: FragmentGrammar>(
     grammar: &G,
@@ -139,8 +139,8 @@ fn after_other<'t, A: Allocator, G: FragmentGrammar>(
     }
 }
 
-/// Returns the trees after the attributes at the front and what they are on. They may be on one of
-/// these:
+/// Returns the trees after the attributes at the front and after their target. The target is one
+/// of these:
 ///
 /// - an item, as the grammar parses it;
 /// - an arm of a `match`, with its expression;

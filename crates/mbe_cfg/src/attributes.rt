@@ -22,7 +22,7 @@ use std::alloc::Allocator;
 pub enum AttributeKind {
     PlainCfg,
     CfgAttr,
-    /// `test` or `bench`. Without tests, rustc drops what such an attribute is on.
+    /// `test` or `bench`. Without tests, rustc drops the target of such an attribute.
     Test,
     Other,
 }
@@ -57,7 +57,7 @@ fn argument<'t, A: Allocator>(
     }
 }
 
-// Returns whether the `cfg` holds whose parentheses are at the front.
+// Returns whether a `cfg` holds. Its parentheses are at the front.
 fn cfg<A: Allocator>(
     settings: &CfgOptions<'_>,
     at: Span,

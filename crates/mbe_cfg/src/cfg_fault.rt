@@ -1,10 +1,10 @@
-// What is wrong in an attribute, and where.
+// Faults of `cfg` and `cfg_attr` attributes.
 ghost use Rattle.std.specs.Prelude.{◌≡◌};
 ghost use Rattle.mbe_cfg.specs.CfgFaults.{message};
 
 use mbe_tt::span::Span;
 
-/// What is wrong in a `cfg` or `cfg_attr` attribute.
+/// The kinds of faults of a `cfg` or `cfg_attr` attribute.
 #[derive(Clone, Copy, Drop, PartialEq, Eq)]
 pub enum CfgFaultKind {
     /// No parentheses follow `cfg` or `cfg_attr`.
@@ -31,7 +31,7 @@ pub enum CfgFaultKind {
     TooDeep,
 }
 
-/// What is wrong, and where.
+/// A fault of an attribute, and its span.
 #[derive(Drop)]
 pub struct CfgFault {
     pub fault_kind: CfgFaultKind,

@@ -11,7 +11,7 @@ pub struct CfgOption<'a> {
     pub value: Option<&'a str>,
 }
 
-/// The options of a run: those of its target, those that `--cfg` gives, the crate's features, and
+/// The options of a run: the target's options, the options of `--cfg`, the crate's features, and
 /// whether its tests are compiled.
 #[derive(Drop)]
 pub struct CfgOptions<'a> {

@@ -1,9 +1,8 @@
-// Trees without what attributes are on whose `cfg` doesn't hold, and without `cfg_attr`s that add
-// nothing.
+// Removes the code that `cfg` attributes disable, and the `cfg_attr`s that add nothing.
 //
-// Trees are gone through from the front. Definitions and calls of macros stay whole: what their
-// groups hold is no Rust yet. A call
-// keeps each attribute, since they go with it where it is expanded.
+// The trees are read from the front. Definitions and calls of macros are kept whole, because the
+// trees in their groups aren't Rust code yet. A call keeps its attributes, because its expansion
+// needs them.
 ghost use Rattle.std.specs.Prelude.{◌≡◌, ◌<◌, ◌++◌, IfOk, OnOk, length, option_map, suc};
 ghost use Rattle.mbe_tt.specs.Buffers.GroupStack.{put};
 ghost use Rattle.mbe_tt.specs.Trees.Tree.{flat_len, none};
@@ -27,7 +26,7 @@ use mbe_tt::tt::{
 };
 use std::alloc::{AllocError, Allocator};
 
-/// How many groups may be in one another. What is deeper stays as it is.
+/// The maximum depth of groups. Trees in deeper groups are unchanged.
 pub const LEVELS: u32 = 1000;
 
 // The brackets of the inner attribute at the front, `#![..]`.
@@ -39,8 +38,8 @@ fn inner_attribute<'t, A: Allocator>(tokens: TokenTreesView<'t, A>) -> Option<Gr
     group_at(DelimiterKind::Bracket, mark)
 }
 
-// Whether the inner attribute at the front, or the attributes in a row there, let what they are on
-// be compiled.
+// Returns whether the inner attribute at the front, or the run of attributes there, lets its target
+// be compiled. Returns the first fault if there is one.
 fn is_enabled<A: Allocator>(
     settings: &CfgOptions<'_>,
     tokens: TokenTreesView<'_, A>,
@@ -53,8 +52,8 @@ fn is_enabled<A: Allocator>(
     }
 }
 
-/// Whether what is at the front has attributes that don't let it be compiled. One with a fault
-/// does.
+/// Returns whether the attributes at the front disable their target. An attribute with a fault
+/// disables nothing.
 pub fn is_disabled<A: Allocator>(settings: &CfgOptions<'_>, tokens: TokenTreesView<'_, A>) -> bool
     ensures { result ≡ spec.is_disabled settings.now (trees tokens.entry) }
 {
@@ -64,7 +63,7 @@ pub fn is_disabled<A: Allocator>(settings: &CfgOptions<'_>, tokens: TokenTreesVi
     }
 }
 
-/// Whether the attributes at the front have a fault.
+/// Returns whether the attributes at the front have a fault.
 pub fn has_fault<A: Allocator>(settings: &CfgOptions<'_>, tokens: TokenTreesView<'_, A>) -> bool
     ensures { result ≡ spec.has_fault settings.now (trees tokens.entry) }
 {
@@ -84,7 +83,7 @@ fn cfg_attr_argument<'t, A: Allocator>(tokens: TokenTreesView<'t, A>) -> Option<
     }
 }
 
-// Whether the predicate of a `cfg_attr` doesn't hold. One with a fault does.
+// Returns whether the predicate of a `cfg_attr` is false. A predicate with a fault isn't.
 fn is_false<A: Allocator>(settings: &CfgOptions<'_>, argument: Group<'_, A>) -> bool
     ensures { result ≡ spec.is_false settings.now (group_shown argument.entry) }
 {
@@ -94,7 +93,7 @@ fn is_false<A: Allocator>(settings: &CfgOptions<'_>, argument: Group<'_, A>) -> 
     !predicate_value.holds
 }
 
-// Whether the attribute in these brackets is a `cfg_attr` whose predicate doesn't hold.
+// Returns whether the attribute in these brackets is a `cfg_attr` whose predicate is false.
 fn is_inert<A: Allocator>(settings: &CfgOptions<'_>, group: Group<'_, A>) -> bool
     ensures { result ≡ spec.is_inert settings.now (group_shown group.entry) }
 {
@@ -104,7 +103,7 @@ fn is_inert<A: Allocator>(settings: &CfgOptions<'_>, group: Group<'_, A>) -> boo
     }
 }
 
-// Whether the attributes at the front are on a call, to which they belong.
+// Returns whether the attributes at the front belong to a call.
 fn is_on_call<A: Allocator>(tokens: TokenTreesView<'_, A>) -> bool
     ensures { result ≡ spec.is_call (front_item_with_attributes (trees tokens.entry)) }
 {
@@ -114,7 +113,8 @@ fn is_on_call<A: Allocator>(tokens: TokenTreesView<'_, A>) -> bool
     )
 }
 
-// What is after the attribute at the front, where that adds nothing, and isn't on a call.
+// Returns the trees after the attribute at the front, if it adds nothing and doesn't belong to a
+// call.
 fn after_inert_attribute<'t, A: Allocator>(
     settings: &CfgOptions<'_>,
     tokens: TokenTreesView<'t, A>,
@@ -130,7 +130,7 @@ fn after_inert_attribute<'t, A: Allocator>(
     }
 }
 
-/// What is wrong in the one attribute at the front.
+/// Returns the fault of the first attribute at the front, if it has one.
 pub fn fault_at<A: Allocator>(
     settings: &CfgOptions<'_>,
     tokens: TokenTreesView<'_, A>,
@@ -141,7 +141,7 @@ pub fn fault_at<A: Allocator>(
     attribute(settings, DEPTH, group.close, group.inside).err()
 }
 
-// Keeps what is wrong in the one attribute at the front.
+// Appends the fault of the first attribute at the front to `faults`.
 fn push_fault<A: Allocator>(
     settings: &CfgOptions<'_>,
     faults: &mut Vec<CfgFault, A>,
@@ -156,7 +156,7 @@ fn push_fault<A: Allocator>(
     Ok(())
 }
 
-// What is after all of these trees.
+// Returns the empty trees at the end of these trees.
 fn after_all<'t, A: Allocator>(tokens: TokenTreesView<'t, A>) -> TokenTreesView<'t, A>
     ensures { trees result ≡ none }
 {
@@ -165,9 +165,8 @@ fn after_all<'t, A: Allocator>(tokens: TokenTreesView<'t, A>) -> TokenTreesView<
     iter.remaining()
 }
 
-/// What is after what the attributes at the front are on: an inner attribute is on all that comes
-/// after it. `AllocError` if the
-/// grammar is out of memory.
+/// Returns the trees after the target of the attributes at the front. The target of an inner
+/// attribute is everything after it. `AllocError` if the grammar is out of memory.
 pub fn after_disabled_target<'t, A: Allocator, G: FragmentGrammar>(
     grammar: &G,
     tokens: TokenTreesView<'t, A>,
@@ -181,7 +180,7 @@ pub fn after_disabled_target<'t, A: Allocator, G: FragmentGrammar>(
     }
 }
 
-/// Writes the first trees as they are, up to those that are left. `AllocError` if out of memory.
+/// Writes the trees before `rest` unchanged. `AllocError` if out of memory.
 pub fn copy_up_to<'t, A: Allocator + Copy>(
     builder: &mut TopSubtreeBuilder<A>,
     tokens: TokenTreesView<'t, A>,
@@ -203,7 +202,7 @@ pub fn copy_up_to<'t, A: Allocator + Copy>(
     }
 }
 
-// Writes what stays of the front of these trees, and returns what is left after it.
+// Writes the enabled part of what these trees begin with, and returns the trees after it.
 #[cycle(stripping)]
 fn strip_front<'t, A: Allocator + Copy, G: FragmentGrammar>(
     settings: &CfgOptions<'_>,
@@ -245,8 +244,8 @@ fn strip_front<'t, A: Allocator + Copy, G: FragmentGrammar>(
     }
 }
 
-// Writes what stays of the first tree, which begins nothing that is off, and returns what is left
-// after it.
+// Writes the enabled part of the first tree, and returns the trees after it. The tree must not begin
+// disabled code.
 #[cycle(stripping)]
 fn strip_other<'t, A: Allocator + Copy, G: FragmentGrammar>(
     settings: &CfgOptions<'_>,
@@ -277,7 +276,7 @@ fn strip_other<'t, A: Allocator + Copy, G: FragmentGrammar>(
     Ok(rest)
 }
 
-// Writes what stays of a tree.
+// Writes the enabled part of a tree.
 #[cycle(stripping)]
 fn strip_tree<A: Allocator + Copy, G: FragmentGrammar>(
     settings: &CfgOptions<'_>,
@@ -312,7 +311,7 @@ fn strip_tree<A: Allocator + Copy, G: FragmentGrammar>(
     }
 }
 
-// Writes a group with what stays of what it holds.
+// Writes a group with the enabled part of its content.
 #[cycle(stripping)]
 fn strip_group<A: Allocator + Copy, G: FragmentGrammar>(
     settings: &CfgOptions<'_>,
@@ -336,7 +335,7 @@ fn strip_group<A: Allocator + Copy, G: FragmentGrammar>(
     Ok(())
 }
 
-// Writes what stays of the content of a group; all of it, if that is too deep.
+// Writes the enabled part of a group's content. Too deep content is written unchanged.
 #[cycle(stripping)]
 fn strip_inside<A: Allocator + Copy, G: FragmentGrammar>(
     settings: &CfgOptions<'_>,
@@ -359,7 +358,7 @@ fn strip_inside<A: Allocator + Copy, G: FragmentGrammar>(
     strip_trees(settings, grammar, faults, builder, tokens, levels - 1)
 }
 
-// Writes what stays of trees in which so many groups may be in one another.
+// Writes the enabled part of trees. Groups may be `levels` deep.
 #[cycle(stripping)]
 fn strip_trees<A: Allocator + Copy, G: FragmentGrammar>(
     settings: &CfgOptions<'_>,
@@ -386,12 +385,13 @@ fn strip_trees<A: Allocator + Copy, G: FragmentGrammar>(
     Ok(())
 }
 
-/// The tree without what attributes are on, in it, whose `cfg` doesn't hold under these settings,
-/// where the grammar says what is
-/// an item, and without each `cfg_attr` whose predicate doesn't. What attributes with a fault are
-/// on stays; of each attribute that stays, what is wrong in it comes at the end of
-/// `faults`, in the attributes' order. `AllocError` if out of memory: then some of the faults may
-/// be there.
+/// Returns the tree without the code that `cfg` attributes disable under these settings, and
+/// without each `cfg_attr` whose predicate is false. The grammar decides where an item ends. Calls
+/// and definitions of macros are unchanged.
+///
+/// An attribute with a fault disables nothing. The faults of the attributes that are kept are
+/// appended to `faults`, in the order of the attributes. Returns `AllocError` if memory runs out.
+/// Then some of the faults may have been appended.
 pub fn strip<A: Allocator + Copy, G: FragmentGrammar>(
     alloc: A,
     settings: &CfgOptions<'_>,

@@ -1,4 +1,4 @@
-// The options of targets. `tools/cfg-tables` compares them with those that rustc prints.
+// The options of targets. `tools/cfg-tables` compares them with the options that rustc prints.
 ghost use Rattle.std.specs.Prelude.{◌≡◌};
 ghost use Rattle.mbe_cfg.specs.Targets.{rows, options};
 

@@ -14,8 +14,8 @@ use Rattle.mbe_tt.specs.Trees.Tree.{Group_tree, front_ident, rest_of}
 use Rattle.mbe_semantics.specs.Expansion.MatchError.{puncts_text}
 use Rattle.mbe_diagnostics.specs.Outcome.{opening, quoted}
 
--- What stands at an offset of an argument: the innermost group around it, or none outside all
--- groups, and the trees from there to the end of that group.
+-- The tokens at an offset of an argument. `around` is the innermost group around the offset, or
+-- none outside all groups. The trees are the ones from the offset to the end of that group.
 pub record TokenAt : Type 0 where
   pub around : Option Delimiter
   pub rest : Forest

@@ -104,8 +104,9 @@ part_of w = record { text = text_of w; place = place_of w }
 abbrev pub pair_of : Expected × Expected → RulePart × RulePart
 pair_of p = (part_of p.0, part_of p.1)
 
--- The outcome of a rule: the verdict; its span in the call; the parts that the rule expects there;
--- and, for a local ambiguity or several readings, two parts by which the match could go on.
+-- The outcome of a rule. It has the verdict, its span in the call, and the parts that the rule
+-- expects there. For a local ambiguity or several readings, it has two parts by which the match
+-- could go on.
 pub record MatchOutcome : Type 0 where
   pub verdict : Verdict
   pub place : Span

@@ -4,8 +4,8 @@ use Rattle.mbe_tt.specs.declared.span.Span.{Span}
 use Rattle.mbe_tt.specs.Trees.Leaf.{span_of}
 use Rattle.mbe_tt.specs.Trees.Tree.{Forest, none, leaf, group, flat_len}
 
--- The span of the token at an offset, which is the number of flat tokens before it. Where a group
--- ends at the offset, it is the span of the closing delimiter. `close` is the span of the closing
+-- The span of the token at an offset, which is the number of flat tokens before it. If a group ends
+-- at the offset, it is the span of the closing delimiter. `close` is the span of the closing
 -- delimiter after the trees.
 abbrev pub span_at : Span → Forest → ℕ → Span
 span_at close none n = close

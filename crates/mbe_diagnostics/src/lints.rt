@@ -1,5 +1,5 @@
 // Lints: diagnostics on the macro definitions of a file, without a call. A lint reports an error,
-// or something of no use, in rustc's words.
+// or something that is unused, in rustc's words.
 pub mod definitions;
 pub mod error_location;
 pub mod finding_messages;

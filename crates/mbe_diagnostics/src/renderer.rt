@@ -159,10 +159,10 @@ fn snippet<A: Allocator + Copy>(alloc: A, diag: &Diagnostic<'_>) -> Result<Strin
     format!(in alloc; "{gutter} |\n{number} | {line}\n{gutter} | {margin}{carets}\n")
 }
 
-/// Renders a diagnostic as rustc does, in lines: the level and the message; the file, the line and
-/// the column; the line of the file; and carets below the part. Tabs become four spaces, and
-/// control characters become signs. If `is_coloured`, terminal codes colour the level. `AllocError`
-/// if out of memory.
+/// Renders a diagnostic as rustc does. The first line has the level and the message. The next ones
+/// have the file with the line and the column, the text of that line, and carets below the part.
+/// Tabs become four spaces, and control characters become signs. If `is_coloured`, terminal codes
+/// colour the level. `AllocError` if out of memory.
 pub fn rendered<A: Allocator + Copy>(
     alloc: A,
     diag: &Diagnostic<'_>,

@@ -84,7 +84,7 @@ module _ (HasEdition : SyntaxContext → Edition → Type 0) where
   abbrev pub IsHead : Mode → Result Head Fault → Op → Forest → Option ℕ → Type 0
   IsHead mode h o left empty = AtHead mode h o left × EmptyAtHead mode h o empty
 
-  -- the first refused repetition of this op; without one, that of the trees after it is the first
+  -- The first refused repetition of this op. If it has none, the first one of the trees after it.
   abbrev pub EmptyInOp : Mode → Forest → Op → Forest → Option ℕ → Type 0
   EmptyInOp mode before o left None = (is_refused_op o ≡ false)
       × ((n : ℕ) → EmptyAt HasEdition mode left n

@@ -73,7 +73,7 @@ pub record ExpandsTexts (edition : Edition) (def_text arg_text : List ℕ) (out 
   pub expands : ExpandsTrees edition definition.1 argument (bytes_of 1 0 (length arg_text)) out
       index err
 
--- That byte of the file's text is at fault, or memory ran out.
+-- The outcome says that this byte of the file's text is at fault, or that memory ran out.
 abbrev pub IsAtFault : {A : Type 0} → ℕ → List ℕ → Outcome A → Type 0
 IsAtFault file text (CannotLex f offset) = (f ≡ file) × (sample_trees file text ≡ Err offset)
 IsAtFault file text OutOfMemory = ⊤

@@ -1,8 +1,7 @@
 // Expansions and verdicts of trees, by any grammar of fragments.
 //
-// `defined` reads the macro of a definition. `expand_with` expands an argument by it;
-// `explain_rules`
-// returns the verdict of each rule.
+// `defined` reads the macro of a definition. `expand_with` expands an argument by it, and
+// `explain_rules` returns the verdict of each rule.
 ghost use Rattle.std.specs.Prelude.{◌≡◌, map, None, IfErr, IfOk};
 ghost use Rattle.mbe_tt.specs.Trees.Top.{top_group};
 ghost use Rattle.mbe_ops.specs.Errors.ErrorViews.{errors_of};

@@ -41,7 +41,7 @@ found_if_rust n module_dir (Some trees) =
 abbrev pub trees_of_file : List CrateFile → ℕ → Option Forest
 trees_of_file files n = option_and_then (λ file. file.trees) (slice_get files n)
 
--- That file, unless it is around the module.
+-- The file of a module. It is an error if that file is around the module.
 abbrev pub acyclic_file : List CrateFile → List ℕ → ℕ → ModuleDir → Result FoundFile FileLookupError
 acyclic_file files around n module_dir =
     if list_any (λ m. m == n) around then Err Circular else found_if_rust n module_dir

@@ -16,7 +16,8 @@ use Rattle.mbe_cfg.specs.Crates.ModuleItems.{Included, ModuleCursor, after, at_i
 use Rattle.mbe_cfg.specs.Crates.ModuleItems.{finished_include}
 use Rattle.mbe_cfg.specs.Crates.FileLookup.{CrateFile, FoundFile, found_file}
 
--- Where trees are: the folder of the modules in them, and the numbers of the files around them.
+-- The surroundings of trees: the folder of the modules in them, and the numbers of the files around
+-- them.
 pub record InlineContext : Type 0 where
   pub module_dir : ModuleDir
   pub around : List ℕ

@@ -1,11 +1,11 @@
--- Where the files of modules are looked for, as the Reference defines it.
+-- The folders in which the files of modules are looked for. The Reference defines them.
 use Rattle.std.specs.Prelude.{ℕ, List, ◌++◌, codes, Option, Some, None}
 use Rattle.mbe_cfg.specs.Files.Paths.{join, folder_of}
 
--- A file's folder, alone and with the names of the inline modules from there on; and the file's own
--- name, if its modules are in a folder of that name. There is no own name in a crate's root, in a
--- `mod.rs`, in a file that `#[path]` or `include!` names, and in an inline module, which has added
--- it.
+-- A file's folder, and that folder with the names of the inline modules from there on. `own` is the
+-- file's own name, if its modules are in a folder of that name. A crate's root, a `mod.rs`, and a
+-- file that `#[path]` or `include!` names have no own name. An inline module has none either,
+-- because it has added the name to the folder.
 pub record ModuleDir : Type 0 where
   pub file_folder : List ℕ
   pub folder : List ℕ
@@ -27,8 +27,7 @@ abbrev pub folder_inside : ModuleDir → List ℕ → Option (List ℕ) → List
 folder_inside p name None = in_modules_folder p name
 folder_inside p name (Some path) = join p.folder path
 
--- Where the files of modules in an inline module of that name are looked for, with or without
--- `#[path]`.
+-- The folders for the files of modules in an inline module of that name, with or without `#[path]`.
 abbrev pub inside : ModuleDir → List ℕ → Option (List ℕ) → ModuleDir
 inside p name path =
     record { file_folder = p.file_folder; folder = folder_inside p name path; own = None }
@@ -51,12 +50,12 @@ candidates p name (Some path) = Given (join p.folder path)
 abbrev pub included : ModuleDir → List ℕ → Candidates
 included p path = Included (join p.file_folder path)
 
--- Where the files of modules in the file `name.rs` are looked for.
+-- The folders for the files of modules in the file `name.rs`.
 abbrev pub of_file : ModuleDir → List ℕ → ModuleDir
 of_file p name =
     record { file_folder = modules_folder p; folder = modules_folder p; own = Some name }
 
--- Where the files of modules in a file with that path are looked for: in a folder of the given name
--- in the file's folder, or else in the file's folder.
+-- The folders for the files of modules in a file with that path. If a name is given, it is the
+-- folder of that name in the file's folder. Else it is the file's folder.
 abbrev pub in_file : List ℕ → Option (List ℕ) → ModuleDir
 in_file path own = record { file_folder = folder_of path; folder = folder_of path; own = own }

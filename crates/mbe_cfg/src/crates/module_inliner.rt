@@ -37,7 +37,8 @@ pub struct UnresolvedFile<A: Allocator = Global> {
     pub reason: FileLookupError,
 }
 
-// Where trees are: the folder of the modules in them, and the numbers of the files around them.
+// The surroundings of trees: the folder of the modules in them, and the numbers of the files around
+// them.
 #[derive(Drop)]
 #[derive_where(Clone, Copy)]
 struct InlineContext<'p, A: Allocator = Global> {
@@ -426,15 +427,15 @@ fn inline_trees<A: Allocator + Copy>(
     Ok(())
 }
 
-/// Returns the trees of a crate: those of its root, with each `mod name;` as `mod name { .. }` with
-/// the trees of the one file that may hold the module and was read. The trees of the named file
-/// follow each `include!("..");` that is an item. `files` are the files that were read. The root is
-/// the file `number`, and the files of its modules are looked for at `module_dir`.
+/// Returns the trees of a crate: the trees of its root with the modules inlined. Each `mod name;`
+/// becomes `mod name { .. }` with the trees of the one file that may hold the module and was read.
+/// The trees of the named file follow each `include!("..");` that is an item. `files` are the files
+/// that were read. The root is the file `number`, and the files of its modules are looked for at
+/// `module_dir`.
 ///
 /// If a module has no such file, its `mod name;` is unchanged, and the module is appended to
 /// `unresolved`. An `include!` without its file is appended too. Returns `AllocError` if memory
-/// runs
-/// out. Then some of these may have been appended.
+/// runs out. Then some of these may have been appended.
 pub fn inline_modules<A: Allocator + Copy>(
     alloc: A,
     files: &[CrateFile<'_, A>],

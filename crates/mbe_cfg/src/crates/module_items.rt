@@ -17,7 +17,7 @@ use std::alloc::{Allocator, Global};
 /// The content of a module.
 #[derive(Drop)]
 pub enum ModuleBody<'t, A: Allocator = Global> {
-    /// In a file. The span is that of the `;`.
+    /// In a file. The span is the span of the `;`.
     Outside(Span),
     Braces(Delimiter, TokenTreesView<'t, A>),
 }
@@ -360,7 +360,7 @@ fn include_at<'t, A: Allocator>(tokens: TokenTreesView<'t, A>) -> Option<Include
     }
 }
 
-// Returns whether a tree is a group in brackets, as those of attributes.
+// Returns whether a tree is a group in brackets, as in an attribute.
 fn is_brackets<A: Allocator>(tree: &TtElement<'_, A>) -> bool
     ensures { result ≡ spec.is_brackets (element_tree tree.now) }
 {

@@ -1,7 +1,7 @@
-// What a crate exports from another one.
+// Re-exports: what a crate exports from another one.
 use std::alloc::{Allocator, Global};
 
-/// What is exported from another crate.
+/// The macros of another crate that an export names.
 #[derive(Drop)]
 pub enum ExportedMacros<A: Allocator = Global> {
     /// All that the other crate offers.

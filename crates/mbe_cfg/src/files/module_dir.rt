@@ -7,8 +7,8 @@ ghost use Rattle.mbe_cfg.specs.Files.ModuleDirViews.{module_dir_shown, candidate
 use crate::files::paths::{folder_of, join};
 use std::alloc::{AllocError, Allocator, Global};
 
-/// Where the files of modules are looked for, which are in a file or in an inline module of it. The
-/// rules are the Reference's.
+/// The folder in which the files of modules are looked for. The modules are declared in a file or
+/// in an inline module of it. The rules are the Reference's.
 ///
 /// `folder` is the folder of the file, and the names of the inline modules from there on. The
 /// modules of a file such as `a/b.rs` are in a folder of its own name. For such a file, `own` is

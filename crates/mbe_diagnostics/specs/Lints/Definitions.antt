@@ -9,8 +9,8 @@ abbrev pub defined_in_tree : (Forest → List MacroDefinition) → Tree → List
 defined_in_tree within (Leaf_tree l) = []
 defined_in_tree within (Group_tree d inside) = within inside
 
--- The definition at a front, or the definitions in its tree; then those of the trees after it. A
--- definition holds no other, and neither does a call.
+-- The definition at a front, or the definitions in its tree, and then the definitions of the trees
+-- after it. A definition holds no other, and neither does a call.
 abbrev pub defined_at : (Tree → List MacroDefinition) → (Forest → List MacroDefinition) → FrontItem
     → List MacroDefinition
 defined_at within more (Definition d) = d ∷ more d.rest

@@ -46,8 +46,8 @@ repetition_place other place n after_dollar (group d inside rest) =
     else repetition_place other place n false inside)
     else repetition_place other place n false rest
 
--- The span of a repetition's body. If the body has no token and no variable, that of the macro's
--- name.
+-- The span of a repetition's body. If the body has no token and no variable, it is the span of the
+-- macro's name.
 abbrev pub fixed_place : MacroDefinition → FixedRepetition → Option Span → Span
 fixed_place d r None = d.name.span
 fixed_place d r (Some place) = repetition_place place place r.depth false d.rules

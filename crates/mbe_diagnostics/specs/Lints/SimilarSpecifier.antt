@@ -1,5 +1,5 @@
--- The name that is most similar to an unknown one, as rustc finds it: one that differs only in
--- case, or else the first of those with the fewest edits, if they are few.
+-- The name that is most similar to an unknown one, as rustc finds it. A name that differs only in
+-- case comes first. Else it is the first name with the fewest edits, if they are few.
 use Prim.Native.String.{String}
 use Rattle.std.specs.Prelude.{ℕ, Bool, ◌+◌, ◌/◌, max, nat_lt, if◌then◌else◌, codes, chars, List, []}
 use Rattle.std.specs.Prelude.{◌∷◌, length, map, Option, Some, None}

@@ -176,15 +176,15 @@ fn push_definitions<A: Allocator + Copy, E: Copy + Fn(SyntaxContext) -> Edition>
     Ok(())
 }
 
-/// Adds the lints of the definitions among these trees, in the order of the text. For each
-/// definition they are, in this order:
+/// Adds the lints of the definitions among these trees, in the order of the text. The lints of one
+/// definition are, in this order:
 ///
-/// 1. why it is refused, if it is: at the token that can't be parsed, or at the opening of the
-///    repetition that can match nothing;
-/// 2. that it has no rules, if it has none and isn't refused;
-/// 3. the findings of each rule up to the first fault, in the order of `findings`, and its
-///    repetitions without a variable that repeats there;
-/// 4. which of these rules no call reaches.
+/// 1. Why it is refused, if it is. The span is the token that can't be parsed, or the opening of
+///    the repetition that can match nothing.
+/// 2. Its lack of rules, if it has none and isn't refused.
+/// 3. The findings of each rule up to the first fault, in the order of `findings`, and its
+///    repetitions without a variable that repeats there.
+/// 4. Which of these rules no call reaches.
 ///
 /// The function `ctx_edition` returns the edition of a context; it decides what `pat` and `expr`
 /// mean. `AllocError` if out of memory, or if groups and repetitions of a rule are nested too deep.

@@ -71,7 +71,7 @@ fn fewest_edits<'s, A: Allocator + Copy>(
 }
 
 /// Returns the name among `all` that is most similar to `name`, if one is similar, as rustc does. A
-/// name that differs only in case comes first. Else it is the first of those with the fewest edits.
+/// name that differs only in case comes first. Else it is the first name with the fewest edits.
 /// The edits are at most a third of the name's bytes, but one is always allowed. An edit inserts,
 /// removes or replaces a character, or swaps two. `AllocError` if out of memory.
 #[tactic(auto, unfolding(crate::specs::Lints::SimilarSpecifier::similar_name))]

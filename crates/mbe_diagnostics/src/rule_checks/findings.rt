@@ -1,4 +1,4 @@
-// Finds errors in a rule, and variables without use. What it finds holds for every call.
+// Finds errors in a rule, and unused variables. The findings hold for every call.
 ghost use Rattle.std.specs.Prelude.{◌≡◌, ◌++◌, [], map, option_map, IfOk, OnOk};
 ghost use Rattle.mbe_ops.specs.Views.{separator_seen, template_of};
 ghost use Rattle.mbe_diagnostics.specs.RuleChecks.Variables.{variable_seen, use_seen};
@@ -314,14 +314,14 @@ fn push_forbidden<'a, A: Allocator>(
 
 /// Returns the findings in a rule with this pattern and this template. They are, in this order:
 ///
-/// 1. names that are bound twice;
-/// 2. unknown specifiers;
-/// 3. separators of repetitions with `?`, first in the pattern, then in the template;
-/// 4. uses of names that no variable has, unless the template may define a macro;
-/// 5. variables that the template doesn't name, unless their name begins with `_`, and only where a
-///    mistake is likely: there is a finding of 4, or the name is in the template without `$`;
-/// 6. uses of a variable in fewer repetitions than it is bound in;
-/// 7. fragments that something may follow which the Rust Reference forbids there ("Follow-set
+/// 1. Names that are bound twice.
+/// 2. Unknown specifiers.
+/// 3. Separators of repetitions with `?`, first in the pattern, then in the template.
+/// 4. Uses of names that no variable has, unless the template may define a macro.
+/// 5. Variables that the template doesn't name, unless their name begins with `_`. They are only
+///    found where a mistake is likely: 4 found something, or the template has the name without `$`.
+/// 6. Uses of a variable in fewer repetitions than it is bound in.
+/// 7. Fragments that something may follow which the Rust Reference forbids there ("Follow-set
 ///    Ambiguity Restrictions"), as rustc 1.95 checks it.
 ///
 /// The findings of each kind are in the order of the text. If a name is bound twice, the first

@@ -138,9 +138,9 @@ fn push_fixed_op<A: Allocator + Copy>(
     }
 }
 
-/// Returns the repetitions of a template that have no variable of the pattern that repeats there,
-/// in the order of the text. rustc refuses each call that expands one. A repetition in another one
-/// of them is left out. `AllocError` if out of memory, or if 2^64 repetitions are nested.
+/// Returns the repetitions of a template in which no variable of the pattern repeats, in the order
+/// of the text. rustc refuses each call that expands one. A repetition in another one of them is
+/// left out. `AllocError` if out of memory, or if 2^64 repetitions are nested.
 pub fn fixed_repetitions<A: Allocator + Copy>(
     alloc: A,
     pattern: &MetaTemplate<A>,

@@ -15,7 +15,7 @@ use mbe_tt::span::Span;
 use mbe_tt::tt::{DelimiterKind, Ident, IdentIsRaw, Literal, Punct};
 use std::alloc::{AllocError, Allocator, Global};
 
-/// What may come next in a pattern. Clauses see it by `follower_seen`.
+/// A part of a pattern that may come next. Clauses see it by `follower_seen`.
 #[derive_where(Clone, Copy)]
 pub enum Follower<'a, A: Allocator = Global> {
     /// A token, a variable or a group.
@@ -51,7 +51,7 @@ fn spell(puncts: &[Punct], bytes: &[u8]) -> bool
     }
 }
 
-// What the follow sets tell apart of what comes next.
+// The kinds of next parts that the follow sets tell apart.
 #[derive(Drop)]
 enum TokenClass<'a> {
     Puncts(&'a [Punct]),
@@ -433,8 +433,8 @@ fn firsts_or<'a, A: Allocator + Copy>(
     Ok(next)
 }
 
-// Returns what may follow a round of a repetition: what may follow the repetition, and its
-// separator.
+// Returns the parts that may follow a round of a repetition: the parts that may follow the
+// repetition, and its separator.
 fn after_round<'a, A: Allocator + Copy>(
     alloc: A,
     after: &[Follower<'a, A>],

@@ -25,8 +25,8 @@ use std::alloc::Allocator;
 /// ignored.
 ///
 /// Returns `SyntaxFault::InvalidExpression` if the trees have none of these forms, and `Memory` if
-/// out of memory. The forms are those of the unstable features `macro_metavar_expr` and
-/// `macro_metavar_expr_concat`, as rust-analyzer parses them.
+/// out of memory. The unstable features `macro_metavar_expr` and `macro_metavar_expr_concat` define
+/// the forms. They are parsed as rust-analyzer parses them.
 #[tactic(auto, using(mbe_ops::proofs::OpViews::views))]
 pub fn parse_metavar_expr<A: Allocator + Copy>(
     alloc: A,

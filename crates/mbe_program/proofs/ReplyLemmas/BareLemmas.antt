@@ -33,7 +33,7 @@ no_grammar-bare text a (no_memory_for_grammar e) = bare_as a _ e (refl, refl)
 no_trees-bare : (dialect : Dialect) (s : Source) (a : Answer) → HasNoTrees dialect s a → IsBare a
 no_trees-bare dialect s a (no_text_of_input flat h) = no_text-bare _ _ a h
 no_trees-bare dialect s a (unlexed flat fault lexes e) = bare_as a _ e (refl, refl)
-no_trees-bare dialect s a (invalid_tokens flat index fault_kind e) = bare_as a _ e (refl, refl)
+no_trees-bare dialect s a (invalid_tokens flat index fault_kind why e) = bare_as a _ e (refl, refl)
 no_trees-bare dialect s a (neither flat e) = bare_as a _ e (refl, refl)
 no_trees-bare dialect s a (no_memory_for_trees e) = bare_as a _ e (refl, refl)
 

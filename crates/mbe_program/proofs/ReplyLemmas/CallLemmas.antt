@@ -29,6 +29,7 @@ use Rattle.mbe_program.specs.declared.replies.requests.RequestSettings.{RequestS
 use Rattle.mbe_program.specs.Replies.Answers.{Answer, OrOutOfMemory, IsUnlexed, AreInvalidTokensBy, IsInvalidGrammarBy}
 use Rattle.mbe_program.specs.Replies.Answers.{IsUnreadBy, IsNoGrammar, fault_in_grammar, no_memory_for_grammar}
 use Rattle.mbe_program.specs.TreeExpansion.{HasNoMacro}
+use Rattle.mbe_program.specs.Replies.Flat.TokenFaults.{AreRefused}
 use Rattle.mbe_program.specs.Replies.Requests.{AreRequestSettings, AreTreesOf, HasNoTrees, unlexed, invalid_tokens}
 use Rattle.mbe_program.specs.Replies.Requests.{no_memory_for_trees, IsNoMacro, refused, no_memory_for_macro, tree_shown}
 use Rattle.mbe_program.specs.Replies.Requests.{Converts, converted, no_memory_for_form, Source, Reads, IsGrammar}
@@ -48,11 +49,12 @@ unlexed_by dialect s text error fault a flat same is lexes (inl h) =
 unlexed_by dialect s text error fault a flat same is lexes (inr h) = no_memory_for_trees h
 
 pub untreed_by : (dialect : Dialect) (s : Source) (error : FlatError) (a : Answer) → s.is_flat ≡ 1
-    → AreInvalidTokensBy s.part error a
+    → AreRefused s.text s.tokens error → AreInvalidTokensBy s.part error a
     → HasNoTrees dialect s a
-untreed_by dialect s (flat_errors.Fault index fault_kind) a flat (inl h) = invalid_tokens flat index fault_kind h
-untreed_by dialect s (flat_errors.Fault index fault_kind) a flat (inr h) = no_memory_for_trees h
-untreed_by dialect s flat_errors.OutOfMemory a flat h = no_memory_for_trees h
+untreed_by dialect s (flat_errors.Fault index fault_kind) a flat why (inl h) =
+    invalid_tokens flat index fault_kind why h
+untreed_by dialect s (flat_errors.Fault index fault_kind) a flat why (inr h) = no_memory_for_trees h
+untreed_by dialect s flat_errors.OutOfMemory a flat why h = no_memory_for_trees h
 
 pub ungrammatical_by : (text read : List ℕ) (fault : PegError) (a : Answer) → read ≡ text
     → Faults fault (read_text read)

@@ -2,4 +2,5 @@
 pub mod TokenCodes
 pub mod Encoder
 pub mod Decoder
+pub mod TokenFaults
 pub mod FlatViews

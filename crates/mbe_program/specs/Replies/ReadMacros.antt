@@ -27,8 +27,8 @@ use Rattle.mbe_program.specs.TreeExpansion.{IsEdition, IsItself}
 
 -- ---- what was read
 
--- The grammar that was read is that of the settings: the sample grammar, Rust's table, or the rules
--- of the text.
+-- The grammar that was read is the settings' grammar: the sample grammar, Rust's table, or the
+-- rules of the text.
 abbrev pub AreFragments : {A : Type 0} → RequestSettings → List ℕ → Fragments A → Type 0
 AreFragments s text fragments.Sample = s.grammar ≡ grammars.Sample
 AreFragments s text (fragments.Rust table) =

@@ -27,6 +27,7 @@ use Rattle.mbe_semantics.specs.Readings.Verdict.{Verdict, one_reading, many_read
 use Rattle.mbe_semantics.specs.Readings.Verdict.{stuck}
 use Rattle.mbe_program.specs.declared.replies.flat.decoder.FlatFault.{FlatFault}
 use Rattle.mbe_program.specs.declared.replies.flat.flat_token.FlatToken.{FlatToken}
+use Rattle.mbe_program.specs.Replies.Flat.TokenFaults.{HasNoTree}
 use Rattle.mbe_program.specs.Replies.Flat.TokenCodes.{span_of}
 use Rattle.mbe_program.specs.Replies.Flat.Decoder.{AreTrees}
 use Rattle.mbe_program.specs.Replies.Flat.Encoder.{flat_form}
@@ -116,14 +117,15 @@ pub data AreTreesOf (dialect : Dialect) (s : Source) (tree : Top) : Type 0 where
       → AreTreesOf dialect s tree
   said : s.is_flat ≡ 1 → AreTrees s.text s.tokens tree → AreTreesOf dialect s tree
 
--- An input has no trees, and the answer says why: its bytes are no text; the text can't be lexed;
--- its flat tokens aren't trees; or it is neither a text nor flat tokens.
+-- An input has no trees, and the answer says why. Its bytes are no text, the text can't be lexed,
+-- its flat tokens aren't trees, or it is neither a text nor flat tokens.
 pub data HasNoTrees (dialect : Dialect) (s : Source) (a : Answer) : Type 0 where
   no_text_of_input : s.is_flat ≡ 0 → IsNoText s.part s.text a → HasNoTrees dialect s a
   unlexed : s.is_flat ≡ 0 → (fault : LexFault) → lexed_trees dialect s.file s.text ≡ Err fault
       → IsUnlexed s.part fault a
       → HasNoTrees dialect s a
   invalid_tokens : s.is_flat ≡ 1 → (index : ℕ) (fault_kind : FlatFault)
+      → HasNoTree s.text s.tokens index fault_kind
       → AreInvalidTokens s.part index fault_kind a → HasNoTrees dialect s a
   neither : 2 ≤ s.is_flat → a ≡ empty Number s.part → HasNoTrees dialect s a
   no_memory_for_trees : IsOutOfMemory a → HasNoTrees dialect s a

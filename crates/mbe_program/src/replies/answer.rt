@@ -47,9 +47,15 @@ pub enum Status {
 }
 
 impl Status {
-    /// Returns the status in C: 0 `Done`, 1 `Faulted`, 2 `Refused`, 3 `Number`, 4 `Utf8`, 5
-    /// `TooLong`, 6 `NoTokens`, 7 `NoTrees`, 8 `NoGrammar`, 9 `OutOfMemory`, 10 `NoRoom`, 12
-    /// `NoMacro`, 13 `HasMacro`. The C header itself returns 11, for null pointers.
+    /// Returns the status in C.
+    ///
+    /// - 0 `Done`, 1 `Faulted`, 2 `Refused`;
+    /// - 3 `Number`, 4 `Utf8`, 5 `TooLong`;
+    /// - 6 `NoTokens`, 7 `NoTrees`, 8 `NoGrammar`;
+    /// - 9 `OutOfMemory`, 10 `NoRoom`;
+    /// - 12 `NoMacro`, 13 `HasMacro`.
+    ///
+    /// The C header itself returns 11, for null pointers.
     pub fn number(self) -> u32
         ensures { result ≡ spec.status_number self }
     {
@@ -100,7 +106,7 @@ pub struct Answer<A: Allocator> {
     pub status: Status,
     /// The input at fault.
     pub part: RequestPart,
-    /// Where the fault is: the byte for `NoTokens`, the token for `NoTrees`, the line for
+    /// The position of the fault: the byte for `NoTokens`, the token for `NoTrees`, the line for
     /// `NoGrammar`.
     pub place: usize,
     /// The column of the fault, for `NoGrammar`.

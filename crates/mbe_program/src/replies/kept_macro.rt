@@ -13,8 +13,8 @@ use crate::replies::request_codes::{GrammarKind, form_of, style_of};
 use crate::replies::requests::{Input, Request, RequestSettings};
 use std::alloc::{AllocError, Allocator};
 
-/// What a call asks of a kept macro, in numbers. The module `request_codes` says what they stand
-/// for.
+/// The request of a call to a kept macro, in numbers. The module `request_codes` defines what they
+/// mean.
 #[repr(C)]
 #[derive(Clone, Copy, Default, Drop)]
 pub struct KeptCall {
@@ -50,8 +50,8 @@ fn copy_grammar<A: Allocator + Copy>(
     Ok(kept)
 }
 
-// Returns the settings of a call: those that the macro was read with, and the style, the form and
-// the call site of the call. `None` if a number of the call has no meaning.
+// Returns the settings of a call: the settings that the macro was read with, and the style, the
+// form and the call site of the call. `None` if a number of the call has no meaning.
 fn settings_at(asked: RequestSettings, call: &KeptCall) -> Option<RequestSettings>
     ensures known { IfSome result (spec.AreAtCall asked call.now) }
     ensures unknown { IfNone result (spec.IsUnknownCall call.now) }
@@ -66,8 +66,8 @@ fn settings_at(asked: RequestSettings, call: &KeptCall) -> Option<RequestSetting
 
 impl<A: Allocator + Copy> KeptMacro<A> {
     /// Reads a definition, and the text of the grammar if the request asks for one. The order and
-    /// the errors are those of `ReadMacro::read`. The request's style, form and call site must have
-    /// a meaning; each call may ask for others.
+    /// the errors are the same as in `ReadMacro::read`. The request's style, form and call site
+    /// must have a meaning. Each call may ask for others.
     pub fn read(
         alloc: A,
         request: &Request,

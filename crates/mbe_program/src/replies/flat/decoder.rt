@@ -1,12 +1,14 @@
 // Decodes flat tokens into trees. It checks every number and every text, since they come from the
 // caller.
-ghost use Rattle.std.specs.Prelude.{◌≡◌, ◌<◌, Some, IfOk, IfSome, OnOk};
+ghost use Rattle.std.specs.Prelude.{◌≡◌, ◌<◌, ◌⊎◌, [], Some, None, IfOk, IfErr, IfNone, IfSome, OnOk};
 ghost use Rattle.mbe_tt.specs.Buffers.GroupStack.{GroupStack};
 ghost use Rattle.mbe_tt.specs.Trees.Leaf as leaves;
 ghost use Rattle.mbe_tt.specs.Views.LeafViews as shown;
 ghost use Rattle.mbe_program.specs.Replies.Flat.TokenCodes.{delimiter_of};
 ghost use Rattle.mbe_program.specs.Replies.Flat.TokenCodes as numbers;
 ghost use Rattle.mbe_program.specs.Replies.Flat.Decoder as spec;
+ghost use Rattle.mbe_program.specs.Replies.Flat.TokenFaults as faults;
+ghost use Rattle.mbe_program.specs.declared.replies.flat.decoder.FlatFault.TheVariants as kinds;
 
 use crate::replies::flat::flat_token::{
     CLOSING, FlatToken, IDENT, LITERAL, OPENING, PUNCT, delimiter_of, literal_of, raw_of,
@@ -46,9 +48,8 @@ pub enum FlatFault {
 /// Why flat tokens aren't trees.
 #[derive(Drop)]
 pub enum FlatError {
-    /// A fault of the token at `index`. For `FlatFault::Whole` the index is 0, for
-    /// `FlatFault::Open` it is
-    /// that of the last token.
+    /// A fault of the token at `index`, the first one. For `FlatFault::Whole` the index is 0. For
+    /// `FlatFault::Open` it is the index of the last token.
     Fault { index: usize, fault_kind: FlatFault },
     OutOfMemory,
 }
@@ -92,7 +93,8 @@ impl From<FlatFault> for Refusal {
 
 // Returns the text of a token.
 fn text_of<'a>(text: &'a [u8], token: &FlatToken) -> Result<&'a str, FlatFault>
-    ensures { IfOk result (λ s. spec.HasText text.now token.now s.now) }
+    ensures finds { IfOk result (λ s. spec.HasText text.now token.now s.now) }
+    ensures fails { IfErr result (λ f. faults.HasNoText text.now token.now f) }
 {
     if token.offset > text.len() || token.len > text.len() - token.offset {
         return Err(FlatFault::Range);
@@ -107,7 +109,8 @@ fn text_of<'a>(text: &'a [u8], token: &FlatToken) -> Result<&'a str, FlatFault>
 
 // Returns the number as a byte, if it is below 256.
 fn byte_of(number: u32) -> Result<u8, FlatFault>
-    ensures { IfOk result (λ byte. byte ≡ number) }
+    ensures same { IfOk result (λ byte. byte ≡ number) }
+    ensures fails { IfErr result (λ f. (f ≡ kinds.Count) × (255 < number)) }
 {
     if number > 255 {
         return Err(FlatFault::Count);
@@ -121,7 +124,9 @@ fn ident_of<A: Allocator + Copy>(
     token: &FlatToken,
 ) -> Result<Ident<A>, Refusal>
     requires { token.now.kind ≡ 1 }
-    ensures { IfOk result (λ i. spec.Decodes text.now token.now (leaves.ident (shown.ident_of i))) }
+    ensures says { IfOk result (λ i.
+        spec.Decodes text.now token.now (leaves.ident (shown.ident_of i))) }
+    ensures fails { IfErr result (λ r. faults.IsWrongBy text.now token.now r) }
 {
     let Some(is_raw) = raw_of(token.sort) else {
         return Err(Refusal::FlatFault(FlatFault::Sort));
@@ -136,7 +141,8 @@ fn ident_of<A: Allocator + Copy>(
 
 fn punct_of(text: &[u8], token: &FlatToken) -> Result<Punct, FlatFault>
     requires { token.now.kind ≡ 2 }
-    ensures { IfOk result (λ p. spec.Decodes text.now token.now (leaves.punct p)) }
+    ensures says { IfOk result (λ p. spec.Decodes text.now token.now (leaves.punct p)) }
+    ensures fails { IfErr result (λ f. faults.IsWrong text.now token.now f) }
 {
     let Some(spacing) = spacing_of(token.sort) else {
         return Err(FlatFault::Sort);
@@ -157,8 +163,9 @@ fn literal_from<A: Allocator + Copy>(
     token: &FlatToken,
 ) -> Result<Literal<A>, Refusal>
     requires { token.now.kind ≡ 3 }
-    ensures { IfOk result (λ l. spec.Decodes text.now token.now
+    ensures says { IfOk result (λ l. spec.Decodes text.now token.now
         (leaves.literal (shown.literal_of l))) }
+    ensures fails { IfErr result (λ r. faults.IsWrongBy text.now token.now r) }
 {
     let hashes = byte_of(token.hashes)?;
     let suffix_len = byte_of(token.suffix_len)?;
@@ -181,6 +188,8 @@ fn leaf_from<A: Allocator + Copy>(
 ) -> Result<Leaf<A>, Refusal>
     ensures says { IfOk result (λ l. spec.Decodes text.now token.now (shown.leaf_of l)) }
     ensures known { IfOk result (λ _. (0 < token.now.kind) × (token.now.kind < 4)) }
+    ensures fails { faults.IsNoDelimiter token.now
+        → IfErr result (λ r. faults.IsWrongBy text.now token.now r) }
 {
     match token.kind {
         IDENT => Ok(Leaf::Ident(ident_of(alloc, text, token)?)),
@@ -191,7 +200,8 @@ fn leaf_from<A: Allocator + Copy>(
 }
 
 fn delimiter_from(token: &FlatToken) -> Result<DelimiterKind, FlatFault>
-    ensures { IfOk result (λ kind. delimiter_of token.now.sort ≡ Some kind) }
+    ensures finds { IfOk result (λ kind. delimiter_of token.now.sort ≡ Some kind) }
+    ensures fails { IfErr result (λ f. (f ≡ kinds.Sort) × (delimiter_of token.now.sort ≡ None)) }
 {
     match delimiter_of(token.sort) {
         Some(kind) => Ok(kind),
@@ -201,7 +211,8 @@ fn delimiter_from(token: &FlatToken) -> Result<DelimiterKind, FlatFault>
 
 // Opens a group.
 fn open<A: Allocator>(builder: &mut TopSubtreeBuilder<A>, token: &FlatToken) -> Result<(), Refusal>
-    ensures { OnOk result (spec.Opens token.now builder.old builder.new) }
+    ensures opens { OnOk result (spec.Opens token.now builder.old builder.new) }
+    ensures fails { token.now.kind ≡ 4 → IfErr result (λ r. faults.IsWrongBy [] token.now r) }
 {
     let kind = delimiter_from(token)?;
     builder.open(kind, span_of(token.span))?;
@@ -213,7 +224,9 @@ fn close<A: Allocator>(
     builder: &mut TopSubtreeBuilder<A>,
     token: &FlatToken,
 ) -> Result<(), FlatFault>
-    ensures { OnOk result (spec.Closes token.now builder.old builder.new) }
+    ensures closes { OnOk result (spec.Closes token.now builder.old builder.new) }
+    ensures fails { token.now.kind ≡ 5
+        → IfErr result (λ f. faults.HasFault [] token.now builder.old f) }
 {
     let kind = delimiter_from(token)?;
     match builder.open_kind() {
@@ -234,6 +247,8 @@ fn leaf<A: Allocator + Copy>(
 ) -> Result<(), Refusal>
     ensures adds { OnOk result (spec.AddsLeaf text.now token.now builder.old builder.new) }
     ensures known { OnOk result ((0 < token.now.kind) × (token.now.kind < 4)) }
+    ensures fails { faults.IsNoDelimiter token.now
+        → IfErr result (λ r. faults.IsWrongBy text.now token.now r) }
 {
     builder.push(leaf_from(alloc, text, token)?)?;
     Ok(())
@@ -246,7 +261,8 @@ fn add<A: Allocator + Copy>(
     text: &[u8],
     token: &FlatToken,
 ) -> Result<(), Refusal>
-    ensures { OnOk result (spec.Adds text.now token.now builder.old builder.new) }
+    ensures adds { OnOk result (spec.Adds text.now token.now builder.old builder.new) }
+    ensures fails { IfErr result (λ r. faults.IsRefused text.now token.now builder.old r) }
 {
     match token.kind {
         OPENING => open(builder, token),
@@ -256,7 +272,9 @@ fn add<A: Allocator + Copy>(
 }
 
 // Returns the error for the token at `index`, which wasn't added.
-fn error_at(index: usize, refusal: Refusal) -> FlatError {
+fn error_at(index: usize, refusal: Refusal) -> FlatError
+    ensures { result ≡ faults.error_at index refusal }
+{
     match refusal {
         Refusal::FlatFault(fault_kind) => FlatError::Fault { index, fault_kind },
         Refusal::OutOfMemory => FlatError::OutOfMemory,
@@ -271,11 +289,13 @@ fn add_all<A: Allocator + Copy>(
     text: &[u8],
     tokens: &[FlatToken],
 ) -> Result<(), FlatError>
-    ensures { OnOk result (spec.AddAll text.now tokens.now builder.old builder.new) }
+    ensures adds { OnOk result (spec.AddAll text.now tokens.now builder.old builder.new) }
+    ensures fails { IfErr result (λ e.
+        faults.AreRefusedInside text.now tokens.now builder.old e) }
 {
     for (index, token) in tokens.iter().enumerate() {
         if let Err(refusal) = add(alloc, builder, text, token) {
-            return Err(error_at(index.saturating_add(1), refusal));
+            return Err(error_at(index + 1, refusal));
         }
     }
     Ok(())
@@ -288,6 +308,7 @@ fn outer_delimiter(first: &FlatToken, last: &FlatToken) -> Option<Delimiter>
         × (d.opening ≡ numbers.span_of first.now.span)) }
     ensures closes { IfSome result (λ d. (last.now.kind ≡ 5)
         × (delimiter_of last.now.sort ≡ Some d.kind) × (d.close ≡ numbers.span_of last.now.span)) }
+    ensures fails { IfNone result (faults.AreNoGroup first.now last.now) }
 {
     if first.kind != OPENING || last.kind != CLOSING {
         return None;
@@ -311,13 +332,15 @@ const NOT_ONE_GROUP: FlatError = FlatError::Fault {
 };
 
 /// Decodes flat tokens, whose texts are bytes of `text`. The tokens are one group: its opening,
-/// what is inside, and its closing. The error is the first fault, or that memory ran out.
+/// its content, and its closing. The error is the first fault, or that memory ran out. Tokens
+/// that are one group, and of which each can be added, have no fault.
 pub fn trees_of<A: Allocator + Copy>(
     alloc: A,
     tokens: &[FlatToken],
     text: &[u8],
 ) -> Result<TopSubtree<A>, FlatError>
-    ensures { IfOk result (λ tree. spec.AreTrees text.now tokens.now tree) }
+    ensures reads { IfOk result (λ tree. spec.AreTrees text.now tokens.now tree) }
+    ensures fails { IfErr result (λ e. faults.AreRefused text.now tokens.now e) }
 {
     let Some((first, rest)) = tokens.split_first() else {
         return Err(NOT_ONE_GROUP);
@@ -332,7 +355,7 @@ pub fn trees_of<A: Allocator + Copy>(
     add_all(alloc, &mut builder, text, middle)?;
     if builder.open_kind().is_some() {
         return Err(FlatError::Fault {
-            index: middle.len().saturating_add(1),
+            index: middle.len() + 1,
             fault_kind: FlatFault::Open,
         });
     }

@@ -87,8 +87,11 @@ pub fn span_of(span: FlatSpan) -> Span
     }
 }
 
-/// Returns the number of a literal's kind: 0 `Byte`, 1 `Char`, 2 `Integer`, 3 `Float`, 4 `Str`, 5
-/// `StrRaw`, 6 `ByteStr`, 7 `ByteStrRaw`, 8 `CStr`, 9 `CStrRaw`, 10 `Err`.
+/// Returns the number of a literal's kind.
+///
+/// - 0 `Byte`, 1 `Char`, 2 `Integer`, 3 `Float`;
+/// - 4 `Str`, 5 `StrRaw`, 6 `ByteStr`, 7 `ByteStrRaw`, 8 `CStr`, 9 `CStrRaw`;
+/// - 10 `Err`.
 pub fn literal_sort(kind: LitKind) -> u32
     ensures { result ≡ spec.literal_sort kind }
 {
