@@ -4,7 +4,6 @@ use Rattle.std.specs.Prelude.{Bool, false, List, [], ◌∷◌, ◌++◌, length
 use Rattle.std.specs.Prelude.{IsUtf8}
 use Rattle.std.specs.Char.{IsScalar}
 use Rattle.mbe_tt.specs.Trees.Tree.{none}
-use Rattle.mbe_tt.specs.Trees.Top.{Top}
 use Rattle.mbe_tt.specs.Buffers.GroupStack.{GroupStack, innermost_kind}
 use Rattle.mbe_tt.specs.declared.tt.Delimiter.{Delimiter}
 use Rattle.mbe_tt.specs.declared.tt.DelimiterKind.{DelimiterKind}
@@ -17,7 +16,7 @@ use Rattle.mbe_program.specs.declared.replies.flat.decoder.Refusal.{Refusal}
 use Rattle.mbe_program.specs.declared.replies.flat.decoder.Refusal.TheVariants as refusals
 use Rattle.mbe_program.specs.Replies.Flat.TokenCodes.{span_of, literal_of, delimiter_of, spacing_of}
 use Rattle.mbe_program.specs.Replies.Flat.TokenCodes.{raw_of}
-use Rattle.mbe_program.specs.Replies.Flat.Decoder.{Adds, AddAll, AreTrees}
+use Rattle.mbe_program.specs.Replies.Flat.Decoder.{Adds, AddAll}
 
 -- ---- one token
 
@@ -134,10 +133,3 @@ abbrev pub AreRefusedInside : List ℕ → List FlatToken → GroupStack → Fla
 AreRefusedInside text tokens groups (errors.Fault index f) = (n : ℕ) × (index ≡ suc n)
     × IsFirstFault text tokens groups n f
 AreRefusedInside text tokens groups errors.OutOfMemory = ⊤
-
--- ---- laws
-
--- Tokens that decode to a group have no fault.
-abbrev pub TreesHaveNoFault : Type 0
-TreesHaveNoFault = (text : List ℕ) (tokens : List FlatToken) (tree : Top) (index : ℕ) (f : FlatFault)
-    → AreTrees text tokens tree → ¬ (HasNoTree text tokens index f)
