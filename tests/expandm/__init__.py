@@ -43,7 +43,7 @@ def counted(program, words, files, stdin=""):
     ran = program.run(words, files, stdin)
     again = program.run(["--json", *words], files, stdin)
     reports = objects(again.err)
-    in_lines = re.findall(r"^\S+:\d+:\d+: (error|note): ", ran.err, re.M)
+    in_lines = re.findall(r"^\S+:\d+:\d+: (error|note|help): ", ran.err, re.M)
     is_so = [report["level"] for report in reports] == in_lines and ran.status == int("error" in in_lines)
     is_same = (ran.status, ran.out, ran.files) == (again.status, again.out, again.files)
     return ran, len(reports) if is_so and is_same else (ran, again)

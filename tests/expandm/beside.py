@@ -127,6 +127,13 @@ BLOCKS = (
         "let z = m!() else { return };",
         "let z = (P {}) else { return };",
     ),
+    # An attribute may be on a tail, and not on an expression in parentheses.
+    (
+        "m { () => { #[a] { 3 } } }",
+        "x = { m!().max(2) }; x = 1 + m!(); x = -m!()?;",
+        "x = { {\n    #[a] {\n        3\n    }\n}.max(2) }; x = 1 + {\n    #[a] {\n        3\n    }\n};"
+        " x = -{\n    #[a] {\n        3\n    }\n}?;",
+    ),
     ("m { () => { 'x: { break 'x 3 } } }", "loop { break m!() }", "loop { break ('x: {\n    break 'x 3\n}) }"),
 )
 
@@ -150,6 +157,13 @@ PATTERNS = (
         "m { ($x:ident) => { n!($x) } } macro_rules! n { ($x:ident) => { $x = 3 } }",
         'println!("{:?}", m!(x)); m!(x);',
         'println!("{:?}", (x = 3)); x = 3;',
+    ),
+    # The last `;` of an expansion that is an argument, also as a fragment.
+    ("m { () => { 1; } }", 'println!("{}", m!());', 'println!("{}", 1);'),
+    (
+        "m { () => { 1; } } macro_rules! n { ($e:expr) => { print!(\"{}\", $e); print!(\"{}\", f($e + 2)); print!(\"{}\", { $e }) } }",
+        "n!(m!());",
+        'print!("{}", 1);\nprint!("{}", f(1 + 2));\nprint!("{}", {\n    1\n});',
     ),
     ("m { () => { a == b } }", 'println!("{:?}", m!()); assert!(m!());', 'println!("{:?}", a == b); assert!(a == b);'),
 )

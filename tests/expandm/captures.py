@@ -244,6 +244,78 @@ RENAMED = (
     ),
 )
 
+# Names of templates that mean a local of the file in the text, and not in rustc: a text in two lines, and the notes as above.
+SHADOWED = (
+    (
+        "fn main() { let y = 1; macro_rules! m { () => { y } }\n{ let y = 5; println!(\"{}\", m!()); drop(y) } }",
+        "1:28 the name `y` is the local that is in scope here; 1:6 `y` is bound here; ",
+    ),
+    # An item of the expansion.
+    (
+        'macro_rules! m { () => { fn a() -> i32 { 5 } println!("{}", a()); } }\nfn main() { let a = 20; m!(); println!("{}", a); }',
+        "1:24 the name `a` is the local that is in scope here; 1:16 `a` is bound here; ",
+    ),
+    # An item of the file.
+    (
+        "fn a() -> u8 { 1 } macro_rules! m { () => { a() } }\nfn f(a: fn() -> u8) -> u8 { m!() }",
+        "1:28 the name `a` is the local that is in scope here; 1:5 `a` is bound here; ",
+    ),
+    (
+        "fn a() -> u8 { 1 } macro_rules! m { () => { a() } }\nfn f(b: Option<fn() -> u8>) -> u8 { if let Some(a) = b { m!() } else { m!() } }",
+        "1:57 the name `a` is the local that is in scope here; 1:48 `a` is bound here; ",
+    ),
+    (
+        "fn a() -> u8 { 1 } macro_rules! m { () => { a() } }\nfn f() { g(|a: fn() -> u8| m!()); h(|b: u8, (c, a): (u8, u8)| m!()) }",
+        "1:27 the name `a` is the local that is in scope here; 1:12 `a` is bound here; "
+        "1:62 the name `a` is the local that is in scope here; 1:48 `a` is bound here; ",
+    ),
+    (
+        "fn a() -> u8 { 1 } macro_rules! m { () => { a() } }\nfn f(b: B) { match b { B(a) => m!(), _ => m!() }; for a in b { m!() } m!() }",
+        "1:31 the name `a` is the local that is in scope here; 1:25 `a` is bound here; "
+        "1:63 the name `a` is the local that is in scope here; 1:54 `a` is bound here; ",
+    ),
+    # A local of an earlier call.
+    (
+        "macro_rules! l { () => { let a = 3; drop(a); } } fn a() -> u8 { 1 }\nmacro_rules! m { () => { a() } } fn f() { l!(); m!(); } fn g() { { l!(); } m!(); }",
+        "1:48 the name `a` is the local that is in scope here; 0:29 `a` is bound here; ",
+    ),
+    # The local is in scope where the macro is defined, or isn't in scope at the call.
+    ("fn f(a: u8) { macro_rules! m { () => { a } }\nm!(); { let b = a; m!(); } }", ""),
+    ("fn a() -> u8 { 1 } macro_rules! m { () => { a() } }\nfn f(a: u8) -> u8 { a } fn g() -> u8 { { let a = 1; } m!() }", ""),
+    ("fn a() -> u8 { 1 } macro_rules! m { () => { a() } }\nfn f() { g(|a: u8| a, m!()); let a = m!(); }", ""),
+    # Names that are no values, or that the template binds.
+    ("macro_rules! m { () => { x.a; x.a(); a::b; b::a; a!(); S { a: 1 }; 'a: loop {} } }\nfn f(a: u8) { m!(); }", ""),
+    ("macro_rules! m { () => { #[a] fn b(x: u8) {} macro_rules! c { (a) => { a } } } }\nfn f(a: u8, u8: u8) { m!(); }", ""),
+    ("macro_rules! m { () => { let a = 1; a; g(|a: u8| a); fn h(a: u8) -> u8 { a } } }\nfn f(a: u8) { m!(); }", ""),
+    ("macro_rules! m { ($x:expr) => { $x } }\nfn f(a: u8) { m!(a); }", ""),
+)
+
+# Calls in patterns whose scope has a name that the template binds: as above.
+PATTERN_CALLS = (
+    (
+        "macro_rules! m { () => { a } }\nfn f(a: u8, b: Option<u8>) { if let Some(m!()) = b { a } }",
+        "1:41 `a` keeps its name, since `m!` is in a pattern here that may meet the name; 0:25 `a` is bound here; ",
+    ),
+    (
+        "macro_rules! m { () => { a } }\nfn f((m!(), b): (u8, u8)) { { a } }",
+        "1:6 `a` keeps its name, since `m!` is in a pattern here that may meet the name; 0:25 `a` is bound here; ",
+    ),
+    (
+        "macro_rules! m { () => { S { a, b: c } } }\nfn f() { match x { T(m!()) => (a, b), U(m!()) => c } }",
+        "1:21 `a` keeps its name, since `m!` is in a pattern here that may meet the name; 0:29 `a` is bound here; "
+        "1:40 `c` keeps its name, since `m!` is in a pattern here that may meet the name; 0:35 `c` is bound here; ",
+    ),
+    (
+        "macro_rules! m { () => { a } }\nfn f(b: (u8, u8)) { let (m!(), a) = b; let (m!(), m!()) = b; }",
+        "1:25 `a` keeps its name, since `m!` is in a pattern here that may meet the name; 0:25 `a` is bound here; "
+        "1:44 `a` keeps its name, since `m!` is in a pattern here that may meet the name; 0:25 `a` is bound here; "
+        "1:50 `a` keeps its name, since `m!` is in a pattern here that may meet the name; 0:25 `a` is bound here; ",
+    ),
+    ("macro_rules! m { () => { a } }\nfn f(b: Option<u8>) { if let Some(m!()) = b { aa + b.a_ } a }", ""),
+    ("macro_rules! m { () => { a } }\nfn f(b: Option<u8>) { let Some(b) = m!(); a }", ""),
+    ("macro_rules! m { ($a:ident) => { $a } }\nfn f(b: Option<u8>) { let Some(m!(a)) = b; a }", ""),
+)
+
 # The example of docs/EXPANDM.md: a text, and its expansion.
 EXAMPLES = (
     (
@@ -274,13 +346,21 @@ def noted(text, report):
     return f"{line}:{byte} {report['message'].removeprefix('in the expansion of `m!` ')}"
 
 
+def check_notes(program, table, row, text, want):
+    """A text has these notes, calls nine deep in others too."""
+    ran = program.run(["--depth", "9", "--json", "a.rs"], {"a.rs": text})
+    found = joined(noted(text, report) for report in objects(ran.err))
+    program.check(table, row, (ran.status, found), (0, want))
+
+
 def test(program):
     for row in ROWS:
         rules, call, want = row
-        text = defined(rules, call)
-        ran = program.run(["--depth", "9", "--json", "a.rs"], {"a.rs": text})
-        found = joined(noted(text, report) for report in objects(ran.err))
-        program.check("captures.ROWS", row, (ran.status, found), (0, want))
+        check_notes(program, "captures.ROWS", row, defined(rules, call), want)
+    for row in SHADOWED:
+        check_notes(program, "captures.SHADOWED", row, *row)
+    for row in PATTERN_CALLS:
+        check_notes(program, "captures.PATTERN_CALLS", row, *row)
     check_like(program, "captures.RENAMED", RENAMED)
     for row in EXAMPLES:
         check_becomes(program, "captures.EXAMPLES", row, *row)

@@ -16,6 +16,9 @@ RUNS = (
     "--dialect rustc a.rs",
     "--dialect=rust-analyzer a.rs",
     "--write out a.rs",
+    "--write out --force a.rs",
+    "--root . --root out a.rs",
+    "--max-tokens 0 a.rs",
     "--no-modules a.rs",
     "--origin a.rs",
     "--trace --trace a.rs",
@@ -57,6 +60,9 @@ ERRORS = (
     ("--features", "a value is required for '--features <A,B>' but none was supplied"),
     ("--extern", "a value is required for '--extern <NAME=PATH>' but none was supplied"),
     ("a.rs --depth=-1", "invalid value '-1' for '--depth <N>': -1 is not in 0..=4294967295"),
+    ("--force a.rs", "the following required arguments were not provided: --write <DIR>"),
+    ("--check a.rs", "the following required arguments were not provided: --write <DIR>"),
+    ("a.rs --max-tokens 4294967296", "invalid value '4294967296' for '--max-tokens <N>': 4294967296 is not in 0..=4294967295"),
     ("a.rs --fuel x", f"invalid value 'x' for '--fuel <N>': {NOT_A_NUMBER}"),
     ("a.rs --depth 4294967296", "invalid value '4294967296' for '--depth <N>': 4294967296 is not in 0..=4294967295"),
     ("--once --depth 3 a.rs", "the argument '--once' cannot be used with '--depth <N>'"),
@@ -96,7 +102,7 @@ def test(program):
     helps = {program.run(words).out for words in (["--help"], ["-h"], ["a.rs", "--help"])}
     (text,) = helps if len(helps) == 1 else ("",)
     names = re.findall(r"^  (?:-\w, |    )--([a-z-]+)", text, re.M)
-    program.check("command_line.help", text, ("Usage: " in text, len(names)), (True, 27))
+    program.check("command_line.help", text, ("Usage: " in text, len(names)), (True, 40))
     for words in (["-V"], ["--version"], ["a.rs", "--version"]):
         ran = program.run(words)
         program.check("command_line.version", words, (ran.status, ran.out, ran.err), (0, "expandm 0.1.0\n", ""))

@@ -180,6 +180,7 @@ note: `=` in rule 2 of `pair!`
   |
 1 | macro_rules! pair { ($k:ident => $v:expr) => {}; ($k:ident = $v:expr) => {}; }
   |                                                            ^
+1 error; 1 of 2 calls expanded
 """,
     ),
     (
@@ -191,6 +192,17 @@ error: no rules expected `b` in the call of `m!`
   |
 2 |     x("漢", m!(b));
   |                ^
+note: while trying to match `a` in rule 1 of `m!`
+ --> a.rs:1:19
+  |
+1 | macro_rules! m { (a) => {} }
+  |                   ^
+note: when calling this macro
+ --> a.rs:1:14
+  |
+1 | macro_rules! m { (a) => {} }
+  |              ^
+1 error; 0 of 1 call expanded
 """,
     ),
 )
@@ -203,7 +215,7 @@ NOTES = (
 macro_rules! pair { ($k:ident => $v:expr) => {}; ($k:ident = $v:expr) => {}; }
 fn main() { pair!(a -> 1); pair!(b = 2 + 3); }
 """,
-        "",
+        "1:31 while trying to match `=>` in rule 1 of `pair!`; 1:14 when calling this macro; ",
     ),
     (
         "--explain=2:28 a.rs",
@@ -211,6 +223,7 @@ fn main() { pair!(a -> 1); pair!(b = 2 + 3); }
 macro_rules! pair { ($k:ident => $v:expr) => {}; ($k:ident = $v:expr) => {}; }
 fn main() { pair!(a -> 1); pair!(b = 2 + 3); }
 """,
+        "1:31 while trying to match `=>` in rule 1 of `pair!`; 1:14 when calling this macro; "
         "2:36 rule 1 of `pair!` stops here; expected `=>`; "
         "1:31 `=>` in rule 1 of `pair!`; "
         "2:43 rule 2 of `pair!` matches; "
@@ -262,6 +275,7 @@ note: `:` in rule 1 of `pairs!`
   |
 2 |     ($($key:ident: $value:expr),*) => {
   |                  ^
+1 error; 0 of 1 call expanded
 """
 MENDED_LINE = """\
     let sizes = [(stringify!(width), 2), (stringify!(height), 3)];

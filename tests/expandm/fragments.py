@@ -120,6 +120,11 @@ OPERANDS = (
     ("m { ($p:pat) => { |$p: i32| 3 } }", "x = m!(5 | 6 | _); x = m!(a);", "x = |(5 | 6 | _): i32| 3; x = | a: i32| 3;"),
     ("m { ($p:pat_param) => { match x { &$p => 1, [z @ $p] => 2 } } }", "m!(..);", "match x {\n    & .. => 1, [z @ ..] => 2\n};"),
     ("m { ($t:ty) => { f::<&$t, &mut $t, *const $t, Box<$t>>() } }", "x = m!(dyn A + B);", "x = f::<&(dyn A + B), &mut (dyn A + B), *const (dyn A + B), Box<dyn A + B >>();"),
+    (
+        "m { ($t:ty) => { f::<&'a $t, &'a mut $t, &'static $t>() } }",
+        "x = m!(dyn A + B);",
+        "x = f::<&'a(dyn A + B), &'a mut (dyn A + B), &'static (dyn A + B)>();",
+    ),
     ("m { ($t:ty) => { f::<&$t, *mut $t>() } }", "x = m!(V<u8>);", "x = f::<&V<u8> , *mut V<u8> >();"),
     ("m { ($t:path) => { 3 as $t << 1 } }", "x = m!(i64);", "x = 3 as (i64) << 1;"),
 )

@@ -370,6 +370,13 @@ def linted(program, text, *words):
     return program.run(["--edition", "2021", "--lint", *words, "a.rs"], {"a.rs": text})
 
 
+def last_line(reports):
+    """The line after these reports, which counts the errors and the warnings."""
+    counts = [(len(re.findall(f"^{level}: ", reports, re.M)), level) for level in ("error", "warning")]
+    parts = [f"{count} {level}{'' if count == 1 else 's'}" for count, level in counts if count]
+    return f"{', '.join(parts)}\n" if parts else ""
+
+
 def test(program):
     for row in DEFINITIONS:
         text, want = row
@@ -391,4 +398,4 @@ def test(program):
         ran, again = linted(program, text), linted(program, text, "--json")
         found = "".join(shown(report) for report in objects(again.err))
         got = (ran.status, ran.err, again.status, found)
-        program.check("linted.EXAMPLES", row, got, (1, want, 1, lines))
+        program.check("linted.EXAMPLES", row, got, (1, want + last_line(want), 1, lines))

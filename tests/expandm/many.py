@@ -16,11 +16,12 @@ TEXTS = {
     "unreached": "macro_rules! m {\n" + "(a) => {};\n" * 10_000 + "}\n",
 }
 
-# The name of a text, the arguments, and the number of reports of each level. If no rule matches a call, each rule has a note where it
-# stops, and a note at what it expects. A help follows the warning of an unused variable, as in rustc.
+# The name of a text, the arguments, and the number of reports of each level. If no rule matches a call, two notes are on the closest
+# rule and the definition. With `--explain`, each rule has a note where it stops, and a note at what it expects. A help follows the warning
+# of an unused variable, as in rustc.
 ROWS = (
-    ("calls", "", {"error": MANY}),
-    ("calls", "--json", {"error": MANY}),
+    ("calls", "", {"error": MANY, "note": 2 * MANY}),
+    ("calls", "--json", {"error": MANY, "note": 2 * MANY}),
     ("calls", "--explain", {"error": MANY, "note": 2 * MANY}),
     ("rules", "--explain", {"error": 1, "note": 2 * MANY}),
     ("definitions", "--lint", {"warning": MANY, "help": MANY}),

@@ -169,6 +169,10 @@ def is_read(words, texts, path):
     return path in words or not ("--no-modules" in words or "-" in words or is_left_out)
 
 
+# The file that lists what was written.
+LIST = "out/.expandm"
+
+
 def written(words, path):
     """The path of a file's expansion. A file that the arguments name keeps its last name. Others keep the path from its folder on."""
     return "out/" + (os.path.basename(path) if path in words else path.removeprefix("src/"))
@@ -181,7 +185,7 @@ def check_crate(program, row):
     places = {path: written(words, path) if is_read(words, files.values(), path) else path for path in files}
     stdin = files.pop("-", "")
     ran, found = counted(program, ["--write", "out", *words], {"out/": "", **files}, stdin)
-    made = sorted(path for path in ran.files if path.startswith("out/"))
+    made = sorted(path for path in ran.files if path.startswith("out/") and path != LIST)
     got = (ran.out, "".join(f"{ran.files.get(place)}|" for place in places.values()), made, found)
     wanted = sorted(place for place in places.values() if place.startswith("out/"))
     program.check("modules.ROWS", row, got, ("", want, wanted, count))
@@ -207,7 +211,7 @@ def check_target(program, row):
     texts = {os.path.join(folder, "lib.rs"): f'#[path = "{given}"] mod m;', path: "x = 1;"}
     files = {path.lstrip("/"): text for path, text in texts.items()}
     ran = program.run(["--write", "out", root], {"out/": "", **files})
-    made = sorted(path for path in ran.files if path.startswith("out/"))
+    made = sorted(path for path in ran.files if path.startswith("out/") and path != LIST)
     shown = os.path.join(os.path.dirname(root), given)
     refused = (2, f"error: `{shown}`, of a module, isn't below the folder of `{root}`\n", [])
     taken = (0, "", sorted(["out/lib.rs", f"out/{want}"]))

@@ -163,7 +163,7 @@ const A: [u32; 2] = [::maths::square(3), ::maths::square(4)];""",
         "--extern b=b.rs a.rs",
         "a.rs: x = b::m!(2);|b.rs: #[macro_export] macro_rules! m { () => { 1 } }",
         "x = b::m!(2);",
-        1,
+        3,
     ),
     (
         "--extern b=b.rs --extern c=c.rs a.rs",

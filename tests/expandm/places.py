@@ -37,5 +37,5 @@ def test(program):
         ran = program.run(["a.rs"], {"a.rs": marked})
         shown = shown[: column - 1] + FAULT + shown[column - 1 :]
         caret = " " * (column - 1) + "^"
-        said = f"a.rs:{line}:{column}: error: unknown start of token\n{line:5} | {shown}\n      | {caret}\n"
+        said = f"a.rs:{line}:{column}: error: unknown start of token\n{line:5} | {shown}\n      | {caret}\n1 error\n"
         program.check("places.ROWS", row, (ran.status, ran.out, ran.err), (1, marked, said))

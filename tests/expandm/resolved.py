@@ -5,6 +5,7 @@ from expandm import files_of
 
 HERE = "`{}!` is defined here"
 UNSURE = "cannot tell which macro `{}` is"
+THERE = "in this macro invocation"
 UNFOUND = "cannot find macro `{}` in this scope"
 
 ONE = "macro_rules! m { () => { 1 } }"
@@ -165,7 +166,8 @@ ROWS = (
     # A name in the template of a `macro` item is one at its definition.
     (
         "a.rs", f"a.rs: mod a {{ macro m() {{ 1 }} pub macro n() {{ m!() }} }}\n{TWO} x = a::n!();",
-        f"..{TWO} x = m!();", (("1:41", UNSURE, "m"), ("2:14", HERE, "m"), ("1:15", HERE, "m")),
+        f"..{TWO} x = m!();",
+        (("1:41", UNSURE, "m"), ("2:14", HERE, "m"), ("1:15", HERE, "m"), ("2:36", THERE, "m")),
     ),
     # Out of textual scope.
     ("a.rs", f"a.rs: x = m!();\n{ONE}", f"x = m!();\n{ONE}", (("1:5", UNFOUND, "m"), ("2:14", HERE, "m"))),

@@ -22,7 +22,8 @@ ROW = re.compile(
 )
 SHORT = {"package": "p"}
 CHOICES = {"edition": "EDITIONS", "dialect": "DIALECTS", "target": "TARGETS"}
-WITHOUT_WORDS = "--depth | --fuel | --call | --cfg | --features | --extern | --package | -p | --bin"
+WITHOUT_WORDS = ("--depth | --fuel | --max-tokens | --call | --cfg | --features | --extern | --package | -p | --bin"
+                 " | --example | --bench")
 
 
 class Option(NamedTuple):
@@ -82,7 +83,7 @@ _expandm() {{
     local word=${{COMP_WORDS[COMP_CWORD]}} before=${{COMP_WORDS[COMP_CWORD - 1]}}
     case $before in
 {cases}    --manifest-path) mapfile -t COMPREPLY < <(compgen -f -- "$word"); return ;;
-    --write) mapfile -t COMPREPLY < <(compgen -d -- "$word"); return ;;
+    --write | --root) mapfile -t COMPREPLY < <(compgen -d -- "$word"); return ;;
     {WITHOUT_WORDS}) COMPREPLY=(); return ;;
     esac
     case $word in
@@ -101,7 +102,7 @@ def fish(found):
         given = "" if it.kind in ("Flag", "Optional") else " -r" if it.name == "manifest-path" else " -x"
         if it.choices:
             given += f" -a '{' '.join(it.choices)}'"
-        if it.name == "write":
+        if it.name in ("write", "root"):
             given += " -a '(__fish_complete_directories)'"
         about = it.help.replace("'", "\\'")
         lines += f"complete -c expandm{short} -l {it.name}{given} -d '{about}'\n"
@@ -111,7 +112,7 @@ def fish(found):
 def zsh_value(option):
     if option.kind in ("Flag", "Optional"):
         return ""
-    action = {"write": "_files -/", "extern": "_files", "manifest-path": "_files"}.get(option.name, "")
+    action = {"write": "_files -/", "root": "_files -/", "extern": "_files", "manifest-path": "_files"}.get(option.name, "")
     if option.choices:
         action = f"({' '.join(option.choices)})"
     return f":{option.value.split('[')[0].lower().replace(':', ' ')}:{action}"

@@ -45,15 +45,18 @@ DEPENDENCIES = (
     'num_cpus = "1"',
     'lazy_static = { version = "1", features = ["spin_no_std"] }',
 )
+# The words that name targets, and those of targets that use the dependencies of tests.
+TARGETS = re.compile(r"--(lib|(bin|example|bench) \w+|test(=\w+)?)(?!\S)")
+OF_TESTS = re.compile(r"--(test|example|bench)\b")
 
 
 def rows(folder):
-    """Makes the packages of the rows. Returns the folders, and the options for Cargo of each."""
+    """Makes the packages of the rows. Returns the folders, and the options for `expandm` of each."""
     for number, (words, files, _) in enumerate(packages.ROWS):
         at = f"{folder}/row{number}"
         for path, text in files.items():
             common.write(f"{at}/{path}", text)
-        yield at, re.sub(r"--lib|--plan|--bin \w+", "", words).split()
+        yield at, words.replace("--plan", "").split()
 
 
 def from_debian(folder):
@@ -80,14 +83,17 @@ def by_cargo(folder, words):
         manifest = words[words.index("--manifest-path"):][:2] if "--manifest-path" in words else []
         if run(["cargo", "generate-lockfile", "--offline", *manifest], folder).returncode:
             return None
-    ran = run(["cargo", "tree", "--offline", "-e", "normal,no-proc-macro", "--prefix", "none",
-               "--no-dedupe", "--format", "{p}\t{f}", *words], folder)
+    # `cargo tree` has no words for targets: tests, examples and benchmarks use more dependencies.
+    text = " ".join(words)
+    kinds = "normal,dev,no-proc-macro" if OF_TESTS.search(text) else "normal,no-proc-macro"
+    ran = run(["cargo", "tree", "--offline", "-e", kinds, "--prefix", "none", "--no-dedupe",
+               "--format", "{p}\t{f}", *TARGETS.sub("", text).split()], folder)
     if ran.returncode:
         return None
     found = {}
     for line in ran.stdout.split("\n"):
         if line:
-            package, _, features = line.partition("\t")
+            package, _, features = line.removesuffix(" (*)").partition("\t")
             name, version = package.split()[:2]
             found[name, version[1:]] = sorted(filter(None, features.split(",")))
     return found

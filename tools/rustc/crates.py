@@ -243,7 +243,7 @@ def results(folder, build, left_out=()):
 def expanded(program, folder, after, manifest, options, words):
     """Writes the library's files, as expanded, over themselves; the calls that were, the errors, and what was reported."""
     root = os.path.normpath(manifest.get("lib", {}).get("path", "src/lib.rs"))
-    command = [program, "--edition", manifest["package"].get("edition", "2015"), "--trace", "--fuel", "10000000", *words]
+    command = [program, "--edition", manifest["package"].get("edition", "2015"), "--trace", "--fuel", "10000000", "--max-tokens", "4000000000", *words]
     for option in options:
         command += ["--cfg", option]
     if manifest["features"]:

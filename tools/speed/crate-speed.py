@@ -29,6 +29,8 @@ TIMES = 5
 ENV = {**common.NIGHTLY, "RUSTFLAGS": "--cap-lints allow", "CARGO_INCREMENTAL": "0",
        "CARGO_PROFILE_DEV_DEBUG": "0"}
 MADE_UP = (50, 100, 200, 400, 800)
+# No package reaches these.
+LIMITS = ("--fuel", "10000000", "--max-tokens", "4000000000")
 
 
 def timed(command, folder, env, out):
@@ -66,7 +68,7 @@ def sizes(folder):
 
 def with_expandm(program, folder, manifest, options, work):
     root = os.path.normpath(manifest.get("lib", {}).get("path", "src/lib.rs"))
-    command = [program, "--edition", manifest["package"].get("edition", "2015"), "--fuel", "10000000"]
+    command = [program, "--edition", manifest["package"].get("edition", "2015"), *LIMITS]
     for option in options:
         command += ["--cfg", option]
     if manifest["features"]:
@@ -141,7 +143,7 @@ def main():
         whole(args.program, crates.Registry(args.registry), args.names, work)
         for n in MADE_UP:
             made_up(f"{work}/made", n)
-            command = [args.program, "--fuel", "10000000", "--write", f"{work}/written"]
+            command = [args.program, *LIMITS, "--write", f"{work}/written"]
             command.append(f"{work}/made/lib.rs")
             ours = least(command, work, os.environ, "/dev/null", lambda: emptied(f"{work}/written"))
             print(line(f"{n} files", *sizes(f"{work}/made"), ours, None), flush=True)

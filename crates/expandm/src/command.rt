@@ -8,15 +8,17 @@ ghost use Rattle.expandm.specs.Statuses.{lint_status, status_of};
 
 use crate::command_line::{Invocation, RunOptions, RunOutput, parse_arguments};
 use crate::progress::ProgressLine;
-use mbe_files::file_reader::{MAX_FILES, add_extern_root, add_modules, file_text};
-use mbe_files::file_writer::{safe_targets, write_texts};
-use mbe_files::output_paths::file_name;
-use mbe_files::package::{PackagePlan, edition_notes, plan_package};
+use mbe_files::file_reader::{FileReader, MAX_FILES, file_text};
+use mbe_files::file_writer::{differences, write_texts};
+use mbe_files::output_paths::{file_name, targets};
+use mbe_files::package::{PackagePlan, edition_notes, plan_packages};
+use mbe_files::write_conflicts::{OutputFolder, output_plan};
 use mbe_session::emitter::{MessageFormat, error_text, note_text};
 use mbe_session::file_set::FileSet;
 use mbe_session::linted_files::{LintedFiles, lint};
 use mbe_session::session::{Session, expand_files, write_expansion};
 use mbe_session::session_options::SessionOptions;
+use std::alloc::{AllocError, Global};
 use std::env;
 use std::io::{self, Read};
 use std::rt::{Env, Files};
@@ -45,7 +47,7 @@ pub fn run_command<R: Env + Files + Input + Print + Eprint + AllocGlobal + Clone
     }
 }
 
-// Returns the arguments. Those of `cargo-expandm` are without the word `expandm` that Cargo adds.
+// Returns the arguments. For `cargo-expandm`, the argument `expandm` that Cargo adds is left out.
 fn arguments<R: Env + AllocGlobal>(rt: &R) -> io::Result<Vec<String>> {
     let mut argv: Vec<String> = Vec::new(rt.alloc());
     for (number, argument) in env::args(rt)?.enumerate() {
@@ -69,7 +71,7 @@ fn run<R: Env + Files + Input + Print + Eprint + AllocGlobal + Clone + Drop>(
     let argv = arguments(rt)?;
     match parse_arguments(rt.alloc(), argv.as_slice())? {
         Invocation::Run(options) => {
-            let output = options.output;
+            let output = &options.output;
             let is_explained = options.session.explain.is_some() || output.is_lint;
             let is_colourless = is_colourless(rt);
             let form = choose_format(output.is_json, is_explained, is_terminal, is_colourless);
@@ -166,7 +168,7 @@ fn emit_notes<R: Eprint + AllocGlobal>(
     Ok(())
 }
 
-// Plans the package of the run, and runs the plan.
+// Plans the packages of the run, and runs each plan. Returns the worst status.
 fn run_package<R: Env + Files + Input + Print + Eprint + AllocGlobal + Clone + Drop>(
     rt: &R,
     options: RunOptions<'_>,
@@ -178,18 +180,49 @@ fn run_package<R: Env + Files + Input + Print + Eprint + AllocGlobal + Clone + D
         package,
         output,
     } = options;
-    match plan_package(rt, &session, &package)? {
-        Ok(plan) => run_plan(rt, &plan, session, output, form, progress),
-        Err(message) => fail(rt, form, message.as_str()),
+    let plans = match plan_packages(rt, &session, &package)? {
+        Ok(plans) => plans,
+        Err(message) => return fail(rt, form, message.as_str()),
+    };
+    if output.is_release {
+        let text = note_text(
+            rt.alloc(),
+            form,
+            "with `--release`, `debug_assertions` stays set",
+        )?;
+        eprint!(rt; "{text}")?;
     }
+    let mut worst = EXIT_OK;
+    for (number, plan) in plans.iter().enumerate() {
+        if plans.len() > 1 && output.folder.is_none() {
+            print_heading(rt, plan, number)?;
+        }
+        let status = run_plan(rt, plan, &session, &output, form, progress)?;
+        worst = worst.max(status);
+    }
+    Ok(worst)
+}
+
+// Prints the root file of one plan of several, in a comment, with an empty line before all but the
+// first.
+fn print_heading<R: Print + AllocGlobal>(
+    rt: &R,
+    plan: &PackagePlan,
+    number: usize,
+) -> io::Result<()> {
+    if number > 0 {
+        println!(rt; "")?;
+    }
+    let root = plan.root();
+    println!(rt; "// {root}")
 }
 
 // Expands the crate of a planned package, or prints the plan.
 fn run_plan<'w, R: Files + Input + Print + Eprint + AllocGlobal>(
     rt: &R,
     plan: &'w PackagePlan,
-    options: SessionOptions<'w>,
-    output: RunOutput<'_>,
+    given: &SessionOptions<'w>,
+    output: &RunOutput<'_>,
     form: Option<MessageFormat>,
     progress: ProgressLine,
 ) -> io::Result<u8> {
@@ -199,12 +232,25 @@ fn run_plan<'w, R: Files + Input + Print + Eprint + AllocGlobal>(
         print!(rt; "{text}")?;
         return Ok(EXIT_OK);
     }
-    let Some((options, notes)) = plan.set(rt.alloc(), options)? else {
+    let Some((options, notes)) = plan.options(rt.alloc(), given)? else {
         return fail(rt, form, "the edition of the package isn't known");
     };
     emit_notes(rt, form, &plan.notes)?;
     emit_notes(rt, form, &notes)?;
-    run_files(rt, &options, output, form, progress)
+    let Some(folder) = &output.folder else {
+        return run_files(rt, &options, output, form, progress);
+    };
+    let path = joined(rt.alloc(), folder.path, plan.root_folder())?;
+    let output = output.with_folder(rt.alloc(), path.as_str(), folder.is_forced)?;
+    run_files(rt, &options, &output, form, progress)
+}
+
+// Returns the path of a folder in a folder.
+fn joined(alloc: Global, folder: &str, inner: &str) -> Result<String, AllocError> {
+    if folder.is_empty() || inner.is_empty() {
+        return String::from_str(alloc, folder);
+    }
+    format!(in alloc; "{folder}/{inner}")
 }
 
 // Reads the file of that name, or standard input for `-`. A text of 2^32 bytes or more is an error.
@@ -223,11 +269,11 @@ fn read_input<R: Files + Input + AllocGlobal>(rt: &R, name: &str) -> io::Result<
 fn read_roots<R: Files + Input + AllocGlobal>(
     rt: &R,
     options: &SessionOptions<'_>,
-    files: &mut FileSet,
+    reader: &mut FileReader,
 ) -> io::Result<Option<String>> {
     for name in &options.names {
         match read_input(rt, *name) {
-            Ok(text) => files.add_root(rt.alloc(), options, *name, text)?,
+            Ok(text) => reader.add_root(rt, options, *name, text)?,
             Err(error) => {
                 return Ok(Some(format!(in rt.alloc(); "couldn't read `{name}`: {error}")?));
             }
@@ -240,10 +286,10 @@ fn read_roots<R: Files + Input + AllocGlobal>(
 fn read_externs<R: Files + AllocGlobal>(
     rt: &R,
     options: &SessionOptions<'_>,
-    files: &mut FileSet,
+    reader: &mut FileReader,
 ) -> io::Result<Option<String>> {
     for one in &options.externs {
-        if let Err(error) = add_extern_root(rt, files, options, one.path) {
+        if let Err(error) = reader.add_extern_root(rt, options, one.path) {
             let (name, path) = (one.name, one.path);
             return Ok(Some(format!(in rt.alloc();
                 "couldn't read `{path}` for `{name}`: {error}"
@@ -258,16 +304,27 @@ fn read_modules<R: Files + Eprint + AllocGlobal>(
     rt: &R,
     options: &SessionOptions<'_>,
     progress: ProgressLine,
-    files: &mut FileSet,
+    reader: &mut FileReader,
 ) -> io::Result<()> {
     for number in 0..MAX_FILES {
-        if number >= files.texts.len() {
+        if number >= reader.files.texts.len() {
             break;
         }
-        add_modules(rt, files, options, number)?;
-        progress.show(rt, "files read", files.texts.len())?;
+        reader.add_modules(rt, options, number)?;
+        progress.show(rt, "files read", reader.files.texts.len())?;
     }
     progress.clear(rt)
+}
+
+// Returns a note if there are files that weren't searched for modules.
+fn limit_notes(alloc: Global, files: &FileSet) -> Result<Vec<String>, AllocError> {
+    let mut notes = Vec::new(alloc);
+    if files.texts.len() > MAX_FILES {
+        notes.push(format!(in alloc;
+            "modules are looked for only in the first {MAX_FILES} files"
+        )?)?;
+    }
+    Ok(notes)
 }
 
 // Reads the files that the arguments name, the roots of external crates, which a run with `--lint`
@@ -275,16 +332,16 @@ fn read_modules<R: Files + Eprint + AllocGlobal>(
 fn read_files<R: Files + Input + Eprint + AllocGlobal>(
     rt: &R,
     options: &SessionOptions<'_>,
-    output: RunOutput<'_>,
+    output: &RunOutput<'_>,
     progress: ProgressLine,
-    files: &mut FileSet,
+    reader: &mut FileReader,
 ) -> io::Result<Option<String>> {
-    let mut message = read_roots(rt, options, files)?;
+    let mut message = read_roots(rt, options, reader)?;
     if message.is_none() && !output.is_lint {
-        message = read_externs(rt, options, files)?;
+        message = read_externs(rt, options, reader)?;
     }
     if message.is_none() {
-        read_modules(rt, options, progress, files)?;
+        read_modules(rt, options, progress, reader)?;
     }
     Ok(message)
 }
@@ -293,26 +350,34 @@ fn read_files<R: Files + Input + Eprint + AllocGlobal>(
 fn run_files<R: Files + Input + Print + Eprint + AllocGlobal>(
     rt: &R,
     options: &SessionOptions<'_>,
-    output: RunOutput<'_>,
+    output: &RunOutput<'_>,
     form: Option<MessageFormat>,
     progress: ProgressLine,
 ) -> io::Result<u8> {
-    let mut files = FileSet::new(rt.alloc());
-    if let Some(message) = read_files(rt, options, output, progress, &mut files)? {
+    let mut reader = match FileReader::new(rt, &output.roots)? {
+        Ok(reader) => reader,
+        Err(message) => return fail(rt, form, message.as_str()),
+    };
+    if let Some(message) = read_files(rt, options, output, progress, &mut reader)? {
         return fail(rt, form, message.as_str());
     }
-    let notes = edition_notes(rt.alloc(), options, &files)?;
+    emit_notes(rt, form, &reader.notes)?;
+    let files = &reader.files;
+    let notes = edition_notes(rt.alloc(), options, files)?;
+    emit_notes(rt, form, &notes)?;
+    let notes = limit_notes(rt.alloc(), &files)?;
     emit_notes(rt, form, &notes)?;
     if output.is_lint {
-        return lint_files(rt, options, form, &files);
+        return lint_files(rt, options, form, files);
     }
     match output.folder {
-        None => print_file(rt, options, form, &files),
-        Some(folder) => write_files(rt, options, form, progress, &files, folder),
+        None => print_file(rt, options, form, files),
+        Some(folder) if output.is_check => check_files(rt, options, form, files, folder.path),
+        Some(folder) => write_files(rt, options, form, progress, files, folder),
     }
 }
 
-// Writes the notes of a session, and returns the exit status. `is_written` says whether the run
+// Writes the notes of a session and the line that ends a run, and returns the exit status. `is_written` says whether the run
 // wrote all of its output.
 fn finish<R: Eprint + AllocGlobal>(
     rt: &R,
@@ -321,11 +386,13 @@ fn finish<R: Eprint + AllocGlobal>(
     is_written: bool,
 ) -> io::Result<u8> {
     let text = session.notes_text(rt.alloc(), form)?;
-    eprint!(rt; "{text}")?;
+    let summary = session.summary_text(rt.alloc(), form)?;
+    eprint!(rt; "{text}{summary}")?;
     Ok(exit_status(session, is_written))
 }
 
-// Writes the lints of the files' definitions, and returns the exit status.
+// Writes the lints of the files' definitions and the line that ends a run, and returns the exit
+// status.
 fn lint_files<R: Eprint + AllocGlobal>(
     rt: &R,
     options: &SessionOptions<'_>,
@@ -334,7 +401,8 @@ fn lint_files<R: Eprint + AllocGlobal>(
 ) -> io::Result<u8> {
     let linted = lint(rt.alloc(), options, files.texts.as_slice())?;
     let text = linted.notes_text(rt.alloc(), form)?;
-    eprint!(rt; "{text}")?;
+    let summary = linted.summary_text(rt.alloc(), form)?;
+    eprint!(rt; "{text}{summary}")?;
     Ok(lint_exit_status(&linted))
 }
 
@@ -359,21 +427,52 @@ fn write_files<R: Files + Eprint + AllocGlobal>(
     form: Option<MessageFormat>,
     progress: ProgressLine,
     files: &FileSet,
-    folder: &str,
+    folder: OutputFolder<'_>,
 ) -> io::Result<u8> {
-    let targets = match safe_targets(rt, files, folder, options.names.len())? {
-        Ok(targets) => targets,
+    let plan = match output_plan(rt, files, folder, options.names.len())? {
+        Ok(plan) => plan,
         Err(message) => return fail(rt, form, message.as_str()),
     };
     progress.show(rt, "files to expand", files.texts.len())?;
     let texts = files.texts.as_slice();
     let (session, written) = expand_files(rt.alloc(), options, &files.roots, texts)?;
     progress.clear(rt)?;
-    match write_texts(rt, folder, targets.as_slice(), written.as_slice())? {
+    match write_texts(rt, folder.path, &plan, written.as_slice())? {
         Some(message) => {
             fail(rt, form, message.as_str())?;
             finish(rt, form, &session, false)
         }
         None => finish(rt, form, &session, true),
+    }
+}
+
+// Compares the expansion of each file with the file in the folder, and writes no file. The status
+// is that of a call with an error if a file differs.
+fn check_files<R: Files + Eprint + AllocGlobal>(
+    rt: &R,
+    options: &SessionOptions<'_>,
+    form: Option<MessageFormat>,
+    files: &FileSet,
+    folder: &str,
+) -> io::Result<u8> {
+    if folder.is_empty() {
+        return fail(rt, form, "the folder after `--write` is empty");
+    }
+    let targets = match targets(rt.alloc(), files, folder, options.names.len())? {
+        Ok(targets) => targets,
+        Err(message) => return fail(rt, form, message.as_str()),
+    };
+    let texts = files.texts.as_slice();
+    let (session, written) = expand_files(rt.alloc(), options, &files.roots, texts)?;
+    let status = finish(rt, form, &session, true)?;
+    match differences(rt, folder, targets.as_slice(), written.as_slice())? {
+        Err(message) => fail(rt, form, message.as_str()),
+        Ok(messages) if messages.is_empty() => Ok(status),
+        Ok(messages) => {
+            for message in &messages {
+                fail(rt, form, message.as_str())?;
+            }
+            Ok(EXIT_ERRORS)
+        }
     }
 }

@@ -6,7 +6,10 @@
 use clap::builder::ValueRange;
 use clap::error::ErrorKind;
 use clap::{Arg, ArgAction, ArgMatches, Command, Error, value_parser};
+use mbe_cargo::planner::PackageChoice;
+use mbe_cargo::targets::{TargetChoice, TargetKind};
 use mbe_files::package::PackageOptions;
+use mbe_files::write_conflicts::OutputFolder;
 use mbe_session::locations::CallPosition;
 use mbe_session::session_options::{
     SessionOptions, dialect, edition, parse_cfg, parse_extern, target,
@@ -24,6 +27,7 @@ const FILES: &str = "FILE.rs";
 
 static EDITIONS: [&str; 4] = ["2015", "2018", "2021", "2024"];
 
+// The values of `--target`, the default first.
 static TARGETS: [&str; 5] = [
     "x86_64-unknown-linux-gnu",
     "x86_64-pc-windows-msvc",
@@ -35,7 +39,7 @@ static TARGETS: [&str; 5] = [
 // The values of `--dialect`.
 static DIALECTS: [&str; 2] = ["rust-analyzer", "rustc"];
 
-// What an option takes. The texts are the names of values in the help.
+// The kind of value that an option takes. The texts are the names of values in the help.
 #[derive(Drop)]
 enum OptionValue {
     Flag,
@@ -60,17 +64,26 @@ struct OptionRow {
 }
 
 // The options that a run with files doesn't take.
-static PACKAGE_OPTIONS: [&str; 7] = [
+static PACKAGE_OPTIONS: [&str; 16] = [
     "manifest-path",
     "package",
+    "workspace",
     "lib",
     "bin",
+    "bins",
+    "example",
+    "examples",
+    "tests",
+    "bench",
+    "benches",
+    "all-targets",
     "all-features",
     "no-default-features",
+    "release",
     "plan",
 ];
 
-static OPTIONS: [OptionRow; 25] = [
+static OPTIONS: [OptionRow; 38] = [
     OptionRow {
         name: "manifest-path",
         value: OptionValue::Text("PATH"),
@@ -82,14 +95,54 @@ static OPTIONS: [OptionRow; 25] = [
         help: "Expand this package of the workspace",
     },
     OptionRow {
+        name: "workspace",
+        value: OptionValue::Flag,
+        help: "Expand all packages of the workspace",
+    },
+    OptionRow {
         name: "lib",
         value: OptionValue::Flag,
         help: "Expand the package's library",
     },
     OptionRow {
         name: "bin",
-        value: OptionValue::Text("NAME"),
+        value: OptionValue::List("NAME"),
         help: "Expand this program of the package",
+    },
+    OptionRow {
+        name: "bins",
+        value: OptionValue::Flag,
+        help: "Expand all programs",
+    },
+    OptionRow {
+        name: "example",
+        value: OptionValue::List("NAME"),
+        help: "Expand this example",
+    },
+    OptionRow {
+        name: "examples",
+        value: OptionValue::Flag,
+        help: "Expand all examples",
+    },
+    OptionRow {
+        name: "tests",
+        value: OptionValue::Flag,
+        help: "Expand all integration tests",
+    },
+    OptionRow {
+        name: "bench",
+        value: OptionValue::List("NAME"),
+        help: "Expand this benchmark",
+    },
+    OptionRow {
+        name: "benches",
+        value: OptionValue::Flag,
+        help: "Expand all benchmarks",
+    },
+    OptionRow {
+        name: "all-targets",
+        value: OptionValue::Flag,
+        help: "Expand the library, and all programs, examples, tests and benchmarks",
     },
     OptionRow {
         name: "all-features",
@@ -100,6 +153,11 @@ static OPTIONS: [OptionRow; 25] = [
         name: "no-default-features",
         value: OptionValue::Flag,
         help: "Don't enable the feature `default` of the package",
+    },
+    OptionRow {
+        name: "release",
+        value: OptionValue::Flag,
+        help: "Accepted as by Cargo; `debug_assertions` stays set",
     },
     OptionRow {
         name: "plan",
@@ -122,6 +180,11 @@ static OPTIONS: [OptionRow; 25] = [
         help: "Limit the number of calls (100000)",
     },
     OptionRow {
+        name: "max-tokens",
+        value: OptionValue::Number("N"),
+        help: "Limit the number of tokens that expansions write (10000000)",
+    },
+    OptionRow {
         name: "call",
         value: OptionValue::Text("LINE[:COL]"),
         help: "Print only the expansion of the call there",
@@ -132,6 +195,11 @@ static OPTIONS: [OptionRow; 25] = [
         help: "Read no files of modules (`mod name;`)",
     },
     OptionRow {
+        name: "root",
+        value: OptionValue::List("DIR"),
+        help: "Read files of modules only below this folder",
+    },
+    OptionRow {
         name: "extern",
         value: OptionValue::List("NAME=PATH"),
         help: "Expand the macros of an external crate too",
@@ -140,6 +208,16 @@ static OPTIONS: [OptionRow; 25] = [
         name: "write",
         value: OptionValue::Text("DIR"),
         help: "Write each file into a folder",
+    },
+    OptionRow {
+        name: "force",
+        value: OptionValue::Flag,
+        help: "Let --write overwrite files that it didn't write before",
+    },
+    OptionRow {
+        name: "check",
+        value: OptionValue::Flag,
+        help: "Compare the files with those of --write, and write nothing",
     },
     OptionRow {
         name: "edition",
@@ -168,8 +246,8 @@ static OPTIONS: [OptionRow; 25] = [
     },
     OptionRow {
         name: "test",
-        value: OptionValue::Flag,
-        help: "Set `test` for `cfg`",
+        value: OptionValue::Optional("NAME"),
+        help: "Set `test` for `cfg`; or expand this integration test",
     },
     OptionRow {
         name: "trace",
@@ -207,20 +285,46 @@ pub struct RunOptions<'w> {
     pub output: RunOutput<'w>,
 }
 
-/// What a run writes.
-#[derive(Clone, Copy, Drop)]
+/// Which files a run reads for modules, and what it writes.
+#[derive(Drop)]
 pub struct RunOutput<'w> {
     /// Whether the plan of the package is printed, and nothing is expanded.
     pub is_plan: bool,
+    /// Whether the package is compiled for release.
+    pub is_release: bool,
     /// Whether definitions are linted, and no call is expanded.
     pub is_lint: bool,
     /// Whether diagnostics are written in JSON.
     pub is_json: bool,
     /// The folder that each file is written into. `None` prints the last file.
-    pub folder: Option<&'w str>,
+    pub folder: Option<OutputFolder<'w>>,
+    /// Whether the files are compared with those in the folder, and nothing is written.
+    pub is_check: bool,
+    /// The folders that files of modules are read from; any if there is none.
+    pub roots: Vec<&'w str>,
 }
 
-/// What the command line asks for.
+impl RunOutput<'_> {
+    /// Returns the same output into another folder.
+    pub fn with_folder<'v>(
+        &'v self,
+        alloc: Global,
+        path: &'v str,
+        is_forced: bool,
+    ) -> Result<RunOutput<'v>, AllocError> {
+        let mut roots = Vec::new(alloc);
+        for folder in &self.roots {
+            roots.push(*folder)?;
+        }
+        Ok(RunOutput {
+            folder: Some(OutputFolder { path, is_forced }),
+            roots,
+            ..*self
+        })
+    }
+}
+
+/// The request that the command line makes.
 #[derive(Drop)]
 pub enum Invocation<'w> {
     Run(RunOptions<'w>),
@@ -277,8 +381,8 @@ fn command<'w>(alloc: Global) -> Result<Command<'w>, AllocError> {
         let argument = argument_of(alloc, row)?;
         command = command.arg(match row.name {
             "once" => argument.conflicts_with("depth")?,
-            "lib" => argument.conflicts_with("bin")?,
-            "package" => argument.short('p'),
+            "force" | "check" => argument.requires_arg("write")?,
+            "package" => argument.short('p').conflicts_with("workspace")?,
             _ => argument,
         })?;
     }
@@ -335,7 +439,7 @@ fn invalid(
 // Returns the options of the session that clap has checked, and the defaults of the others.
 fn session_options<'w>(alloc: Global, matches: &ArgMatches<'w>) -> SessionOptions<'w> {
     let mut options = SessionOptions::new(alloc);
-    options.is_test = matches.get_flag("test");
+    options.is_test = matches.contains_id("test") && matches.get_str("test").is_none();
     options.is_traced = matches.get_flag("trace");
     options.is_origin_noted = matches.get_flag("origin");
     options.with_modules = !matches.get_flag("no-modules");
@@ -345,6 +449,9 @@ fn session_options<'w>(alloc: Global, matches: &ArgMatches<'w>) -> SessionOption
     }
     if let Some(fuel) = matches.get_one::<u32>("fuel") {
         options.fuel = fuel;
+    }
+    if let Some(tokens) = matches.get_one::<u32>("max-tokens") {
+        options.max_tokens = tokens;
     }
     if let Some(edition) = matches.get_str("edition").and_then(edition) {
         options.edition = edition;
@@ -358,35 +465,118 @@ fn session_options<'w>(alloc: Global, matches: &ArgMatches<'w>) -> SessionOption
     options
 }
 
-// Returns the options of the package.
-fn package_options<'w>(matches: &ArgMatches<'w>) -> PackageOptions<'w> {
-    PackageOptions {
-        manifest: matches.get_str("manifest-path"),
-        name: matches.get_str("package"),
-        is_lib: matches.get_flag("lib"),
-        program: matches.get_str("bin"),
-        all_features: matches.get_flag("all-features"),
-        no_default_features: matches.get_flag("no-default-features"),
-        triple: matches
-            .get_str("target")
-            .unwrap_or("x86_64-unknown-linux-gnu"),
+// Adds the targets of a kind that options name: all, and those with a name.
+fn add_targets<'w>(
+    matches: &ArgMatches<'w>,
+    kind: TargetKind,
+    all: &str,
+    one: &str,
+    targets: &mut Vec<TargetChoice<'w>>,
+) -> Result<(), AllocError> {
+    if matches.get_flag(all) || matches.get_flag("all-targets") {
+        targets.push(TargetChoice::All(kind))?;
+    }
+    if let Some(names) = matches.get_strs(one) {
+        for name in names {
+            targets.push(TargetChoice::Named(kind, *name))?;
+        }
+    }
+    Ok(())
+}
+
+// Returns the targets that are asked for.
+fn target_choices<'w>(
+    alloc: Global,
+    matches: &ArgMatches<'w>,
+) -> Result<Vec<TargetChoice<'w>>, AllocError> {
+    let mut targets = Vec::new(alloc);
+    let is_all = matches.get_flag("all-targets");
+    if matches.get_flag("lib") || is_all {
+        targets.push(TargetChoice::All(TargetKind::Library))?;
+    }
+    add_targets(matches, TargetKind::Program, "bins", "bin", &mut targets)?;
+    add_targets(
+        matches,
+        TargetKind::Example,
+        "examples",
+        "example",
+        &mut targets,
+    )?;
+    if matches.get_flag("tests") || is_all {
+        targets.push(TargetChoice::All(TargetKind::Test))?;
+    }
+    if let Some(name) = matches.get_str("test") {
+        targets.push(TargetChoice::Named(TargetKind::Test, name))?;
+    }
+    add_targets(matches, TargetKind::Bench, "benches", "bench", &mut targets)?;
+    if targets.is_empty() && matches.get_flag("workspace") {
+        targets.push(TargetChoice::All(TargetKind::Library))?;
+        targets.push(TargetChoice::All(TargetKind::Program))?;
+    }
+    Ok(targets)
+}
+
+fn package_choice<'w>(matches: &ArgMatches<'w>) -> PackageChoice<'w> {
+    match matches.get_str("package") {
+        Some(name) => PackageChoice::Named(name),
+        None if matches.get_flag("workspace") => PackageChoice::Workspace,
+        None => PackageChoice::Own,
     }
 }
 
-// Returns what is written.
-fn run_output<'w>(matches: &ArgMatches<'w>) -> RunOutput<'w> {
-    RunOutput {
+// Returns the options of the package.
+fn package_options<'w>(
+    alloc: Global,
+    matches: &ArgMatches<'w>,
+) -> Result<PackageOptions<'w>, AllocError> {
+    Ok(PackageOptions {
+        manifest: matches.get_str("manifest-path"),
+        packages: package_choice(matches),
+        targets: target_choices(alloc, matches)?,
+        is_library_needed: matches.get_flag("lib") && !matches.get_flag("workspace"),
+        all_features: matches.get_flag("all-features"),
+        no_default_features: matches.get_flag("no-default-features"),
+        triple: matches.get_str("target"),
+        triples: TARGETS.as_slice(),
+    })
+}
+
+// Returns which files are read for modules, and what is written.
+fn run_output<'w>(alloc: Global, matches: &ArgMatches<'w>) -> Result<RunOutput<'w>, AllocError> {
+    let mut roots = Vec::new(alloc);
+    if let Some(folders) = matches.get_strs("root") {
+        for folder in folders {
+            roots.push(*folder)?;
+        }
+    }
+    Ok(RunOutput {
         is_plan: matches.get_flag("plan"),
+        is_release: matches.get_flag("release"),
         is_lint: matches.get_flag("lint"),
         is_json: matches.get_flag("json"),
-        folder: matches.get_str("write"),
-    }
+        folder: matches.get_str("write").map(|path| OutputFolder {
+            path,
+            is_forced: matches.get_flag("force"),
+        }),
+        is_check: matches.get_flag("check"),
+        roots,
+    })
 }
 
 // Whether an option is given.
 fn is_given(matches: &ArgMatches<'_>, name: &str) -> bool {
     match name {
-        "lib" | "all-features" | "no-default-features" | "plan" => matches.get_flag(name),
+        "lib"
+        | "workspace"
+        | "bins"
+        | "examples"
+        | "tests"
+        | "benches"
+        | "all-targets"
+        | "all-features"
+        | "no-default-features"
+        | "release"
+        | "plan" => matches.get_flag(name),
         _ => matches.contains_id(name),
     }
 }
@@ -412,6 +602,12 @@ fn misplaced(
                 "error: '--{name}' is for a package, and a file is named"
             )?));
         }
+    }
+    if matches.get_str("test").is_some() {
+        return Ok(Some(String::from_str(
+            alloc,
+            "error: '--test=<NAME>' is for a package, and a file is named",
+        )?));
     }
     Ok(None)
 }
@@ -539,8 +735,8 @@ fn checked_invocation<'w>(
     }
     Ok(Invocation::Run(RunOptions {
         session: options,
-        package: package_options(matches),
-        output: run_output(matches),
+        package: package_options(alloc, matches)?,
+        output: run_output(alloc, matches)?,
     }))
 }
 

@@ -12,7 +12,7 @@ pub struct ProgressLine {
 impl ProgressLine {
     /// Progress is shown if `--write` is given, standard error is a terminal, and diagnostics are
     /// not in JSON. Nothing else is then on the line.
-    pub fn new(output: RunOutput<'_>, is_terminal: bool) -> ProgressLine {
+    pub fn new(output: &RunOutput<'_>, is_terminal: bool) -> ProgressLine {
         ProgressLine {
             is_shown: is_terminal && output.folder.is_some() && !output.is_json,
         }

@@ -8,7 +8,7 @@ pub struct Cfg<'c> {
     pub value: Option<&'c str>,
 }
 
-#[derive(Clone, Copy, PartialEq, Eq, Drop)]
+#[derive(Drop)]
 enum Token<'t> {
     Open,
     Close,
@@ -18,7 +18,7 @@ enum Token<'t> {
     Text(&'t str),
 }
 
-#[derive(Clone, Copy, PartialEq, Eq, Drop)]
+#[derive(Drop)]
 enum Kind {
     All,
     Any,
@@ -26,7 +26,7 @@ enum Kind {
 }
 
 // A list of conditions that is open: its kind, and the value so far. For `not` that is `any`.
-#[derive(Clone, Copy, Drop)]
+#[derive(Drop)]
 struct Level {
     kind: Kind,
     value: bool,
@@ -38,18 +38,19 @@ fn is_word(c: char) -> bool {
 
 // Returns the first token of a text and the text after it.
 fn next_token(text: &str) -> Option<(Token<'_>, &str)> {
-    if let Some(rest) = text.strip_prefix('(') {
-        return Some((Token::Open, rest));
-    }
-    if let Some(rest) = text.strip_prefix(')') {
-        return Some((Token::Close, rest));
-    }
-    if let Some(rest) = text.strip_prefix(',') {
-        return Some((Token::Comma, rest));
-    }
-    if let Some(rest) = text.strip_prefix('=') {
-        return Some((Token::Equals, rest));
-    }
+    let first = text.chars().next()?;
+    let token = match first {
+        '(' => Token::Open,
+        ')' => Token::Close,
+        ',' => Token::Comma,
+        '=' => Token::Equals,
+        _ => return next_text(text),
+    };
+    Some((token, text.strip_prefix(first)?))
+}
+
+// Returns the text in quotes or the word that a text begins with, and the text after it.
+fn next_text(text: &str) -> Option<(Token<'_>, &str)> {
     if let Some(rest) = text.strip_prefix('"') {
         let (value, rest) = rest.split_once('"')?;
         return Some((Token::Text(value), rest));
@@ -62,21 +63,20 @@ fn next_token(text: &str) -> Option<(Token<'_>, &str)> {
     Some((Token::Word(word), rest))
 }
 
-// Returns the tokens of a text; `None` if some part is no token.
-fn tokens<'t>(alloc: Global, text: &'t str) -> Result<Option<Vec<Token<'t>>>, AllocError> {
-    let mut found = Vec::new(alloc);
+// Adds the tokens of a text. Returns whether each part of it is a token.
+fn add_tokens<'t>(text: &'t str, found: &mut Vec<Token<'t>>) -> Result<bool, AllocError> {
     let mut rest = text.trim_start();
     for _ in 0..text.len() {
         if rest.is_empty() {
             break;
         }
         let Some((token, after)) = next_token(rest) else {
-            return Ok(None);
+            return Ok(false);
         };
         found.push(token)?;
         rest = after.trim_start();
     }
-    Ok(Some(found))
+    Ok(true)
 }
 
 fn kind_of(name: &str) -> Option<Kind> {
@@ -89,8 +89,12 @@ fn kind_of(name: &str) -> Option<Kind> {
 }
 
 fn is_set(cfgs: &[Cfg<'_>], name: &str, value: Option<&str>) -> bool {
-    cfgs.iter()
-        .any(|cfg| cfg.name == name && cfg.value == value)
+    for cfg in cfgs {
+        if cfg.name == name && cfg.value == value {
+            return true;
+        }
+    }
+    false
 }
 
 // Adds a condition to the innermost open list.
@@ -103,7 +107,7 @@ fn combine(levels: &mut Vec<Level>, value: bool) {
     }
 }
 
-// Closes the innermost open list. Returns its value.
+// Closes the innermost open list, and returns its value.
 fn close(levels: &mut Vec<Level>) -> Option<bool> {
     let level = levels.pop()?;
     Some(match level.kind {
@@ -112,8 +116,7 @@ fn close(levels: &mut Vec<Level>) -> Option<bool> {
     })
 }
 
-// Returns the value of a word that begins a condition, and how many tokens it takes; `None` for the
-// name of a list.
+// Returns whether the option at `at` is set: a name, or a name and a value.
 fn option_value(tokens: &[Token<'_>], at: usize, cfgs: &[Cfg<'_>], name: &str) -> bool {
     match (
         tokens.get(at.saturating_add(1)),
@@ -124,58 +127,78 @@ fn option_value(tokens: &[Token<'_>], at: usize, cfgs: &[Cfg<'_>], name: &str) -
     }
 }
 
-// Evaluates the word at `at`: it opens a list, or it is an option.
+// Evaluates the word at `at`: it opens a list, or it is an option. Returns whether it may be there.
 fn take_word(
-    alloc: Global,
     tokens: &[Token<'_>],
     at: usize,
     cfgs: &[Cfg<'_>],
     name: &str,
     levels: &mut Vec<Level>,
 ) -> Result<bool, AllocError> {
-    let _ = alloc;
-    if tokens.get(at.saturating_add(1)) != Some(&Token::Open) {
+    if !matches!(tokens.get(at.saturating_add(1)), Some(Token::Open)) {
         combine(levels, option_value(tokens, at, cfgs, name));
         return Ok(true);
     }
     let Some(kind) = kind_of(name) else {
         return Ok(false);
     };
-    levels.push(Level {
-        kind,
-        value: kind == Kind::All,
-    })?;
+    let value = matches!(kind, Kind::All);
+    levels.push(Level { kind, value })?;
     Ok(true)
 }
 
-/// Evaluates `cfg(..)` under these options. `None` if the text isn't such a condition.
-pub fn evaluate(alloc: Global, text: &str, cfgs: &[Cfg<'_>]) -> Result<Option<bool>, AllocError> {
-    let Some(tokens) = tokens(alloc, text)? else {
-        return Ok(None);
-    };
-    let mut levels = Vec::new(alloc);
+// Closes a list within another one. Returns whether there is one.
+fn take_close(levels: &mut Vec<Level>) -> bool {
+    match close(levels) {
+        Some(value) => {
+            combine(levels, value);
+            true
+        }
+        None => false,
+    }
+}
+
+// Evaluates the tokens. Returns whether they are conditions.
+fn take_tokens(
+    tokens: &[Token<'_>],
+    cfgs: &[Cfg<'_>],
+    levels: &mut Vec<Level>,
+) -> Result<bool, AllocError> {
+    for (at, token) in tokens.iter().enumerate() {
+        let is_taken = match token {
+            Token::Word(name) => take_word(tokens, at, cfgs, *name, levels)?,
+            Token::Close => take_close(levels),
+            Token::Open | Token::Comma | Token::Equals | Token::Text(_) => true,
+        };
+        if !is_taken {
+            return Ok(false);
+        }
+    }
+    Ok(true)
+}
+
+// Returns the value of the tokens as one condition. No list is open yet.
+fn value_of(
+    tokens: &[Token<'_>],
+    cfgs: &[Cfg<'_>],
+    levels: &mut Vec<Level>,
+) -> Result<Option<bool>, AllocError> {
     levels.push(Level {
         kind: Kind::All,
         value: true,
     })?;
-    for (at, token) in tokens.iter().enumerate() {
-        match token {
-            Token::Word(name) => {
-                if !take_word(alloc, &tokens, at, cfgs, *name, &mut levels)? {
-                    return Ok(None);
-                }
-            }
-            Token::Close => {
-                let Some(value) = close(&mut levels) else {
-                    return Ok(None);
-                };
-                combine(&mut levels, value);
-            }
-            Token::Open | Token::Comma | Token::Equals | Token::Text(_) => {}
-        }
+    if take_tokens(tokens, cfgs, levels)? && levels.len() == 1 {
+        return Ok(close(levels));
     }
-    if levels.len() != 1 {
+    Ok(None)
+}
+
+/// Evaluates `cfg(..)` under these options. `None` if the text isn't such a condition.
+pub fn evaluate(alloc: Global, text: &str, cfgs: &[Cfg<'_>]) -> Result<Option<bool>, AllocError> {
+    let mut tokens = Vec::new(alloc);
+    if !add_tokens(text, &mut tokens)? {
         return Ok(None);
     }
-    Ok(close(&mut levels))
+    let mut levels = Vec::new(alloc);
+    value_of(&tokens, cfgs, &mut levels)
 }

@@ -1,6 +1,8 @@
 // The dependencies that a manifest names.
 use crate::cfg_expression::{Cfg, evaluate};
-use crate::documents::{Document, flag_at, text_at, texts_of};
+use crate::documents::{
+    Document, add_texts, flag_at, is_set, member, member_in, text_at, texts_of,
+};
 use crate::paths::{folder_of, join};
 use crate::positions::position_of;
 use crate::problem::{Stop, problem_at};
@@ -22,6 +24,8 @@ pub struct Dependency<'d> {
     pub folder: Option<String>,
     /// Whether it comes from a git repository.
     pub is_git: bool,
+    /// Whether only tests, examples and benchmarks use it.
+    pub is_of_tests: bool,
     pub is_optional: bool,
     /// Whether it is used with its feature `default`.
     pub uses_default: bool,
@@ -68,10 +72,8 @@ fn inherited<'d>(
     key: &str,
 ) -> Result<(&'d Value, &'d str), Stop> {
     if let Some(document) = manifest.workspace
-        && let Some(value) = &document.value
-        && let Some(workspace) = value.get("workspace")
-        && let Some(table) = workspace.get("dependencies")
-        && let Some(found) = table.get(key)
+        && let Some(workspace) = document.member("workspace")
+        && let Some(found) = member_in(workspace, "dependencies", key)
     {
         return Ok((found, folder_of(document.path.as_str())));
     }
@@ -117,9 +119,10 @@ fn dependency_of<'d>(
         requirement: requirement_of(value),
         folder: folder_at(alloc, folder, value)?,
         is_git: text_at(value, "git").is_some(),
-        is_optional: flag_at(value, "optional").unwrap_or(false),
+        is_of_tests: false,
+        is_optional: is_set(value, "optional"),
         uses_default: default_features(value).unwrap_or(true),
-        features: texts_of(alloc, value.get("features"))?,
+        features: texts_of(alloc, member(value, "features"))?,
     })
 }
 
@@ -130,32 +133,54 @@ fn read_entry<'d>(
     key: &'d str,
     value: &'d Value,
 ) -> Result<Dependency<'d>, Stop> {
-    if flag_at(value, "workspace") != Some(true) {
+    if !is_set(value, "workspace") {
         let folder = folder_of(manifest.document.path.as_str());
         return dependency_of(alloc, key, value, folder);
     }
     let (base, folder) = inherited(alloc, manifest, key)?;
     let mut dependency = dependency_of(alloc, key, base, folder)?;
-    dependency.is_optional = flag_at(value, "optional").unwrap_or(false);
-    dependency.uses_default = dependency.uses_default || default_features(value) == Some(true);
-    for feature in texts_of(alloc, value.get("features"))?.iter() {
-        dependency.features.push(*feature)?;
-    }
+    dependency.is_optional = is_set(value, "optional");
+    dependency.uses_default |= default_features(value).unwrap_or(false);
+    add_texts(member(value, "features"), &mut dependency.features)?;
     Ok(dependency)
 }
 
+// Adds the dependencies of a table.
 fn add_table<'d>(
     alloc: Global,
     manifest: Manifest<'d>,
     table: Option<&'d Value>,
+    is_of_tests: bool,
     found: &mut Vec<Dependency<'d>>,
 ) -> Result<(), Stop> {
     if let Some(Value::Table(table)) = table {
         for (key, value) in table.iter() {
-            found.push(read_entry(alloc, manifest, key.as_str(), value)?)?;
+            let mut dependency = read_entry(alloc, manifest, key.as_str(), value)?;
+            dependency.is_of_tests = is_of_tests;
+            found.push(dependency)?;
         }
     }
     Ok(())
+}
+
+// Adds the dependencies of a manifest, or of one of its tables for a target.
+fn add_tables<'d>(
+    alloc: Global,
+    manifest: Manifest<'d>,
+    value: &'d Value,
+    with_tests: bool,
+    found: &mut Vec<Dependency<'d>>,
+) -> Result<(), Stop> {
+    add_table(alloc, manifest, member(value, "dependencies"), false, found)?;
+    if !with_tests {
+        return Ok(());
+    }
+    let (table, other) = (
+        member(value, "dev-dependencies"),
+        member(value, "dev_dependencies"),
+    );
+    add_table(alloc, manifest, table, true, found)?;
+    add_table(alloc, manifest, other, true, found)
 }
 
 // Whether the dependencies of that target are used.
@@ -177,26 +202,34 @@ fn is_for(
     }
 }
 
-/// Reads the dependencies of a manifest for a normal build on that platform: no dependencies of
-/// tests and of build scripts.
+/// Reads the dependencies of a manifest for a build on that platform, with those of tests if
+/// `with_tests`. No build script is run, so those of build scripts are left out.
 pub fn read_dependencies<'d>(
     alloc: Global,
     manifest: Manifest<'d>,
     platform: Platform<'_>,
+    with_tests: bool,
 ) -> Result<Vec<Dependency<'d>>, Stop> {
     let mut found = Vec::new(alloc);
-    add_table(
-        alloc,
-        manifest,
-        manifest.value.get("dependencies"),
-        &mut found,
-    )?;
-    if let Some(Value::Table(targets)) = manifest.value.get("target") {
+    add_tables(alloc, manifest, manifest.value, with_tests, &mut found)?;
+    add_targets(alloc, manifest, platform, with_tests, &mut found)?;
+    Ok(found)
+}
+
+// Adds the dependencies in the tables for targets.
+fn add_targets<'d>(
+    alloc: Global,
+    manifest: Manifest<'d>,
+    platform: Platform<'_>,
+    with_tests: bool,
+    found: &mut Vec<Dependency<'d>>,
+) -> Result<(), Stop> {
+    if let Some(Value::Table(targets)) = member(manifest.value, "target") {
         for (target, value) in targets.iter() {
             if is_for(alloc, manifest, platform, target.as_str())? {
-                add_table(alloc, manifest, value.get("dependencies"), &mut found)?;
+                add_tables(alloc, manifest, value, with_tests, found)?;
             }
         }
     }
-    Ok(found)
+    Ok(())
 }

@@ -1,19 +1,33 @@
 // Features: which features and optional dependencies of packages are enabled.
 //
-// The rules of Cargo's resolver 2 become rules over numbered facts, whose least set `least_set`
-// returns. A fact says that a package has a feature, or that it uses the dependency of a name.
+// This module writes the rules of Cargo's resolver 2 as rules over numbered facts. `least_set`
+// returns the least set of facts that obeys them. A fact says that a package has a feature, or that
+// it uses the dependency of a name.
+use crate::dependencies::Dependency;
+use crate::documents::member;
 use crate::least_set::Rule;
 use crate::packages::Package;
 use std::alloc::{AllocError, Global};
 use toml::Value;
 
-/// What a fact says of a package.
-#[derive(Clone, Copy, PartialEq, Eq, Debug, Drop)]
+/// The statement that a fact makes about a package.
+#[derive(Clone, Copy, PartialEq, Eq, Drop)]
 pub enum FactKind {
     /// The package has the feature.
     Feature,
     /// The package uses the dependency.
     Dependency,
+    /// The tests of the package use the dependency.
+    TestDependency,
+}
+
+/// Returns the kind of the fact that a dependency is used.
+pub fn use_kind(dependency: &Dependency<'_>) -> FactKind {
+    if dependency.is_of_tests {
+        FactKind::TestDependency
+    } else {
+        FactKind::Dependency
+    }
 }
 
 /// A fact.
@@ -32,10 +46,18 @@ pub struct Edge {
     pub to: usize,
 }
 
+// A package, its number, and the dependencies whose packages are known.
+#[derive(Clone, Copy, Drop)]
+struct Owner<'p, 'd> {
+    number: usize,
+    package: &'p Package<'d>,
+    edges: &'p [Edge],
+}
+
 /// The features that are asked for of the root package.
 #[derive(Clone, Copy, Drop)]
-pub struct FeatureChoice<'r> {
-    pub features: &'r [&'r str],
+pub struct FeatureChoice<'r, 'd> {
+    pub features: &'r [&'d str],
     pub is_all: bool,
     pub is_default: bool,
 }
@@ -62,9 +84,11 @@ impl<'d> FeatureRules<'d> {
 
     /// Returns the number of a fact; `None` if no rule names it.
     pub fn number_of(&self, package: usize, kind: FactKind, name: &str) -> Option<usize> {
-        for (number, fact) in self.facts.iter().enumerate() {
+        let mut number = 0usize;
+        for fact in self.facts.iter() {
+            number = number.saturating_add(1);
             if fact.package == package && fact.kind == kind && fact.name == name {
-                return Some(number.saturating_add(1));
+                return Some(number);
             }
         }
         None
@@ -97,145 +121,201 @@ impl<'d> FeatureRules<'d> {
         Ok(())
     }
 
-    // Adds what `NAME/FEATURE` or `NAME?/FEATURE` in the list of a feature enables.
-    fn add_nested(
+    // Adds that the fact `given` gives a fact.
+    fn add_given(
         &mut self,
-        packages: &[Package<'d>],
-        edges: &[Edge],
-        number: usize,
         given: usize,
+        package: usize,
+        kind: FactKind,
         name: &'d str,
+    ) -> Result<(), AllocError> {
+        let gives = self.number(package, kind, name)?;
+        self.add(given, ALWAYS, gives)
+    }
+
+    // Adds that the package of a dependency has a feature, if the package uses the dependency.
+    fn add_there(
+        &mut self,
+        from: &Owner<'_, 'd>,
+        given: usize,
+        key: &'d str,
         feature: &'d str,
     ) -> Result<(), AllocError> {
-        let strong = name.strip_suffix("?");
-        let key = strong.unwrap_or(name);
-        let used = self.number(number, FactKind::Dependency, key)?;
-        let Some(package) = packages.get(number) else {
-            return Ok(());
-        };
-        if strong.is_none() {
-            self.add(given, ALWAYS, used)?;
-            if package.has_optional(key) && has_feature(package, key) {
-                let same = self.number(number, FactKind::Feature, key)?;
-                self.add(given, ALWAYS, same)?;
-            }
-        }
-        for edge in edges {
-            if edge.from == number
-                && let Some(dependency) = package.dependencies.get(edge.dependency)
+        for edge in from.edges {
+            if edge.from == from.number
+                && let Some(dependency) = from.package.dependencies.get(edge.dependency)
                 && dependency.key == key
             {
+                let needed = self.number(from.number, use_kind(dependency), key)?;
                 let there = self.number(edge.to, FactKind::Feature, feature)?;
-                self.add(given, used, there)?;
+                self.add(given, needed, there)?;
             }
         }
         Ok(())
     }
 
+    // Adds what `NAME/FEATURE` or `NAME?/FEATURE` in the list of a feature enables.
+    fn add_nested(
+        &mut self,
+        of: &Owner<'_, 'd>,
+        given: usize,
+        name: &'d str,
+        feature: &'d str,
+    ) -> Result<(), AllocError> {
+        if let Some(key) = name.strip_suffix("?") {
+            return self.add_there(of, given, key, feature);
+        }
+        self.add_given(given, of.number, FactKind::Dependency, name)?;
+        if of.package.has_optional(name) && has_feature(of.package, name) {
+            self.add_given(given, of.number, FactKind::Feature, name)?;
+        }
+        self.add_there(of, given, name, feature)
+    }
+
     // Adds what an entry in the list of a feature enables.
     fn add_value(
         &mut self,
-        packages: &[Package<'d>],
-        edges: &[Edge],
-        number: usize,
+        of: &Owner<'_, 'd>,
         given: usize,
         value: &'d str,
     ) -> Result<(), AllocError> {
         if let Some(key) = value.strip_prefix("dep:") {
-            let used = self.number(number, FactKind::Dependency, key)?;
-            return self.add(given, ALWAYS, used);
+            return self.add_given(given, of.number, FactKind::Dependency, key);
         }
-        if let Some((name, feature)) = value.split_once('/') {
-            return self.add_nested(packages, edges, number, given, name, feature);
+        match value.split_once('/') {
+            Some((name, feature)) => self.add_nested(of, given, name, feature),
+            None => self.add_given(given, of.number, FactKind::Feature, value),
         }
-        let feature = self.number(number, FactKind::Feature, value)?;
-        self.add(given, ALWAYS, feature)
     }
 
-    // Adds the rules of the table `[features]` of package `number`.
-    fn add_features(
+    // Adds what the list of a feature enables.
+    fn add_values(
         &mut self,
-        packages: &[Package<'d>],
-        edges: &[Edge],
-        number: usize,
-        package: &Package<'d>,
+        of: &Owner<'_, 'd>,
+        given: usize,
+        values: &'d Value,
     ) -> Result<(), AllocError> {
-        let Some(Value::Table(table)) = package.value.get("features") else {
-            return Ok(());
-        };
-        for (feature, values) in table.iter() {
-            let given = self.number(number, FactKind::Feature, feature.as_str())?;
-            if let Value::Array(values) = values {
-                for value in values.iter() {
-                    if let Some(value) = value.as_str() {
-                        self.add_value(packages, edges, number, given, value)?;
-                    }
+        if let Value::Array(values) = values {
+            for value in values.iter() {
+                if let Some(value) = value.as_str() {
+                    self.add_value(of, given, value)?;
                 }
             }
         }
         Ok(())
     }
 
-    // Adds which dependencies of package `number` are used.
-    fn add_dependencies(&mut self, number: usize, package: &Package<'d>) -> Result<(), AllocError> {
-        for dependency in package.dependencies.iter() {
-            let used = self.number(number, FactKind::Dependency, dependency.key)?;
-            if !dependency.is_optional {
-                self.add(ALWAYS, ALWAYS, used)?;
-            } else if is_implicit(package, dependency.key) {
-                let feature = self.number(number, FactKind::Feature, dependency.key)?;
-                self.add(feature, ALWAYS, used)?;
+    // Adds the rules of the table `[features]` of a package.
+    fn add_features(&mut self, of: &Owner<'_, 'd>) -> Result<(), AllocError> {
+        if let Some(Value::Table(table)) = member(of.package.value, "features") {
+            for (feature, values) in table.iter() {
+                let given = self.number(of.number, FactKind::Feature, feature.as_str())?;
+                self.add_values(of, given, values)?;
             }
+        }
+        Ok(())
+    }
+
+    // Adds which dependencies of a package are used.
+    fn add_dependencies(&mut self, of: &Owner<'_, 'd>) -> Result<(), AllocError> {
+        for dependency in of.package.dependencies.iter() {
+            self.add_dependency(of, dependency)?;
+        }
+        Ok(())
+    }
+
+    // Adds whether a dependency is used.
+    fn add_dependency(
+        &mut self,
+        of: &Owner<'_, 'd>,
+        dependency: &Dependency<'d>,
+    ) -> Result<(), AllocError> {
+        let used = self.number(of.number, use_kind(dependency), dependency.key)?;
+        if !dependency.is_optional || dependency.is_of_tests {
+            return self.add(ALWAYS, ALWAYS, used);
+        }
+        if is_implicit(of.package, dependency.key) {
+            let feature = self.number(of.number, FactKind::Feature, dependency.key)?;
+            return self.add(feature, ALWAYS, used);
         }
         Ok(())
     }
 
     // Adds the features that a dependency asks of its package.
-    fn add_edge(&mut self, packages: &[Package<'d>], edge: Edge) -> Result<(), AllocError> {
-        let Some(package) = packages.get(edge.from) else {
-            return Ok(());
-        };
-        let Some(dependency) = package.dependencies.get(edge.dependency) else {
-            return Ok(());
-        };
-        let used = self.number(edge.from, FactKind::Dependency, dependency.key)?;
+    fn add_asked(
+        &mut self,
+        used: usize,
+        to: usize,
+        dependency: &Dependency<'d>,
+    ) -> Result<(), AllocError> {
         for feature in dependency.features.iter() {
-            let there = self.number(edge.to, FactKind::Feature, *feature)?;
-            self.add(used, ALWAYS, there)?;
+            self.add_given(used, to, FactKind::Feature, *feature)?;
         }
         if dependency.uses_default {
-            let there = self.number(edge.to, FactKind::Feature, "default")?;
-            self.add(used, ALWAYS, there)?;
+            self.add_given(used, to, FactKind::Feature, "default")?;
         }
         Ok(())
     }
 
-    // Adds the features that are asked for of the root package, number 0.
+    // Adds what follows if a dependency is used.
+    fn add_edge(&mut self, packages: &[Package<'d>], edge: Edge) -> Result<(), AllocError> {
+        if let Some(package) = packages.get(edge.from)
+            && let Some(dependency) = package.dependencies.get(edge.dependency)
+        {
+            let used = self.number(edge.from, use_kind(dependency), dependency.key)?;
+            self.add_asked(used, edge.to, dependency)?;
+        }
+        Ok(())
+    }
+
+    // Adds the rules of the packages and of their dependencies.
+    fn add_packages(&mut self, packages: &[Package<'d>], edges: &[Edge]) -> Result<(), AllocError> {
+        for (number, package) in packages.iter().enumerate() {
+            if !package.is_proc_macro || number == 0 {
+                let owner = Owner {
+                    number,
+                    package,
+                    edges,
+                };
+                self.add_features(&owner)?;
+                self.add_dependencies(&owner)?;
+            }
+        }
+        for edge in edges {
+            self.add_edge(packages, *edge)?;
+        }
+        Ok(())
+    }
+
+    // Adds all features of the root package.
+    fn add_all(&mut self, root: &Owner<'_, 'd>) -> Result<(), AllocError> {
+        if let Some(Value::Table(table)) = member(root.package.value, "features") {
+            for (feature, _) in table.iter() {
+                self.add_value(root, ALWAYS, feature.as_str())?;
+            }
+        }
+        for key in root.package.optional_keys(self.alloc)?.iter() {
+            if is_implicit(root.package, *key) {
+                self.add_value(root, ALWAYS, *key)?;
+            }
+        }
+        Ok(())
+    }
+
+    // Adds the features that are asked for of the root package.
     fn add_choice(
         &mut self,
-        packages: &[Package<'d>],
-        edges: &[Edge],
-        root: &Package<'d>,
-        choice: FeatureChoice<'d>,
+        root: &Owner<'_, 'd>,
+        choice: FeatureChoice<'_, 'd>,
     ) -> Result<(), AllocError> {
         if choice.is_default {
-            self.add_value(packages, edges, 0, ALWAYS, "default")?;
+            self.add_value(root, ALWAYS, "default")?;
         }
         for feature in choice.features {
-            self.add_value(packages, edges, 0, ALWAYS, *feature)?;
+            self.add_value(root, ALWAYS, *feature)?;
         }
-        if !choice.is_all {
-            return Ok(());
-        }
-        if let Some(Value::Table(table)) = root.value.get("features") {
-            for (feature, _) in table.iter() {
-                self.add_value(packages, edges, 0, ALWAYS, feature.as_str())?;
-            }
-        }
-        for dependency in root.dependencies.iter() {
-            if dependency.is_optional && is_implicit(root, dependency.key) {
-                self.add_value(packages, edges, 0, ALWAYS, dependency.key)?;
-            }
+        if choice.is_all {
+            self.add_all(root)?;
         }
         Ok(())
     }
@@ -243,19 +323,31 @@ impl<'d> FeatureRules<'d> {
 
 // Whether some feature of the package names `dep:KEY`.
 fn names_dependency(package: &Package<'_>, key: &str) -> bool {
-    let Some(Value::Table(table)) = package.value.get("features") else {
-        return false;
-    };
-    table.iter().any(|(_, values)| match values {
-        Value::Array(values) => values.iter().any(|value| match value.as_str() {
-            Some(text) => text.strip_prefix("dep:") == Some(key),
-            None => false,
-        }),
-        _ => false,
-    })
+    if let Some(Value::Table(table)) = member(package.value, "features") {
+        for (_, values) in table.iter() {
+            if lists_dependency(values, key) {
+                return true;
+            }
+        }
+    }
+    false
 }
 
-// Whether an optional dependency is a feature of its own name: no feature has that name, and none
+// Whether the list of a feature has `dep:KEY`.
+fn lists_dependency(values: &Value, key: &str) -> bool {
+    if let Value::Array(values) = values {
+        for value in values.iter() {
+            if let Some(text) = value.as_str()
+                && text.strip_prefix("dep:") == Some(key)
+            {
+                return true;
+            }
+        }
+    }
+    false
+}
+
+// Whether an optional dependency is also a feature. It is if no feature has its name, and none
 // names it by `dep:`.
 fn is_implicit(package: &Package<'_>, key: &str) -> bool {
     package.feature_values(key).is_none() && !names_dependency(package, key)
@@ -272,20 +364,17 @@ pub fn feature_rules<'d>(
     alloc: Global,
     packages: &[Package<'d>],
     edges: &[Edge],
-    choice: FeatureChoice<'d>,
+    choice: FeatureChoice<'_, 'd>,
 ) -> Result<FeatureRules<'d>, AllocError> {
     let mut rules = FeatureRules::new(alloc);
-    for (number, package) in packages.iter().enumerate() {
-        if !package.is_proc_macro || number == 0 {
-            rules.add_features(packages, edges, number, package)?;
-            rules.add_dependencies(number, package)?;
-        }
-    }
-    for edge in edges {
-        rules.add_edge(packages, *edge)?;
-    }
-    if let Some(root) = packages.first() {
-        rules.add_choice(packages, edges, root, choice)?;
+    rules.add_packages(packages, edges)?;
+    if let Some(package) = packages.first() {
+        let root = Owner {
+            number: 0,
+            package,
+            edges,
+        };
+        rules.add_choice(&root, choice)?;
     }
     Ok(rules)
 }

@@ -11,7 +11,7 @@ use std::alloc::{AllocError, Global};
 
 /// A rule: the fact `gives` holds if the facts `first` and `second` hold. Facts are numbers; fact 0
 /// always holds.
-#[derive(Clone, Copy, Debug, Drop)]
+#[derive(Clone, Copy, Drop)]
 pub struct Rule {
     pub first: usize,
     pub second: usize,

@@ -2,12 +2,14 @@
 //!
 //! The library opens no file and starts no process. A `Planner` holds the texts of files that the
 //! program read. `Planner::step` returns the files that it needs next, until it can return a
-//! `Plan`: the crate that was asked for and the crates that it depends on, each with its root file,
-//! edition, features and dependencies.
+//! `Plan` for each target that is asked for: its crate and the crates that it depends on, each with
+//! its root file, edition, features and dependencies.
 #![tactic(auto)]
 
 pub mod cfg_expression;
-mod dependencies;
+mod checkouts;
+mod cycles;
+pub mod dependencies;
 pub mod documents;
 mod features;
 pub mod least_set;
@@ -19,5 +21,7 @@ pub mod planner;
 mod positions;
 pub mod problem;
 mod resolution;
+mod settings;
 mod sources;
+pub mod targets;
 mod workspaces;

@@ -1,11 +1,22 @@
-// Packages: what a manifest says of its package and of its library.
+// Packages: what a manifest says about its package and its library.
 use crate::dependencies::{Dependency, Manifest, Platform, read_dependencies, refused};
-use crate::documents::{Document, flag_at, text_at};
+use crate::documents::{Document, flag_at, is_set, member, member_in, text_at};
 use crate::paths::{folder_of, join};
 use crate::problem::Stop;
 use crate::workspaces::{Files, workspace_of};
 use std::alloc::{AllocError, Global};
 use toml::Value;
+
+/// What a package is to the build.
+#[derive(Clone, Copy, Drop)]
+pub enum Role {
+    /// The root package, of which a test, an example or a benchmark is built.
+    Tested,
+    /// A package on this machine by a path or from git.
+    Local,
+    /// A package of a registry.
+    Downloaded,
+}
 
 /// A package.
 #[derive(Drop)]
@@ -28,25 +39,17 @@ fn package_text<'d>(
     workspace: Option<&'d Document>,
     key: &str,
 ) -> Option<&'d str> {
-    let own = package.get(key)?;
-    if flag_at(own, "workspace") != Some(true) {
+    let own = member(package, key)?;
+    if !is_set(own, "workspace") {
         return own.as_str();
     }
-    match workspace {
-        Some(document) => match &document.value {
-            Some(root) => text_at(root.get("workspace")?.get("package")?, key),
-            None => None,
-        },
-        None => None,
-    }
+    text_at(member(workspace?.member("workspace")?, "package")?, key)
 }
 
 // Whether the library of the package is a procedural macro.
 fn is_proc_macro(value: &Value) -> bool {
-    match value.get("lib") {
-        Some(lib) => {
-            flag_at(lib, "proc-macro") == Some(true) || flag_at(lib, "proc_macro") == Some(true)
-        }
+    match member(value, "lib") {
+        Some(lib) => is_set(lib, "proc-macro") || is_set(lib, "proc_macro"),
         None => false,
     }
 }
@@ -64,21 +67,22 @@ fn text_or<'d>(
     if let Some(text) = package_text(package, workspace, key) {
         return Ok(text);
     }
-    if package.get(key).is_none() {
+    if member(package, key).is_none() {
         return Ok(default);
     }
     let message = format!(in alloc; "`{key}` isn't a text, and no workspace has one")?;
     Err(refused(alloc, document, "package", key, message))
 }
 
-/// Reads the package of a manifest. `AllocError` if out of memory.
+/// Reads the package of a manifest, with its dependencies of tests if `role` is so.
 pub fn read_package<'d>(
     files: &mut Files<'d>,
     document: &'d Document,
     platform: Platform<'_>,
-    is_local: bool,
+    role: Role,
 ) -> Result<Package<'d>, Stop> {
     let alloc = files.alloc;
+    let is_local = !matches!(role, Role::Downloaded);
     let workspace = if is_local {
         workspace_of(files, document)?
     } else {
@@ -93,6 +97,7 @@ pub fn read_package<'d>(
         value,
         workspace,
     };
+    let is_tested = matches!(role, Role::Tested);
     Ok(Package {
         document,
         value,
@@ -102,15 +107,20 @@ pub fn read_package<'d>(
         edition: text_or(alloc, document, package, workspace, "edition", "2015")?,
         is_local,
         is_proc_macro: is_proc_macro(value),
-        dependencies: read_dependencies(alloc, manifest, platform)?,
+        dependencies: read_dependencies(alloc, manifest, platform, is_tested)?,
     })
 }
 
 /// Returns the table `[package]` of a manifest.
 pub fn package_table(document: &Document) -> Option<&Value> {
-    match &document.value {
-        Some(value) => value.get("package"),
-        None => None,
+    document.member("package")
+}
+
+/// Returns the name of a manifest's package. It is empty if the manifest has none.
+pub fn package_name(document: &Document) -> &str {
+    match package_table(document) {
+        Some(package) => text_at(package, "name").unwrap_or(""),
+        None => "",
     }
 }
 
@@ -130,7 +140,7 @@ impl<'d> Package<'d> {
     }
 
     fn lib_text(&self, key: &str) -> Option<&'d str> {
-        text_at(self.value.get("lib")?, key)
+        text_at(member(self.value, "lib")?, key)
     }
 
     /// Returns the name of the library's crate.
@@ -147,13 +157,95 @@ impl<'d> Package<'d> {
         )
     }
 
-    /// Returns the values of a feature; `None` if the table `[features]` doesn't have it.
-    pub fn feature_values(&self, feature: &str) -> Option<&'d Value> {
-        self.value.get("features")?.get(feature)
+    /// Returns a boolean of the table `[package]`.
+    pub fn package_flag(&self, key: &str) -> Option<bool> {
+        flag_at(member(self.value, "package")?, key)
     }
 
-    /// Returns the optional dependencies of that name.
-    pub fn has_optional(&self, key: &str) -> bool {
-        self.dependencies.iter().any(|dependency| dependency.key == key && dependency.is_optional)
+    /// Returns a text of the table `[package]`.
+    pub fn package_text(&self, key: &str) -> Option<&'d str> {
+        text_at(member(self.value, "package")?, key)
     }
+
+    /// Returns the values of a feature; `None` if the table `[features]` doesn't have it.
+    pub fn feature_values(&self, feature: &str) -> Option<&'d Value> {
+        member_in(self.value, "features", feature)
+    }
+
+    /// Whether the manifest has an optional dependency of that name: for this platform or another
+    /// one, or of the build script.
+    pub fn has_optional(&self, key: &str) -> bool {
+        is_optional_in(self.value, key) || is_optional_for(member(self.value, "target"), key)
+    }
+
+    /// Returns the names of all optional dependencies: for this platform or another one, or of the
+    /// build script.
+    pub fn optional_keys(&self, alloc: Global) -> Result<Vec<&'d str>, AllocError> {
+        let mut found = Vec::new(alloc);
+        add_optional(self.value, &mut found)?;
+        add_optional_for(member(self.value, "target"), &mut found)?;
+        Ok(found)
+    }
+}
+
+// Whether the table has an optional dependency of that name.
+fn is_optional(tables: &Value, table: &str, key: &str) -> bool {
+    match member_in(tables, table, key) {
+        Some(dependency) => is_set(dependency, "optional"),
+        None => false,
+    }
+}
+
+// Whether one of the tables has an optional dependency of that name.
+fn is_optional_in(tables: &Value, key: &str) -> bool {
+    is_optional(tables, "dependencies", key)
+        || is_optional(tables, "build-dependencies", key)
+        || is_optional(tables, "build_dependencies", key)
+}
+
+// Whether the tables of some target have an optional dependency of that name.
+fn is_optional_for(targets: Option<&Value>, key: &str) -> bool {
+    if let Some(Value::Table(targets)) = targets {
+        for (_, tables) in targets.iter() {
+            if is_optional_in(tables, key) {
+                return true;
+            }
+        }
+    }
+    false
+}
+
+// Adds the names of the optional dependencies in a table.
+fn add_optional_in<'d>(
+    table: Option<&'d Value>,
+    found: &mut Vec<&'d str>,
+) -> Result<(), AllocError> {
+    if let Some(Value::Table(table)) = table {
+        for (key, dependency) in table.iter() {
+            if is_set(dependency, "optional") {
+                found.push(key.as_str())?;
+            }
+        }
+    }
+    Ok(())
+}
+
+// Adds the names of the optional dependencies in the tables.
+fn add_optional<'d>(tables: &'d Value, found: &mut Vec<&'d str>) -> Result<(), AllocError> {
+    add_optional_in(member(tables, "dependencies"), found)?;
+    add_optional_in(member(tables, "build-dependencies"), found)?;
+    add_optional_in(member(tables, "build_dependencies"), found)
+}
+
+// Adds the names of the optional dependencies of all targets.
+fn add_optional_for<'d>(
+    targets: Option<&'d Value>,
+    found: &mut Vec<&'d str>,
+) -> Result<(), AllocError> {
+    if let Some(Value::Table(targets)) = targets {
+        for (_, tables) in targets.iter() {
+            add_optional(tables, found)?;
+        }
+    }
+    Ok(())
 }

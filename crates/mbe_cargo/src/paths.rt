@@ -3,7 +3,10 @@ use std::alloc::{AllocError, Global};
 
 /// Returns the folder of a file: the path before its last `/`.
 pub fn folder_of(path: &str) -> &str {
-    path.rsplit_once('/').map_or(".", |(folder, _)| folder)
+    match path.rsplit_once('/') {
+        Some((folder, _)) => folder,
+        None => ".",
+    }
 }
 
 /// Returns `path` as seen from `folder`. A path that begins with `/` doesn't depend on the folder.
@@ -11,24 +14,42 @@ pub fn folder_of(path: &str) -> &str {
 pub fn join(alloc: Global, folder: &str, path: &str) -> Result<String, AllocError> {
     let is_absolute = path.starts_with('/');
     let folder = if is_absolute { "" } else { folder };
-    let mut parts: Vec<&str> = Vec::new(alloc);
-    for part in folder.split('/') {
-        add_part(&mut parts, part)?;
-    }
-    for part in path.split('/') {
-        add_part(&mut parts, part)?;
-    }
+    let mut parts = Vec::new(alloc);
+    add_parts(&mut parts, folder)?;
+    add_parts(&mut parts, path)?;
     let mut joined = String::new(alloc);
     if is_absolute || folder.starts_with('/') {
         joined.push('/')?;
     }
+    push_joined(&mut joined, &parts)?;
+    Ok(joined)
+}
+
+// Adds parts to a text, with `/` between them.
+fn push_joined(text: &mut String, parts: &[&str]) -> Result<(), AllocError> {
     for (number, part) in parts.iter().enumerate() {
         if number > 0 {
-            joined.push('/')?;
+            text.push('/')?;
         }
-        joined.push_str(*part)?;
+        text.push_str(*part)?;
     }
-    Ok(joined)
+    Ok(())
+}
+
+// Adds the parts of a path.
+fn add_parts<'p>(parts: &mut Vec<&'p str>, path: &'p str) -> Result<(), AllocError> {
+    for part in path.split('/') {
+        add_part(parts, part)?;
+    }
+    Ok(())
+}
+
+// Whether the last part is one that `..` removes.
+fn is_removable(parts: &[&str]) -> bool {
+    match parts {
+        [.., last] => *last != "..",
+        [] => false,
+    }
 }
 
 // Adds a part of a path; `..` removes the part before it.
@@ -36,15 +57,9 @@ fn add_part<'p>(parts: &mut Vec<&'p str>, part: &'p str) -> Result<(), AllocErro
     if part.is_empty() || part == "." {
         return Ok(());
     }
-    if part == ".." {
-        let is_below = match parts.as_slice() {
-            [.., last] => *last != "..",
-            [] => false,
-        };
-        if is_below {
-            let _ = parts.pop();
-            return Ok(());
-        }
+    if part == ".." && is_removable(parts) {
+        let _ = parts.pop();
+        return Ok(());
     }
     parts.push(part)?;
     Ok(())
@@ -53,16 +68,15 @@ fn add_part<'p>(parts: &mut Vec<&'p str>, part: &'p str) -> Result<(), AllocErro
 /// Returns the folder and the folders above it, the innermost first.
 pub fn ancestors(alloc: Global, folder: &str) -> Result<Vec<String>, AllocError> {
     let mut found = Vec::new(alloc);
-    let mut path = String::from_str(alloc, folder)?;
+    let mut path = folder;
     for _ in 0..folder.len() {
-        let above = match path.as_str().rsplit_once('/') {
-            Some((above, _)) => String::from_str(alloc, above)?,
-            None => break,
+        let Some((above, _)) = path.rsplit_once('/') else {
+            break;
         };
-        found.push(path)?;
+        found.push(String::from_str(alloc, path)?)?;
         path = above;
     }
-    found.push(path)?;
+    found.push(String::from_str(alloc, path)?)?;
     Ok(found)
 }
 

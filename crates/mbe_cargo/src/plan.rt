@@ -1,23 +1,26 @@
 // The plan: the crates of a package, and how each one is compiled.
-use crate::dependencies::refused;
-use crate::documents::{Document, text_at};
+use crate::cfg_expression::Cfg;
+use crate::dependencies::Dependency;
+use crate::documents::{Document, member, member_in, text_at};
+use crate::features::Edge;
 use crate::packages::{Package, name_in_code, package_table};
 use crate::paths::join;
 use crate::problem::{Problem, Stop, problem_at};
 use crate::resolution::Resolution;
+use crate::targets::{Target, TargetKind, has_library, library};
 use crate::workspaces::Files;
 use std::alloc::{AllocError, Global};
 use toml::Value;
 
 /// A crate that a crate uses: its name in code, and its number.
-#[derive(Drop, Debug)]
+#[derive(Drop)]
 pub struct Link {
     pub name: String,
     pub number: usize,
 }
 
 /// A crate.
-#[derive(Drop, Debug)]
+#[derive(Drop)]
 pub struct PlannedCrate {
     /// Its name in code.
     pub name: String,
@@ -29,139 +32,27 @@ pub struct PlannedCrate {
     pub links: Vec<Link>,
 }
 
+/// An option for `cfg`: a name, or a name and a value.
+#[derive(Drop)]
+pub struct PlannedCfg {
+    pub name: String,
+    pub value: Option<String>,
+}
+
 /// The crates; the one that was asked for is the first.
-#[derive(Drop, Debug)]
+#[derive(Drop)]
 pub struct Plan {
     pub crates: Vec<PlannedCrate>,
-    /// What the plan leaves out.
+    /// The path of the manifest.
+    pub manifest: String,
+    /// The platform that is compiled for.
+    pub triple: String,
+    /// Whether the first crate sees `test`.
+    pub is_test: bool,
+    /// The options for `cfg` that Cargo's settings give to all crates.
+    pub cfgs: Vec<PlannedCfg>,
+    /// The parts of the package that the plan leaves out.
     pub notes: Vec<Problem>,
-}
-
-/// The target of the package that was asked for.
-#[derive(Clone, Copy, Drop)]
-pub enum TargetChoice<'r> {
-    /// The library, or the program if there is no library.
-    Any,
-    Library,
-    Program(&'r str),
-}
-
-/// The root file of a target.
-#[derive(Drop)]
-pub struct Target {
-    pub name: String,
-    pub root: String,
-    pub is_library: bool,
-}
-
-// Whether the package has a library.
-fn has_library(files: &mut Files<'_>, package: &Package<'_>) -> Result<bool, Stop> {
-    if package.value.get("lib").is_some() {
-        return Ok(true);
-    }
-    let root = package.library_root(files.alloc)?;
-    files.is_there(root.as_str())
-}
-
-fn library(alloc: Global, package: &Package<'_>) -> Result<Target, AllocError> {
-    Ok(Target {
-        name: package.library_name(alloc)?,
-        root: package.library_root(alloc)?,
-        is_library: true,
-    })
-}
-
-// Returns the path that an entry `[[bin]]` of that name has. The outer `None` says that there is no
-// such entry.
-fn declared_path<'d>(package: &Package<'d>, name: &str) -> Option<Option<&'d str>> {
-    if let Some(Value::Array(programs)) = package.value.get("bin") {
-        for program in programs.iter() {
-            if text_at(program, "name") == Some(name) {
-                return Some(text_at(program, "path"));
-            }
-        }
-    }
-    None
-}
-
-// Returns the first of these files of the package that is there.
-fn first_there(
-    files: &mut Files<'_>,
-    package: &Package<'_>,
-    paths: &[String],
-) -> Result<Option<String>, Stop> {
-    for path in paths {
-        let path = join(files.alloc, package.folder(), path.as_str())?;
-        if files.is_there(path.as_str())? {
-            return Ok(Some(path));
-        }
-    }
-    Ok(None)
-}
-
-// Returns the program of that name.
-fn program(files: &mut Files<'_>, package: &Package<'_>, name: &str) -> Result<Target, Stop> {
-    let alloc = files.alloc;
-    let mut paths = Vec::new(alloc);
-    if let Some(Some(path)) = declared_path(package, name) {
-        paths.push(String::from_str(alloc, path)?)?;
-    } else {
-        if name == package.name {
-            paths.push(String::from_str(alloc, "src/main.rs")?)?;
-        }
-        paths.push(format!(in alloc; "src/bin/{name}.rs")?)?;
-        paths.push(format!(in alloc; "src/bin/{name}/main.rs")?)?;
-    }
-    match first_there(files, package, &paths)? {
-        Some(root) => Ok(Target {
-            name: name_in_code(alloc, name)?,
-            root,
-            is_library: false,
-        }),
-        None => {
-            let of = package.name;
-            let message = format!(in alloc; "package `{of}` has no program `{name}`")?;
-            Err(refused(alloc, package.document, "bin", "name", message))
-        }
-    }
-}
-
-// Returns the only program that the manifest declares, or the one named as the package.
-fn only_program<'d>(package: &Package<'d>) -> &'d str {
-    if let Some(Value::Array(programs)) = package.value.get("bin")
-        && let [program] = programs.as_slice()
-        && let Some(name) = text_at(program, "name")
-    {
-        return name;
-    }
-    package.name
-}
-
-/// Returns the target that was asked for.
-pub fn target_of(
-    files: &mut Files<'_>,
-    package: &Package<'_>,
-    choice: TargetChoice<'_>,
-) -> Result<Target, Stop> {
-    let alloc = files.alloc;
-    match choice {
-        TargetChoice::Program(name) => program(files, package, name),
-        TargetChoice::Any => {
-            if has_library(files, package)? {
-                Ok(library(alloc, package)?)
-            } else {
-                program(files, package, only_program(package))
-            }
-        }
-        TargetChoice::Library => {
-            if has_library(files, package)? {
-                return Ok(library(alloc, package)?);
-            }
-            let name = package.name;
-            let message = format!(in alloc; "package `{name}` has no library")?;
-            Err(refused(alloc, package.document, "package", "name", message))
-        }
-    }
 }
 
 // Copies texts.
@@ -173,23 +64,36 @@ fn copied(alloc: Global, texts: &[&str]) -> Result<Vec<String>, AllocError> {
     Ok(found)
 }
 
-// Returns the crate of a target of package `number`.
+// Returns the crate of a target of a package, with these features and links.
 fn crate_of(
     alloc: Global,
+    package: &Package<'_>,
+    target: &Target<'_>,
+    features: Vec<String>,
+    links: Vec<Link>,
+) -> Result<PlannedCrate, AllocError> {
+    Ok(PlannedCrate {
+        name: target.crate_name(alloc)?,
+        package: String::from_str(alloc, package.name)?,
+        root: String::from_str(alloc, target.root.as_str())?,
+        edition: String::from_str(alloc, target.edition(package))?,
+        features,
+        links,
+    })
+}
+
+// Returns the crate of a target of package `number`.
+fn planned(
+    alloc: Global,
     resolution: &Resolution<'_>,
+    numbers: &[Option<usize>],
     number: usize,
     package: &Package<'_>,
-    target: Target,
+    target: &Target<'_>,
 ) -> Result<PlannedCrate, Stop> {
-    let features = resolution.features(alloc, number)?;
-    Ok(PlannedCrate {
-        name: target.name,
-        package: String::from_str(alloc, package.name)?,
-        root: target.root,
-        edition: String::from_str(alloc, package.edition)?,
-        features: copied(alloc, &features)?,
-        links: Vec::new(alloc),
-    })
+    let features = copied(alloc, &resolution.features(alloc, number)?)?;
+    let links = links_of(alloc, resolution, numbers, number)?;
+    Ok(crate_of(alloc, package, target, features, links)?)
 }
 
 // For each package, the number of its library's crate; `None` if it has none in the plan.
@@ -217,6 +121,56 @@ fn crate_numbers(
     Ok(numbers)
 }
 
+// Whether there is a link of that name.
+fn has_link(links: &[Link], name: &str) -> bool {
+    for link in links {
+        if link.name.as_str() == name {
+            return true;
+        }
+    }
+    false
+}
+
+// Adds a link, if there is none of that name. A dependency may be one of tests too.
+fn add_link(links: &mut Vec<Link>, name: String, number: usize) -> Result<(), AllocError> {
+    if !has_link(links, name.as_str()) {
+        links.push(Link { name, number })?;
+    }
+    Ok(())
+}
+
+// Returns the name by which a package knows the library of a dependency.
+fn link_name(
+    alloc: Global,
+    dependency: &Dependency<'_>,
+    to: &Package<'_>,
+) -> Result<String, AllocError> {
+    if dependency.is_renamed {
+        name_in_code(alloc, dependency.key)
+    } else {
+        to.library_name(alloc)
+    }
+}
+
+// Adds the link of a dependency, if it is used and its crate is in the plan.
+fn add_edge(
+    alloc: Global,
+    resolution: &Resolution<'_>,
+    numbers: &[Option<usize>],
+    edge: Edge,
+    links: &mut Vec<Link>,
+) -> Result<(), AllocError> {
+    if let Some(package) = resolution.packages.get(edge.from)
+        && let Some(dependency) = package.dependencies.get(edge.dependency)
+        && let Some(to) = resolution.packages.get(edge.to)
+        && let Some(Some(linked)) = numbers.get(edge.to)
+        && resolution.uses(edge.from, dependency)
+    {
+        add_link(links, link_name(alloc, dependency, to)?, *linked)?;
+    }
+    Ok(())
+}
+
 // Returns the links of a crate of package `number`.
 fn links_of(
     alloc: Global,
@@ -226,22 +180,8 @@ fn links_of(
 ) -> Result<Vec<Link>, AllocError> {
     let mut links = Vec::new(alloc);
     for edge in resolution.edges.iter() {
-        if edge.from == number
-            && let Some(package) = resolution.packages.get(number)
-            && let Some(dependency) = package.dependencies.get(edge.dependency)
-            && let Some(to) = resolution.packages.get(edge.to)
-            && let Some(Some(linked)) = numbers.get(edge.to)
-            && resolution.uses(number, dependency.key)
-        {
-            let name = if dependency.is_renamed {
-                name_in_code(alloc, dependency.key)?
-            } else {
-                to.library_name(alloc)?
-            };
-            links.push(Link {
-                name,
-                number: *linked,
-            })?;
+        if edge.from == number {
+            add_edge(alloc, resolution, numbers, *edge, &mut links)?;
         }
     }
     Ok(links)
@@ -263,32 +203,31 @@ fn note_count(
     Ok(())
 }
 
+// Whether a package has a build script.
+fn has_script(files: &mut Files<'_>, package: &Package<'_>) -> Result<bool, Stop> {
+    match member_in(package.value, "package", "build") {
+        Some(Value::Boolean(flag)) => Ok(*flag),
+        Some(_) => Ok(true),
+        None => {
+            let path = join(files.alloc, package.folder(), "build.rs")?;
+            files.is_there(path.as_str())
+        }
+    }
+}
+
 // Returns how many packages have a build script.
 fn build_scripts(files: &mut Files<'_>, resolution: &Resolution<'_>) -> Result<usize, Stop> {
     let mut count = 0usize;
     let mut is_unread = false;
     for package in resolution.packages.iter() {
-        let declared = match package.value.get("package") {
-            Some(table) => table.get("build"),
-            None => None,
-        };
-        let has_script = match declared {
-            Some(Value::Boolean(flag)) => *flag,
-            Some(_) => true,
-            None => {
-                let path = join(files.alloc, package.folder(), "build.rs")?;
-                match files.is_there(path.as_str()) {
-                    Ok(is_there) => is_there,
-                    Err(Stop::Unread) => {
-                        is_unread = true;
-                        false
-                    }
-                    Err(stop) => return Err(stop),
+        match has_script(files, package) {
+            Ok(has_script) => {
+                if has_script && !package.is_proc_macro {
+                    count = count.saturating_add(1);
                 }
             }
-        };
-        if has_script && !package.is_proc_macro {
-            count = count.saturating_add(1);
+            Err(Stop::Unread) => is_unread = true,
+            Err(stop) => return Err(stop),
         }
     }
     if is_unread {
@@ -299,19 +238,16 @@ fn build_scripts(files: &mut Files<'_>, resolution: &Resolution<'_>) -> Result<u
 
 // Returns the text `resolver` of a manifest.
 fn resolver_of(document: &Document) -> Option<&str> {
-    let value = document.value.as_ref()?;
-    for table in ["workspace", "package"] {
-        if let Some(table) = value.get(table)
-            && let Some(resolver) = text_at(table, "resolver")
-        {
-            return Some(resolver);
-        }
+    if let Some(table) = document.member("workspace")
+        && let Some(resolver) = text_at(table, "resolver")
+    {
+        return Some(resolver);
     }
-    None
+    text_at(package_table(document)?, "resolver")
 }
 
-// Whether Cargo unifies the features of all kinds of dependencies for this package: by resolver 1,
-// which is the default of workspaces without a package and before edition 2021.
+// Whether Cargo unifies the features of all kinds of dependencies for this package. Resolver 1
+// does. It is the default of workspaces without a package and before edition 2021.
 fn is_unified(root: &Package<'_>) -> bool {
     let document = root.workspace.unwrap_or(root.document);
     match resolver_of(document) {
@@ -322,9 +258,19 @@ fn is_unified(root: &Package<'_>) -> bool {
 
 // Whether the package has dependencies that the plan leaves out.
 fn has_other_dependencies(package: &Package<'_>) -> bool {
-    package.value.get("target").is_some()
-        || package.value.get("build-dependencies").is_some()
-        || package.is_local && package.value.get("dev-dependencies").is_some()
+    member(package.value, "target").is_some()
+        || member(package.value, "build-dependencies").is_some()
+        || package.is_local && member(package.value, "dev-dependencies").is_some()
+}
+
+// Whether one of the packages has dependencies that the plan leaves out.
+fn any_has_others(packages: &[Package<'_>]) -> bool {
+    for package in packages {
+        if has_other_dependencies(package) {
+            return true;
+        }
+    }
+    false
 }
 
 // Adds a note if Cargo may enable more features.
@@ -335,7 +281,7 @@ fn note_resolver(
 ) -> Result<(), AllocError> {
     if let Some(root) = resolution.packages.first()
         && is_unified(root)
-        && resolution.packages.iter().any(has_other_dependencies)
+        && any_has_others(&resolution.packages)
     {
         let message = String::from_str(
             alloc,
@@ -346,69 +292,157 @@ fn note_resolver(
     Ok(())
 }
 
+// Returns how many packages are procedural macros.
+fn proc_macros(packages: &[Package<'_>]) -> usize {
+    let mut count = 0usize;
+    for package in packages {
+        if package.is_proc_macro {
+            count = count.saturating_add(1);
+        }
+    }
+    count
+}
+
 // Returns the notes on what the plan leaves out.
 fn notes_of(files: &mut Files<'_>, resolution: &Resolution<'_>) -> Result<Vec<Problem>, Stop> {
+    let mut notes = Vec::new(files.alloc);
+    add_counts(files, resolution, &mut notes)?;
+    note_resolver(files.alloc, &mut notes, resolution)?;
+    Ok(notes)
+}
+
+// Adds notes on the procedural macros and the build scripts.
+fn add_counts(
+    files: &mut Files<'_>,
+    resolution: &Resolution<'_>,
+    notes: &mut Vec<Problem>,
+) -> Result<(), Stop> {
     let alloc = files.alloc;
-    let mut notes = Vec::new(alloc);
     let scripts = build_scripts(files, resolution)?;
-    let macros = resolution
-        .packages
-        .iter()
-        .filter(|package| package.is_proc_macro)
-        .count();
+    let macros = proc_macros(&resolution.packages);
     if let Some(root) = resolution.packages.first() {
         note_count(
             alloc,
-            &mut notes,
+            notes,
             root,
             macros,
             "procedural macros that are not expanded",
         )?;
         note_count(
             alloc,
-            &mut notes,
+            notes,
             root,
             scripts,
             "build scripts that are not run, so `cfg`s that they set are not set",
         )?;
     }
-    note_resolver(alloc, &mut notes, resolution)?;
-    Ok(notes)
+    Ok(())
 }
 
-/// Returns the plan of a target of the root package.
+// Returns the crates of a target of the root package, its own first.
+fn crates_of(
+    files: &mut Files<'_>,
+    resolution: &Resolution<'_>,
+    root: &Package<'_>,
+    target: &Target<'_>,
+) -> Result<Vec<PlannedCrate>, Stop> {
+    let alloc = files.alloc;
+    let is_library = target.kind == TargetKind::Library;
+    let has_own = !is_library && has_library(files, root)?;
+    let numbers = crate_numbers(alloc, resolution, is_library, has_own)?;
+    let first = first_crate(alloc, resolution, &numbers, root, target, has_own)?;
+    let mut crates = Vec::new(alloc);
+    crates.push(first)?;
+    add_libraries(alloc, resolution, &numbers, &mut crates)?;
+    Ok(crates)
+}
+
+// Returns the crate of a target of the root package. `has_own` says that it uses the library.
+fn first_crate(
+    alloc: Global,
+    resolution: &Resolution<'_>,
+    numbers: &[Option<usize>],
+    root: &Package<'_>,
+    target: &Target<'_>,
+    has_own: bool,
+) -> Result<PlannedCrate, Stop> {
+    let mut first = planned(alloc, resolution, numbers, 0, root, target)?;
+    if has_own {
+        add_link(&mut first.links, root.library_name(alloc)?, 1)?;
+    }
+    Ok(first)
+}
+
+// Adds the crates of libraries, those of the numbers from 1.
+fn add_libraries(
+    alloc: Global,
+    resolution: &Resolution<'_>,
+    numbers: &[Option<usize>],
+    crates: &mut Vec<PlannedCrate>,
+) -> Result<(), Stop> {
+    for (number, package) in resolution.packages.iter().enumerate() {
+        if let Some(Some(at)) = numbers.get(number)
+            && *at > 0
+        {
+            crates.push(library_crate(alloc, resolution, numbers, number, package)?)?;
+        }
+    }
+    Ok(())
+}
+
+// Returns the crate of the library of package `number`.
+fn library_crate(
+    alloc: Global,
+    resolution: &Resolution<'_>,
+    numbers: &[Option<usize>],
+    number: usize,
+    package: &Package<'_>,
+) -> Result<PlannedCrate, Stop> {
+    let target = library(alloc, package)?;
+    planned(alloc, resolution, numbers, number, package, &target)
+}
+
+// Copies an option for `cfg`.
+fn planned_cfg(alloc: Global, cfg: Cfg<'_>) -> Result<PlannedCfg, AllocError> {
+    let value = match cfg.value {
+        Some(value) => Some(String::from_str(alloc, value)?),
+        None => None,
+    };
+    Ok(PlannedCfg {
+        name: String::from_str(alloc, cfg.name)?,
+        value,
+    })
+}
+
+// Copies options for `cfg`.
+fn copied_cfgs(alloc: Global, cfgs: &[Cfg<'_>]) -> Result<Vec<PlannedCfg>, AllocError> {
+    let mut found = Vec::new(alloc);
+    for cfg in cfgs {
+        found.push(planned_cfg(alloc, *cfg)?)?;
+    }
+    Ok(found)
+}
+
+/// Returns the plan of a target of the root package, for a platform, with the options for `cfg`
+/// that Cargo's settings give.
 pub fn plan_of(
     files: &mut Files<'_>,
     resolution: &Resolution<'_>,
-    target: Target,
+    target: &Target<'_>,
+    triple: &str,
+    cfgs: &[Cfg<'_>],
 ) -> Result<Plan, Stop> {
     let alloc = files.alloc;
     let Some(root) = resolution.packages.first() else {
         return Err(Stop::Unread);
     };
-    let is_library = target.is_library;
-    let has_own = !is_library && has_library(files, root)?;
     let notes = notes_of(files, resolution)?;
-    let numbers = crate_numbers(alloc, resolution, is_library, has_own)?;
-    let mut crates = Vec::new(alloc);
-    let mut first = crate_of(alloc, resolution, 0, root, target)?;
-    first.links = links_of(alloc, resolution, &numbers, 0)?;
-    if has_own {
-        first.links.push(Link {
-            name: root.library_name(alloc)?,
-            number: 1,
-        })?;
-    }
-    crates.push(first)?;
-    for (number, package) in resolution.packages.iter().enumerate() {
-        if let Some(Some(at)) = numbers.get(number)
-            && *at > 0
-        {
-            let target = library(alloc, package)?;
-            let mut one = crate_of(alloc, resolution, number, package, target)?;
-            one.links = links_of(alloc, resolution, &numbers, number)?;
-            crates.push(one)?;
-        }
-    }
-    Ok(Plan { crates, notes })
+    Ok(Plan {
+        crates: crates_of(files, resolution, root, target)?,
+        manifest: String::from_str(alloc, root.document.path.as_str())?,
+        triple: String::from_str(alloc, triple)?,
+        is_test: target.is_test(),
+        cfgs: copied_cfgs(alloc, cfgs)?,
+        notes,
+    })
 }

@@ -19,18 +19,22 @@ fn is_key_line(line: &str, key: &str) -> bool {
     }
 }
 
-// Returns the name between the brackets of a line `[name]`.
+// Returns the name between the brackets of a line `[name]` or `[[name]]`.
 fn section_of(line: &str) -> Option<&str> {
-    let line = line.trim();
-    line.strip_prefix('[')?.strip_suffix(']')
+    let name = line.trim().strip_prefix('[')?.strip_suffix(']')?;
+    match name.strip_prefix('[') {
+        Some(inner) => inner.strip_suffix(']'),
+        None => Some(name),
+    }
 }
 
 // Whether a section is `table.key`.
 fn is_section_of(section: &str, table: &str, key: &str) -> bool {
     match section.strip_suffix(key) {
-        Some(before) => before
-            .strip_suffix('.')
-            .is_some_and(|before| before.ends_with(table)),
+        Some(before) => match before.strip_suffix('.') {
+            Some(before) => before.ends_with(table),
+            None => false,
+        },
         None => false,
     }
 }

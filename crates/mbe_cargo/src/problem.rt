@@ -3,7 +3,7 @@ use std::alloc::{AllocError, AllocFailed, Global};
 
 /// An error or a note, with its position in a file. Lines and columns count from 1; line 0 stands
 /// for the whole file.
-#[derive(Drop, Debug)]
+#[derive(Drop)]
 pub struct Problem {
     pub path: String,
     pub line: usize,
@@ -12,7 +12,7 @@ pub struct Problem {
 }
 
 /// Why a step of the plan stops.
-#[derive(Drop, Debug)]
+#[derive(Drop)]
 pub enum Stop {
     OutOfMemory,
     /// A file that the step needs isn't read yet.
@@ -45,4 +45,17 @@ pub fn problem_at(
         column: place.1,
         message,
     })
+}
+
+/// Adds a name to the end of an error, which lists the names that there are.
+pub fn add_name(names: &mut String, name: &str) -> Result<(), AllocError> {
+    let before = if names.is_empty() {
+        "; it has `"
+    } else {
+        ", `"
+    };
+    names.push_str(before)?;
+    names.push_str(name)?;
+    names.push('`')?;
+    Ok(())
 }

@@ -1,8 +1,14 @@
 // Reads the files of crates from the file system into a set of files.
+//
+// A file is known by its canonical path. So one that two paths lead to is read once, and a file
+// that is reached from itself is found, by whatever path.
+use crate::output_paths::is_below;
 use mbe_cfg::crates::module_inliner::UnresolvedFile;
 use mbe_cfg::files::module_dir::Candidates;
 use mbe_session::file_set::FileSet;
 use mbe_session::session_options::SessionOptions;
+use std::alloc::{AllocError, Global};
+use std::collections::BTreeMap;
 use std::fs;
 use std::io::{self, Read};
 use std::rt::Files;
@@ -19,77 +25,256 @@ pub fn file_text<R: Files + AllocGlobal>(rt: &R, path: &str) -> io::Result<Strin
     Ok(text)
 }
 
-// Adds a file of a module, if it can be read and isn't there yet.
-fn add_file<R: Files + AllocGlobal>(
-    rt: &R,
-    files: &mut FileSet,
-    root: usize,
-    path: &str,
-    name: Option<&str>,
-) -> io::Result<()> {
-    if files.number_of(path).is_some() {
-        return Ok(());
-    }
-    match file_text(rt, path) {
-        Ok(text) => {
-            files.add_module(rt.alloc(), root, path, name, text)?;
-            Ok(())
-        }
+// Where a file of the set comes from.
+#[derive(Drop)]
+struct ReachedFile {
+    // The canonical path, or the path itself if the file has none.
+    whole: String,
+    // The number of the file that names it; `None` for the root of a crate.
+    parent: Option<usize>,
+}
+
+// A file that may be added to the set: of a module, or of an `include!`.
+#[derive(Clone, Copy, Drop)]
+struct NamedFile<'n> {
+    path: &'n str,
+    // The module's name if its own modules are looked for in the folder of that name.
+    name: Option<&'n str>,
+    // The number of the file that names it.
+    parent: usize,
+}
+
+/// Reads the files of crates into a set: the roots, and then the files of their modules.
+#[derive(Drop)]
+pub struct FileReader {
+    pub files: FileSet,
+    /// Texts of notes on files that aren't read.
+    pub notes: Vec<String>,
+    // The canonical paths of the folders that modules are read from; any if there is none.
+    folders: Vec<String>,
+    reached: Vec<ReachedFile>,
+    by_path: BTreeMap<String, usize>,
+    by_whole: BTreeMap<String, usize>,
+}
+
+// Returns the canonical path of a file; the path itself if the file has none.
+fn whole_path<R: Files + AllocGlobal>(rt: &R, path: &str) -> io::Result<String> {
+    match fs::canonicalize(rt, path) {
+        Ok(whole) => Ok(whole.into_string()),
         Err(error) if error.kind() == io::ErrorKind::OutOfMemory => Err(error),
-        Err(_) => Ok(()),
+        Err(_) => Ok(String::from_str(rt.alloc(), path)?),
     }
 }
 
-// Adds the files that may hold a module, or the file of an `include!`.
-fn add_module<R: Files + AllocGlobal>(
-    rt: &R,
-    files: &mut FileSet,
-    root: usize,
-    module: &UnresolvedFile,
-) -> io::Result<()> {
-    match &module.candidates {
-        Candidates::Included(path) | Candidates::Given(path) => {
-            add_file(rt, files, root, path.as_str(), None)
+impl FileReader {
+    /// Returns a reader that has read nothing. It reads the files of modules only below one of
+    /// `folders`, or any if that is empty. The inner error is the text of a message: a folder
+    /// can't be read.
+    pub fn new<R: Files + AllocGlobal>(
+        rt: &R,
+        folders: &[&str],
+    ) -> io::Result<Result<FileReader, String>> {
+        let alloc = rt.alloc();
+        let mut wholes = Vec::new(alloc);
+        for folder in folders {
+            match fs::canonicalize(rt, *folder) {
+                Ok(whole) => wholes.push(whole.into_string())?,
+                Err(error) => {
+                    return Ok(Err(format!(in alloc; "couldn't read `{folder}`: {error}")?));
+                }
+            }
         }
-        Candidates::Usual(beside, nested) => {
-            add_file(rt, files, root, beside.as_str(), Some(module.name.as_str()))?;
-            add_file(rt, files, root, nested.as_str(), None)
-        }
+        Ok(Ok(FileReader {
+            files: FileSet::new(alloc),
+            notes: Vec::new(alloc),
+            folders: wholes,
+            reached: Vec::new(alloc),
+            by_path: BTreeMap::new(alloc),
+            by_whole: BTreeMap::new(alloc),
+        }))
     }
-}
 
-/// Adds the root of an external crate: the file `path`, or `src/lib.rs` in the folder `path`. The
-/// error is that of the file `path`.
-pub fn add_extern_root<R: Files + AllocGlobal>(
-    rt: &R,
-    files: &mut FileSet,
-    options: &SessionOptions<'_>,
-    path: &str,
-) -> io::Result<()> {
-    match file_text(rt, path) {
-        Ok(text) => Ok(files.add_root(rt.alloc(), options, path, text)?),
-        Err(error) => {
-            let root = format!(in rt.alloc(); "{path}/src/lib.rs")?;
-            match file_text(rt, root.as_str()) {
-                Ok(text) => Ok(files.add_root(rt.alloc(), options, root.as_str(), text)?),
-                Err(_) => Err(error),
+    // Records where the next file of the set comes from.
+    fn record(
+        &mut self,
+        alloc: Global,
+        path: &str,
+        whole: String,
+        parent: Option<usize>,
+    ) -> Result<(), AllocError> {
+        let number = self.reached.len();
+        self.by_path.insert(String::from_str(alloc, path)?, number)?;
+        self.by_whole
+            .insert(String::from_str(alloc, whole.as_str())?, number)?;
+        self.reached.push(ReachedFile { whole, parent })?;
+        Ok(())
+    }
+
+    /// Adds the root of a crate, with its text.
+    pub fn add_root<R: Files + AllocGlobal>(
+        &mut self,
+        rt: &R,
+        options: &SessionOptions<'_>,
+        path: &str,
+        text: String,
+    ) -> io::Result<()> {
+        let whole = whole_path(rt, path)?;
+        self.record(rt.alloc(), path, whole, None)?;
+        self.files.add_root(rt.alloc(), options, path, text)?;
+        Ok(())
+    }
+
+    /// Adds the root of an external crate: the file `path`, or `src/lib.rs` in the folder `path`.
+    /// The error is that of the file `path`.
+    pub fn add_extern_root<R: Files + AllocGlobal>(
+        &mut self,
+        rt: &R,
+        options: &SessionOptions<'_>,
+        path: &str,
+    ) -> io::Result<()> {
+        match file_text(rt, path) {
+            Ok(text) => self.add_root(rt, options, path, text),
+            Err(error) => {
+                let root = format!(in rt.alloc(); "{path}/src/lib.rs")?;
+                match file_text(rt, root.as_str()) {
+                    Ok(text) => self.add_root(rt, options, root.as_str(), text),
+                    Err(_) => Err(error),
+                }
             }
         }
     }
-}
 
-/// Adds the files of the modules of file `number`. Files that are in the set already, such as with
-/// an editor's text, are not read. Files that can't be read are left out. An error says that memory
-/// ran out.
-pub fn add_modules<R: Files + AllocGlobal>(
-    rt: &R,
-    files: &mut FileSet,
-    options: &SessionOptions<'_>,
-    number: usize,
-) -> io::Result<()> {
-    let root = files.roots.get(number).copied().unwrap_or(0);
-    for module in &files.modules(rt.alloc(), options, number)? {
-        add_module(rt, files, root, module)?;
+    // Returns the number of a file with that canonical path from which file `number` is reached,
+    // or of file `number` itself.
+    fn around(&self, number: usize, whole: &str) -> Option<usize> {
+        let mut next = Some(number);
+        for _ in 0..self.reached.len() {
+            let file = self.reached.get(next?)?;
+            if file.whole.as_str() == whole {
+                return next;
+            }
+            next = file.parent;
+        }
+        None
     }
-    Ok(())
+
+    // Whether files of modules may be read there.
+    fn is_allowed(&self, whole: &str) -> bool {
+        self.folders.is_empty()
+            || self
+                .folders
+                .iter()
+                .any(|folder| is_below(folder.as_str(), whole))
+    }
+
+    // Returns the text of a file that was read before, by its number; else reads the file. `None`
+    // if the file can't be read.
+    fn text_once<R: Files + AllocGlobal>(
+        &self,
+        rt: &R,
+        known: Option<usize>,
+        path: &str,
+    ) -> io::Result<Option<String>> {
+        if let Some(number) = known
+            && let Some(named) = self.files.texts.get(number)
+        {
+            return Ok(Some(String::from_str(rt.alloc(), named.text.as_str())?));
+        }
+        match file_text(rt, path) {
+            Ok(text) => Ok(Some(text)),
+            Err(error) if error.kind() == io::ErrorKind::OutOfMemory => Err(error),
+            Err(_) => Ok(None),
+        }
+    }
+
+    // Adds a file, if it can be read, isn't there yet, and isn't reached from itself.
+    fn add_file<R: Files + AllocGlobal>(&mut self, rt: &R, file: NamedFile<'_>) -> io::Result<()> {
+        let (path, alloc) = (file.path, rt.alloc());
+        if self.by_path.contains_key(path) || !fs::exists(rt, path).unwrap_or(false) {
+            return Ok(());
+        }
+        let whole = whole_path(rt, path)?;
+        if !self.is_allowed(whole.as_str()) {
+            let note = format!(in alloc;
+                "`{path}` isn't read: it isn't below a folder of `--root`"
+            )?;
+            self.notes.push(note)?;
+            return Ok(());
+        }
+        let known = self.by_whole.get(whole.as_str()).copied();
+        if known.is_some()
+            && let Some(around) = self.around(file.parent, whole.as_str())
+            && let Some(named) = self.files.texts.get(around)
+        {
+            let name = named.name.as_str();
+            let note = format!(in alloc;
+                "circular: `{path}` is `{name}`, which it is reached from"
+            )?;
+            self.notes.push(note)?;
+            return Ok(());
+        }
+        if let Some(text) = self.text_once(rt, known, path)? {
+            let root = self.files.roots.get(file.parent).copied().unwrap_or(0);
+            self.record(alloc, path, whole, Some(file.parent))?;
+            self.files.add_module(alloc, root, path, file.name, text)?;
+        }
+        Ok(())
+    }
+
+    // Adds the files that may hold a module, or the file of an `include!`.
+    fn add_module<R: Files + AllocGlobal>(
+        &mut self,
+        rt: &R,
+        parent: usize,
+        module: &UnresolvedFile,
+    ) -> io::Result<()> {
+        let file = NamedFile {
+            path: "",
+            name: None,
+            parent,
+        };
+        match &module.candidates {
+            Candidates::Included(path) | Candidates::Given(path) => {
+                self.add_file(
+                    rt,
+                    NamedFile {
+                        path: path.as_str(),
+                        ..file
+                    },
+                )
+            }
+            Candidates::Usual(beside, nested) => {
+                let name = Some(module.name.as_str());
+                self.add_file(
+                    rt,
+                    NamedFile {
+                        path: beside.as_str(),
+                        name,
+                        ..file
+                    },
+                )?;
+                self.add_file(
+                    rt,
+                    NamedFile {
+                        path: nested.as_str(),
+                        ..file
+                    },
+                )
+            }
+        }
+    }
+
+    /// Adds the files of the modules of file `number`. Files that can't be read are left out. An
+    /// error says that memory ran out.
+    pub fn add_modules<R: Files + AllocGlobal>(
+        &mut self,
+        rt: &R,
+        options: &SessionOptions<'_>,
+        number: usize,
+    ) -> io::Result<()> {
+        for module in &self.files.modules(rt.alloc(), options, number)? {
+            self.add_module(rt, number, module)?;
+        }
+        Ok(())
+    }
 }

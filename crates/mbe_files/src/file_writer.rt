@@ -1,137 +1,40 @@
-// Writes expanded files into a folder. Each file is written whole or not at all, and no file that
-// was read is overwritten.
-use crate::output_paths::targets;
+// Writes expanded files into a folder: all of them, or none.
+//
+// Each text is written into a file of another name first, beside its target. When all are written,
+// each is renamed. What was at a target is kept under another name up to the end. So if a write or
+// a rename fails, what was there before comes back.
+use crate::file_reader::file_text;
+use crate::write_conflicts::{OutputPlan, found};
+use crate::written_files::{LIST_NAME, list_with};
 use mbe_cfg::files::paths::folder_of;
-use mbe_session::file_set::FileSet;
-use mbe_session::session::NamedText;
-use std::alloc::Global;
-use std::fs::{self, File, Metadata};
+use std::fs::{self, File};
 use std::io::{self, Write};
-use std::os::unix::fs::MetadataExt;
 use std::rt::Files;
 
 // The limit of names that are tried for a temporary file.
 const MAX_TEMP_NAMES: u32 = 1000;
 
-// Returns the metadata of a path; `None` if nothing is there.
-fn found(metadata: io::Result<Metadata>) -> io::Result<Option<Metadata>> {
-    match metadata {
-        Ok(metadata) => Ok(Some(metadata)),
-        Err(error) if error.kind() == io::ErrorKind::NotFound => Ok(None),
-        Err(error) => Err(error),
-    }
+// A text that is written, and not yet at its target.
+#[derive(Drop)]
+struct WrittenText {
+    target: String,
+    temporary: String,
+    // Another name of the file that was at the target, and is overwritten.
+    old: Option<String>,
+    is_renamed: bool,
 }
 
-// Whether two paths lead to one file: the same number on the same device.
-fn is_same(one: &Metadata, other: &Metadata) -> bool {
-    one.dev() == other.dev() && one.ino() == other.ino()
+// The files that a run makes.
+#[derive(Drop)]
+struct WrittenTexts {
+    texts: Vec<WrittenText>,
+    // The folders that were made, each before those in it.
+    folders: Vec<String>,
 }
 
-// Returns the metadata of each input file, in order. `None` for standard input, and for a file that
-// is gone.
-fn input_metadata<R: Files + AllocGlobal>(
-    rt: &R,
-    texts: &[NamedText],
-) -> io::Result<Vec<Option<Metadata>>> {
-    let mut all = Vec::new(rt.alloc());
-    for named in texts {
-        if named.name.as_str() == "-" {
-            all.push(None)?;
-        } else {
-            all.push(found(fs::metadata(rt, named.name.as_str()))?)?;
-        }
-    }
-    Ok(all)
-}
-
-// Returns the name of the input that is the same file as the target.
-fn find_input<'t>(
-    texts: &'t [NamedText],
-    read: &[Option<Metadata>],
-    target: &Metadata,
-) -> Option<&'t str> {
-    for (named, read) in texts.iter().zip(read.iter()) {
-        if let Some(read) = read
-            && is_same(read, target)
-        {
-            return Some(named.name.as_str());
-        }
-    }
-    None
-}
-
-// Returns why a file that is there can't be overwritten, as the text of an error.
-fn file_conflict(
-    alloc: Global,
-    folder: &str,
-    path: &str,
-    target: &Metadata,
-    texts: &[NamedText],
-    read: &[Option<Metadata>],
-) -> io::Result<Option<String>> {
-    if !target.is_file() {
-        return Ok(Some(format!(in alloc; "`{path}` is there, and isn't a file")?));
-    }
-    match find_input(texts, read, target) {
-        Some(name) => Ok(Some(format!(in alloc;
-            "`--write {folder}` would overwrite `{name}`, which this run reads"
-        )?)),
-        None => Ok(None),
-    }
-}
-
-// Returns an error text if nothing can be written at the target. Either a symbolic link is on the
-// path, or the file there can't be overwritten.
-fn target_conflict<R: Files + AllocGlobal>(
-    rt: &R,
-    folder: &str,
-    target: &str,
-    texts: &[NamedText],
-    read: &[Option<Metadata>],
-) -> io::Result<Option<String>> {
-    let mut path = String::from_str(rt.alloc(), folder)?;
-    let mut last = None;
-    for part in target.split('/') {
-        path.push('/')?;
-        path.push_str(part)?;
-        last = found(fs::symlink_metadata(rt, path.as_str()))?;
-        if let Some(there) = &last
-            && there.is_symlink()
-        {
-            return Ok(Some(format!(in rt.alloc();
-                "`{path}` is a symbolic link, and `--write` follows none"
-            )?));
-        }
-    }
-    match &last {
-        Some(there) => file_conflict(rt.alloc(), folder, path.as_str(), there, texts, read),
-        None => Ok(None),
-    }
-}
-
-// Returns why nothing can be written into the folder, as the text of an error. The folder's name
-// is empty, an input would be overwritten, something there isn't a file, or a symbolic link would
-// be followed. `texts` are the inputs of the run.
-fn write_conflict<R: Files + AllocGlobal>(
-    rt: &R,
-    folder: &str,
-    targets: &[Option<String>],
-    texts: &[NamedText],
-) -> io::Result<Option<String>> {
-    if folder.is_empty() {
-        return Ok(Some(String::from_str(rt.alloc(), "the folder after `--write` is empty")?));
-    }
-    let read = input_metadata(rt, texts)?;
-    for target in targets {
-        let Some(target) = target else {
-            continue;
-        };
-        let refused = target_conflict(rt, folder, target.as_str(), texts, read.as_slice())?;
-        if refused.is_some() {
-            return Ok(refused);
-        }
-    }
-    Ok(None)
+// Writes the whole text into a file, and closes it.
+fn write_and_close<W: Write + Drop>(mut file: W, text: &str) -> io::Result<()> {
+    file.write_all(text.as_bytes())
 }
 
 // Creates a file in the folder, under a name that no other file has.
@@ -147,68 +50,216 @@ fn create_temp_file<R: Files + AllocGlobal>(rt: &R, folder: &str) -> io::Result<
     Err(io::Error::from(io::ErrorKind::AlreadyExists))
 }
 
-// Writes the whole text into a file, and closes it.
-fn write_and_close<W: Write + Drop>(mut file: W, text: &str) -> io::Result<()> {
-    file.write_all(text.as_bytes())
-}
-
-// Writes a text to the target in the folder, whole or not at all. Missing folders are created.
-fn write_text<R: Files + AllocGlobal>(
-    rt: &R,
-    folder: &str,
-    target: &str,
-    text: &str,
-) -> io::Result<()> {
-    let path = format!(in rt.alloc(); "{folder}/{target}")?;
-    let parent = folder_of(path.as_str());
-    fs::create_dir_all(rt, parent)?;
-    let (temporary, file) = create_temp_file(rt, parent)?;
-    let written = match write_and_close(file, text) {
-        Ok(()) => fs::rename(rt, temporary.as_str(), path.as_str()),
-        Err(error) => Err(error),
-    };
-    if written.is_err() {
-        let _ = fs::remove_file(rt, temporary.as_str());
+// Gives the file another name in its folder, which it has beside its own. Where the file system
+// has no such names, the file has the other name alone.
+fn keep_old<R: Files + AllocGlobal>(rt: &R, path: &str) -> io::Result<String> {
+    let folder = folder_of(path);
+    for number in 0..MAX_TEMP_NAMES {
+        let name = format!(in rt.alloc(); "{folder}/.expandm-{number}.old")?;
+        match fs::hard_link(rt, path, name.as_str()) {
+            Ok(()) => return Ok(name),
+            Err(error) if error.kind() == io::ErrorKind::AlreadyExists => {}
+            Err(_) => {
+                fs::rename(rt, path, name.as_str())?;
+                return Ok(name);
+            }
+        }
     }
-    written
+    Err(io::Error::from(io::ErrorKind::AlreadyExists))
 }
 
-/// Returns what `targets` returns. The inner error may also say that nothing can be written at some
-/// target: an input would be overwritten, something there isn't a file, or a symbolic link would be
-/// followed. Nothing is written.
-pub fn safe_targets<R: Files + AllocGlobal>(
-    rt: &R,
-    files: &FileSet,
-    folder: &str,
-    root_count: usize,
-) -> io::Result<Result<Vec<Option<String>>, String>> {
-    let targets = match targets(rt.alloc(), files, folder, root_count)? {
-        Ok(targets) => targets,
-        Err(message) => return Ok(Err(message)),
-    };
-    match write_conflict(rt, folder, targets.as_slice(), files.texts.as_slice()) {
-        Ok(None) => Ok(Ok(targets)),
-        Ok(Some(message)) => Ok(Err(message)),
-        Err(error) => Ok(Err(format!(in rt.alloc(); "couldn't write into `{folder}`: {error}")?)),
+impl WrittenTexts {
+    // Makes a folder and those around it, if they are missing.
+    fn make_folder<R: Files + AllocGlobal>(&mut self, rt: &R, folder: &str) -> io::Result<()> {
+        let mut path = String::new(rt.alloc());
+        for (number, part) in folder.split('/').enumerate() {
+            if number > 0 {
+                path.push('/')?;
+            }
+            path.push_str(part)?;
+            if part.is_empty() || found(fs::metadata(rt, path.as_str()))?.is_some() {
+                continue;
+            }
+            fs::create_dir(rt, path.as_str())?;
+            self.folders
+                .push(String::from_str(rt.alloc(), path.as_str())?)?;
+        }
+        Ok(())
+    }
+
+    // Writes a text into a temporary file beside the target.
+    fn write<R: Files + AllocGlobal>(
+        &mut self,
+        rt: &R,
+        target: &str,
+        text: &str,
+    ) -> io::Result<()> {
+        let folder = folder_of(target);
+        self.make_folder(rt, folder)?;
+        let (temporary, file) = create_temp_file(rt, folder)?;
+        self.texts.push(WrittenText {
+            target: String::from_str(rt.alloc(), target)?,
+            temporary,
+            old: None,
+            is_renamed: false,
+        })?;
+        write_and_close(file, text)
+    }
+
+    // Writes the text of each file that has a target, and the list of all targets, into temporary
+    // files. Returns the text of an error.
+    fn write_all<R: Files + AllocGlobal>(
+        &mut self,
+        rt: &R,
+        folder: &str,
+        plan: &OutputPlan,
+        texts: &[String],
+    ) -> io::Result<Option<String>> {
+        for (target, text) in plan.targets.iter().zip(texts.iter()) {
+            if let Some(target) = target {
+                let path = format!(in rt.alloc(); "{folder}/{target}")?;
+                if let Err(error) = self.write(rt, path.as_str(), text.as_str()) {
+                    return Ok(Some(format!(in rt.alloc(); "couldn't write `{path}`: {error}")?));
+                }
+            }
+        }
+        let list = list_with(rt.alloc(), plan.listed.as_str(), plan.targets.as_slice())?;
+        let path = format!(in rt.alloc(); "{folder}/{LIST_NAME}")?;
+        match self.write(rt, path.as_str(), list.as_str()) {
+            Ok(()) => Ok(None),
+            Err(error) => Ok(Some(format!(in rt.alloc(); "couldn't write `{path}`: {error}")?)),
+        }
+    }
+
+    // Renames each file to its target. Returns the text of an error.
+    fn rename_all<R: Files + AllocGlobal>(&mut self, rt: &R) -> io::Result<Option<String>> {
+        for text in &mut self.texts {
+            if let Err(error) = text.rename(rt) {
+                let path = text.target.as_str();
+                return Ok(Some(format!(in rt.alloc(); "couldn't write `{path}`: {error}")?));
+            }
+        }
+        Ok(None)
+    }
+
+    // Brings back what was there before, as far as that succeeds.
+    fn undo<R: Files>(&self, rt: &R) {
+        for text in &self.texts {
+            text.undo(rt);
+        }
+        for folder in self.folders.iter().rev() {
+            let _ = fs::remove_dir(rt, folder.as_str());
+        }
+    }
+
+    // Removes the other names of files that were overwritten.
+    fn drop_old<R: Files>(&self, rt: &R) {
+        for text in &self.texts {
+            if let Some(old) = &text.old {
+                let _ = fs::remove_file(rt, old.as_str());
+            }
+        }
     }
 }
 
-/// Writes each text to its target in the folder, in order; a text without a target is left out.
-/// Missing folders are created. Stops at the first target that can't be written, and returns the
-/// text of its error.
+impl WrittenText {
+    // Renames the file to its target. What is there has another name first.
+    fn rename<R: Files + AllocGlobal>(&mut self, rt: &R) -> io::Result<()> {
+        if found(fs::symlink_metadata(rt, self.target.as_str()))?.is_some() {
+            self.old = Some(keep_old(rt, self.target.as_str())?);
+        }
+        fs::rename(rt, self.temporary.as_str(), self.target.as_str())?;
+        self.is_renamed = true;
+        Ok(())
+    }
+
+    // Brings back what was at the target, and removes the temporary file.
+    fn undo<R: Files>(&self, rt: &R) {
+        if let Some(old) = &self.old {
+            let _ = fs::rename(rt, old.as_str(), self.target.as_str());
+            // A rename between two names of one file does nothing.
+            let _ = fs::remove_file(rt, old.as_str());
+        } else if self.is_renamed {
+            let _ = fs::remove_file(rt, self.target.as_str());
+        }
+        if !self.is_renamed {
+            let _ = fs::remove_file(rt, self.temporary.as_str());
+        }
+    }
+}
+
+/// Writes each text to its target in the folder, and lists the targets in the folder's list. A text
+/// without a target is left out. Missing folders are created. Returns the text of an error; then
+/// the folder is as it was before.
 pub fn write_texts<R: Files + AllocGlobal>(
+    rt: &R,
+    folder: &str,
+    plan: &OutputPlan,
+    texts: &[String],
+) -> io::Result<Option<String>> {
+    let mut written = WrittenTexts {
+        texts: Vec::new(rt.alloc()),
+        folders: Vec::new(rt.alloc()),
+    };
+    let mut message = written.write_all(rt, folder, plan, texts);
+    if let Ok(None) = &message {
+        message = written.rename_all(rt);
+    }
+    match &message {
+        Ok(None) => written.drop_old(rt),
+        _ => written.undo(rt),
+    }
+    message
+}
+
+// Whether the file has that text.
+fn has_text<R: Files + AllocGlobal>(rt: &R, path: &str, text: &str) -> io::Result<bool> {
+    match file_text(rt, path) {
+        Ok(found) => Ok(found.as_str() == text),
+        Err(error) => match error.kind() {
+            io::ErrorKind::InvalidData | io::ErrorKind::FileTooLarge => Ok(false),
+            _ => Err(error),
+        },
+    }
+}
+
+// Returns how the file differs from the text, as the text of an error.
+fn difference<R: Files + AllocGlobal>(
+    rt: &R,
+    path: &str,
+    text: &str,
+) -> io::Result<Option<String>> {
+    let Some(there) = found(fs::metadata(rt, path))? else {
+        return Ok(Some(format!(in rt.alloc(); "`{path}` is missing")?));
+    };
+    if there.is_file() && has_text(rt, path, text)? {
+        return Ok(None);
+    }
+    Ok(Some(format!(in rt.alloc(); "`{path}` differs from the expansion")?))
+}
+
+/// Compares each text with the file at its target in the folder. Returns a text for each file that
+/// differs or is missing. The inner error is the text of a message: a file can't be read. Nothing
+/// is written.
+pub fn differences<R: Files + AllocGlobal>(
     rt: &R,
     folder: &str,
     targets: &[Option<String>],
     texts: &[String],
-) -> io::Result<Option<String>> {
+) -> io::Result<Result<Vec<String>, String>> {
+    let mut all = Vec::new(rt.alloc());
     for (target, text) in targets.iter().zip(texts.iter()) {
         let Some(target) = target else {
             continue;
         };
-        if let Err(error) = write_text(rt, folder, target.as_str(), text.as_str()) {
-            return Ok(Some(format!(in rt.alloc(); "couldn't write `{folder}/{target}`: {error}")?));
+        let path = format!(in rt.alloc(); "{folder}/{target}")?;
+        match difference(rt, path.as_str(), text.as_str()) {
+            Ok(Some(message)) => all.push(message)?,
+            Ok(None) => {}
+            Err(error) => {
+                return Ok(Err(format!(in rt.alloc(); "couldn't read `{path}`: {error}")?));
+            }
         }
     }
-    Ok(None)
+    Ok(Ok(all))
 }

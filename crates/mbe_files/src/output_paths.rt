@@ -2,6 +2,7 @@
 use mbe_cfg::files::paths::folder_of;
 use mbe_session::file_set::FileSet;
 use std::alloc::{AllocError, Global};
+use std::collections::BTreeSet;
 
 // Returns the path within a folder. `None` if the path isn't in that folder.
 fn after_folder<'p>(folder: &str, path: &'p str) -> Option<&'p str> {
@@ -47,6 +48,11 @@ fn joined(alloc: Global, parts: &[&str]) -> Result<String, AllocError> {
     Ok(path)
 }
 
+/// Whether a path is below a folder. Both have no `.` and no `..`.
+pub fn is_below(folder: &str, path: &str) -> bool {
+    after_folder(folder, path).is_some()
+}
+
 // Returns the path of a file relative to a folder. `None` if the file isn't below it.
 fn relative(alloc: Global, folder: &str, path: &str) -> Result<Option<String>, AllocError> {
     let Some(rest) = after_folder(folder, path) else {
@@ -82,11 +88,17 @@ fn target(
     }
 }
 
-fn is_among(targets: &[Option<String>], target: &str) -> bool {
-    targets.iter().any(|other| match other {
-        Some(other) => other.as_str() == target,
-        None => false,
-    })
+// Returns a target that two files have.
+fn repeated_target(alloc: Global, targets: &[Option<String>]) -> Result<Option<&str>, AllocError> {
+    let mut seen = BTreeSet::new(alloc);
+    for target in targets {
+        if let Some(target) = target
+            && !seen.insert(target.as_str())?
+        {
+            return Ok(Some(target.as_str()));
+        }
+    }
+    Ok(None)
 }
 
 /// Returns where each file is written, relative to the folder; `None` for the files of external
@@ -107,15 +119,11 @@ pub fn targets(
         let (path, root) = files.path(number).unwrap_or(("", None));
         match target(alloc, path, root)? {
             Err(message) => return Ok(Err(message)),
-            Ok(target) => {
-                if is_among(found.as_slice(), target.as_str()) {
-                    return Ok(Err(format!(in alloc;
-                        "two files would be written as `{folder}/{target}`"
-                    )?));
-                }
-                found.push(Some(target))?;
-            }
+            Ok(target) => found.push(Some(target))?,
         }
+    }
+    if let Some(target) = repeated_target(alloc, found.as_slice())? {
+        return Ok(Err(format!(in alloc; "two files would be written as `{folder}/{target}`")?));
     }
     Ok(Ok(found))
 }

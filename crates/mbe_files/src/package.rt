@@ -1,65 +1,46 @@
-// The Cargo package of a session: its plan by `mbe_cargo`, and the options that the plan sets.
-use crate::file_reader::file_text;
+// The Cargo package of a session: its plans by `mbe_cargo`, and the options that a plan sets.
+use crate::package_reader::{problem_text, read_plans, shown_path};
 use mbe_cargo::cfg_expression::Cfg;
-use mbe_cargo::documents::Need;
-use mbe_cargo::paths::{ancestors, join};
-use mbe_cargo::plan::{Plan, PlannedCrate, TargetChoice};
-use mbe_cargo::planner::{Planner, Request, Step};
-use mbe_cargo::problem::Problem;
+use mbe_cargo::dependencies::Platform;
+use mbe_cargo::paths::{ancestors, folder_of, join};
+use mbe_cargo::plan::{Plan, PlannedCrate};
+use mbe_cargo::planner::{PackageChoice, Request};
+use mbe_cargo::targets::TargetChoice;
 use mbe_cfg::cfg_options::CfgOption;
 use mbe_session::file_set::FileSet;
-use mbe_session::session_options::{CrateSettings, ExternCrate, SessionOptions, edition};
+use mbe_session::session_options::{CrateSettings, ExternCrate, SessionOptions, edition, target};
 use mbe_tt::span::Edition;
 use std::alloc::{AllocError, Global};
 use std::rt::{Env, Files};
 use std::{env, fs, io};
 
-// The limit of steps in which files are read.
-const MAX_STEPS: usize = 10_000;
-
-/// Which crate of which package is planned.
+/// Which crates of which packages are planned.
 #[derive(Drop)]
 pub struct PackageOptions<'w> {
     /// The path of the package's manifest. `None` is the first `Cargo.toml` in the current folder
     /// or above it.
     pub manifest: Option<&'w str>,
-    /// The name of the package, if it isn't the manifest's own.
-    pub name: Option<&'w str>,
-    /// Whether the library is planned, even if there is a program too.
-    pub is_lib: bool,
-    /// The program that is planned.
-    pub program: Option<&'w str>,
+    pub packages: PackageChoice<'w>,
+    /// The targets. Without one, the library is planned, or the program if there is no library.
+    pub targets: Vec<TargetChoice<'w>>,
+    /// Whether a package without a library is an error.
+    pub is_library_needed: bool,
     pub all_features: bool,
     pub no_default_features: bool,
-    /// The name of the target, such as `x86_64-unknown-linux-gnu`.
-    pub triple: &'w str,
+    /// The name of the target, such as `x86_64-unknown-linux-gnu`. `None` is the target of Cargo's
+    /// settings, or else the first of `triples`.
+    pub triple: Option<&'w str>,
+    /// The names of the targets whose options for `cfg` are known.
+    pub triples: &'w [&'w str],
 }
 
-/// The plan of a package, and the current folder.
+/// The plan of a package's target, and the current folder.
 #[derive(Drop)]
 pub struct PackagePlan {
     pub plan: Plan,
     folder: String,
-    /// What the plan leaves out, each in one line.
+    /// The parts of the package that the plan leaves out, each in one line.
     pub notes: Vec<String>,
-}
-
-// Returns the path as seen from the folder, if it is below it.
-fn shown_path<'p>(folder: &str, path: &'p str) -> &'p str {
-    match path.strip_prefix(folder) {
-        Some(rest) => rest.strip_prefix("/").unwrap_or(path),
-        None => path,
-    }
-}
-
-// Returns a problem in one line: `PATH:LINE:COL: MESSAGE`.
-fn problem_text(alloc: Global, folder: &str, problem: &Problem) -> Result<String, AllocError> {
-    let path = shown_path(folder, problem.path.as_str());
-    let (line, column, message) = (problem.line, problem.column, problem.message.as_str());
-    if line == 0 {
-        return format!(in alloc; "{path}: {message}");
-    }
-    format!(in alloc; "{path}:{line}:{column}: {message}")
 }
 
 // Returns the path of the manifest: the one that is given, or the first in the folder or above it.
@@ -80,81 +61,6 @@ fn manifest_path<R: Files + AllocGlobal>(
     Ok(None)
 }
 
-// Returns the names in a folder, one a line.
-fn names_in<R: Files + AllocGlobal + Clone + Drop>(rt: &R, path: &str) -> io::Result<String> {
-    let mut names = String::new(rt.alloc());
-    for entry in fs::read_dir(rt, path)? {
-        let entry = entry?;
-        names.push_str(entry.file_name())?;
-        names.push('\n')?;
-    }
-    Ok(names)
-}
-
-// Reads what the planner needs; `None` if there is no such file.
-fn read_need<R: Files + AllocGlobal + Clone + Drop>(
-    rt: &R,
-    need: &Need,
-) -> io::Result<Option<String>> {
-    let path = need.path.as_str();
-    let text = if need.is_folder {
-        names_in(rt, path)
-    } else {
-        file_text(rt, path)
-    };
-    match text {
-        Ok(text) => Ok(Some(text)),
-        Err(error) => match error.kind() {
-            io::ErrorKind::NotFound | io::ErrorKind::NotADirectory => Ok(None),
-            _ => Err(error),
-        },
-    }
-}
-
-// Adds the files that the planner needs. Returns the message of an error.
-fn add_needs<R: Files + AllocGlobal + Clone + Drop>(
-    rt: &R,
-    planner: &mut Planner,
-    needs: &[Need],
-    folder: &str,
-) -> io::Result<Option<String>> {
-    for need in needs {
-        let path = need.path.as_str();
-        let text = match read_need(rt, need) {
-            Ok(text) => text,
-            Err(error) => {
-                return Ok(Some(format!(in rt.alloc(); "couldn't read `{path}`: {error}")?));
-            }
-        };
-        if let Some(problem) = planner.add(path, text)? {
-            return Ok(Some(problem_text(rt.alloc(), folder, &problem)?));
-        }
-    }
-    Ok(None)
-}
-
-// Returns the plan that the request asks for, or the message of an error.
-fn planned<R: Files + AllocGlobal + Clone + Drop>(
-    rt: &R,
-    request: Request<'_>,
-    folder: &str,
-) -> io::Result<Result<Plan, String>> {
-    let mut planner = Planner::new(rt.alloc());
-    for _ in 0..MAX_STEPS {
-        let needs = match planner.step(request)? {
-            Step::Needs(needs) => needs,
-            Step::Planned(plan) => return Ok(Ok(plan)),
-            Step::Refused(problem) => {
-                return Ok(Err(problem_text(rt.alloc(), folder, &problem)?));
-            }
-        };
-        if let Some(message) = add_needs(rt, &mut planner, needs.as_slice(), folder)? {
-            return Ok(Err(message));
-        }
-    }
-    Ok(Err(String::from_str(rt.alloc(), "the package needs too many files")?))
-}
-
 // Returns the folder that Cargo keeps its downloads in.
 fn cargo_home<R: Env + AllocGlobal>(rt: &R) -> io::Result<Option<String>> {
     if let Ok(home) = env::var(rt, "CARGO_HOME") {
@@ -163,6 +69,14 @@ fn cargo_home<R: Env + AllocGlobal>(rt: &R) -> io::Result<Option<String>> {
     match env::var(rt, "HOME") {
         Ok(home) => Ok(Some(format!(in rt.alloc(); "{home}/.cargo")?)),
         Err(_) => Ok(None),
+    }
+}
+
+// Returns the flags of the variable RUSTFLAGS.
+fn flags<R: Env + AllocGlobal>(rt: &R) -> Option<String> {
+    match env::var(rt, "RUSTFLAGS") {
+        Ok(flags) => Some(flags),
+        Err(_) => None,
     }
 }
 
@@ -177,74 +91,114 @@ fn add_cfgs<'c>(cfgs: &mut Vec<Cfg<'c>>, options: &'c [CfgOption<'c>]) -> Result
     Ok(())
 }
 
-fn target_choice<'w>(package: &PackageOptions<'w>) -> TargetChoice<'w> {
-    match package.program {
-        Some(name) => TargetChoice::Program(name),
-        None if package.is_lib => TargetChoice::Library,
-        None => TargetChoice::Any,
+// Returns for each target its options for `cfg`, with those that `--cfg` gives.
+fn cfg_tables<'c>(
+    alloc: Global,
+    options: &'c SessionOptions<'_>,
+    triples: &[&str],
+) -> Result<Vec<Vec<Cfg<'c>>>, AllocError> {
+    let mut tables = Vec::new(alloc);
+    for triple in triples {
+        let mut cfgs = Vec::new(alloc);
+        if let Some(target) = target(*triple) {
+            add_cfgs(&mut cfgs, target.options())?;
+        }
+        add_cfgs(&mut cfgs, options.given.as_slice())?;
+        tables.push(cfgs)?;
+    }
+    Ok(tables)
+}
+
+// Returns the platforms that are known.
+fn platforms_of<'c>(
+    alloc: Global,
+    triples: &'c [&'c str],
+    tables: &'c [Vec<Cfg<'c>>],
+) -> Result<Vec<Platform<'c>>, AllocError> {
+    let mut platforms = Vec::new(alloc);
+    for (triple, cfgs) in triples.iter().zip(tables.iter()) {
+        platforms.push(Platform {
+            triple: *triple,
+            cfgs: cfgs.as_slice(),
+        })?;
+    }
+    Ok(platforms)
+}
+
+fn text_of(text: &Option<String>) -> Option<&str> {
+    match text {
+        Some(text) => Some(text.as_str()),
+        None => None,
     }
 }
 
-// Returns the plan of the package with that manifest.
-fn plan_of<R: Env + Files + AllocGlobal + Clone + Drop>(
+// Returns the plans of the package with that manifest.
+fn plans_of<'r, R: Env + Files + AllocGlobal + Clone + Drop>(
     rt: &R,
-    options: &SessionOptions<'_>,
-    package: &PackageOptions<'_>,
+    options: &'r SessionOptions<'r>,
+    package: &'r PackageOptions<'r>,
     folder: &str,
-    manifest: &str,
-) -> io::Result<Result<Plan, String>> {
+    manifest: &'r str,
+) -> io::Result<Result<Vec<Plan>, String>> {
     let home = cargo_home(rt)?;
-    let conditions = options.conditions();
-    let mut cfgs = Vec::new(rt.alloc());
-    add_cfgs(&mut cfgs, conditions.target)?;
-    add_cfgs(&mut cfgs, conditions.given)?;
+    let flags = flags(rt);
+    let tables = cfg_tables(rt.alloc(), options, package.triples)?;
+    let platforms = platforms_of(rt.alloc(), package.triples, &tables)?;
     let request = Request {
         manifest,
-        package: package.name,
-        target: target_choice(package),
+        packages: package.packages,
+        targets: package.targets.as_slice(),
+        is_library_needed: package.is_library_needed,
+        is_test: options.is_test,
         features: options.features.as_slice(),
         all_features: package.all_features,
         default_features: !package.no_default_features,
-        cargo_home: match &home {
-            Some(home) => Some(home.as_str()),
-            None => None,
-        },
+        cargo_home: text_of(&home),
+        flags: text_of(&flags),
         triple: package.triple,
-        cfgs: cfgs.as_slice(),
+        platforms: platforms.as_slice(),
     };
-    planned(rt, request, folder)
+    read_plans(rt, request, folder)
 }
 
-/// Plans the package that `package` names, or that of the current folder, with the features and the
-/// `cfg` options of `options`. The inner error is a message.
-pub fn plan_package<R: Env + Files + AllocGlobal + Clone + Drop>(
+// Returns the plan with its notes as texts.
+fn with_notes(alloc: Global, folder: &str, plan: Plan) -> Result<PackagePlan, AllocError> {
+    let mut notes = Vec::new(alloc);
+    for problem in plan.notes.iter() {
+        notes.push(problem_text(alloc, folder, problem)?)?;
+    }
+    Ok(PackagePlan {
+        plan,
+        folder: String::from_str(alloc, folder)?,
+        notes,
+    })
+}
+
+/// Plans the targets of the packages that `package` names, or of the package of the current folder,
+/// with the features and the `cfg` options of `options`. The inner error is a message.
+pub fn plan_packages<R: Env + Files + AllocGlobal + Clone + Drop>(
     rt: &R,
     options: &SessionOptions<'_>,
     package: &PackageOptions<'_>,
-) -> io::Result<Result<PackagePlan, String>> {
+) -> io::Result<Result<Vec<PackagePlan>, String>> {
     let alloc = rt.alloc();
     let current = env::current_dir(rt)?;
-    let folder = String::from_str(alloc, current.to_str().unwrap_or("."))?;
-    let Some(manifest) = manifest_path(rt, package, folder.as_str())? else {
+    let folder = current.to_str().unwrap_or(".");
+    let Some(manifest) = manifest_path(rt, package, folder)? else {
         return Ok(Err(String::from_str(
             alloc,
             "no FILE.rs is named, and there is no Cargo.toml in this folder or above it",
         )?));
     };
-    match plan_of(rt, options, package, folder.as_str(), manifest.as_str())? {
-        Ok(plan) => {
-            let mut notes = Vec::new(alloc);
-            for problem in plan.notes.iter() {
-                notes.push(problem_text(alloc, folder.as_str(), problem)?)?;
-            }
-            Ok(Ok(PackagePlan {
-                plan,
-                folder,
-                notes,
-            }))
-        }
-        Err(message) => Ok(Err(message)),
+    let plans = match plans_of(rt, options, package, folder, manifest.as_str())? {
+        Ok(plans) => plans,
+        Err(message) => return Ok(Err(message)),
+    };
+    let mut found = Vec::new(alloc);
+    for plan in plans {
+        found.push(with_notes(alloc, folder, plan)?)?;
     }
+    Ok(Ok(found))
 }
 
 // Returns the name by which the root crate uses crate `number`; else the crate's own name.
@@ -351,7 +305,7 @@ impl PackagePlan {
         Ok(())
     }
 
-    // Adds the crates that the root crate uses, or those that only others use.
+    // Adds the crates that the root crate uses, or the crates that only other crates use.
     fn add_externs<'p>(
         &'p self,
         alloc: Global,
@@ -402,15 +356,56 @@ impl PackagePlan {
         Ok(text)
     }
 
-    /// Sets the options that the plan names: the root file, the edition, the features and the
-    /// external crates. Returns the options, and notes on what is left out; `None` if the edition
-    /// isn't known.
-    pub fn set<'p>(
+    /// Returns the path of the first crate's root file, as seen from the current folder.
+    pub fn root(&self) -> &str {
+        match self.plan.crates.first() {
+            Some(root) => shown_path(self.folder.as_str(), root.root.as_str()),
+            None => "",
+        }
+    }
+
+    /// Returns the folder below the package's own that has the first crate's root file, such as
+    /// `src`. It is empty for a file beside the manifest, and for one elsewhere.
+    pub fn root_folder(&self) -> &str {
+        let package = folder_of(self.plan.manifest.as_str());
+        match self.plan.crates.first() {
+            Some(root) => folder_of(root.root.as_str())
+                .strip_prefix(package)
+                .and_then(|rest| rest.strip_prefix("/"))
+                .unwrap_or(""),
+            None => "",
+        }
+    }
+
+    // Adds the options for `cfg` that are given, and those of Cargo's settings.
+    fn add_given<'p>(
+        &'p self,
+        options: &mut SessionOptions<'p>,
+        given: &SessionOptions<'p>,
+    ) -> Result<(), AllocError> {
+        for option in given.given.iter() {
+            options.given.push(CfgOption {
+                name: option.name,
+                value: option.value,
+            })?;
+        }
+        for cfg in self.plan.cfgs.iter() {
+            options.given.push(CfgOption {
+                name: cfg.name.as_str(),
+                value: text_of(&cfg.value),
+            })?;
+        }
+        Ok(())
+    }
+
+    /// Returns the options of the session of the plan: those that are given, and those that the
+    /// plan sets, which are the root file, the edition, the features, the target and the external
+    /// crates. Also returns notes on what is left out. `None` if the edition isn't known.
+    pub fn options<'p>(
         &'p self,
         alloc: Global,
-        options: SessionOptions<'p>,
+        given: &SessionOptions<'p>,
     ) -> Result<Option<(SessionOptions<'p>, Vec<String>)>, AllocError> {
-        let mut options = options;
         let mut notes = Vec::new(alloc);
         let Some(root) = self.plan.crates.first() else {
             return Ok(None);
@@ -418,17 +413,37 @@ impl PackagePlan {
         let Some(edition) = edition_of(root) else {
             return Ok(None);
         };
+        let mut options = copied(alloc, given)?;
+        self.add_given(&mut options, given)?;
         options.edition = edition;
         options.features = features_of(alloc, root)?;
-        options
-            .names
-            .push(shown_path(self.folder.as_str(), root.root.as_str()))?;
+        options.target = target(self.plan.triple.as_str()).unwrap_or(given.target);
+        options.is_test = given.is_test || self.plan.is_test;
+        options.names.push(self.root())?;
         self.add_externs(alloc, &mut options, &mut notes, true)?;
         self.add_externs(alloc, &mut options, &mut notes, false)?;
         self.note_names(alloc, &mut notes)?;
-        if options.is_test {
-            notes.push(String::from_str(alloc, "dependencies of tests are not read")?)?;
-        }
         Ok(Some((options, notes)))
     }
+}
+
+// Copies options of a session, without its files, its features and its options for `cfg`.
+fn copied<'p>(alloc: Global, given: &SessionOptions<'p>) -> Result<SessionOptions<'p>, AllocError> {
+    let mut options = SessionOptions::new(alloc);
+    options.dialect = given.dialect;
+    options.depth = given.depth;
+    options.fuel = given.fuel;
+    options.is_traced = given.is_traced;
+    options.is_origin_noted = given.is_origin_noted;
+    options.explain = given.explain;
+    options.with_modules = given.with_modules;
+    options.call = given.call;
+    for one in given.externs.iter() {
+        options.externs.push(ExternCrate {
+            name: one.name,
+            path: one.path,
+            settings: None,
+        })?;
+    }
+    Ok(options)
 }

@@ -70,9 +70,9 @@ path_of f = path_from f (after_path_separator f)
 
 -- ---- calls
 
--- A call: the first and the last name of its path, whether the path is more than a single name, the
--- group with its content, the trees after the call, where the path begins, and where the attributes
--- on the call begin, or else the path.
+-- A call has the first and the last name of its path, and whether the path is more than a single
+-- name. It has the group with its content, and the trees after the call. It also has the start of
+-- the path, and the start of the call's attributes, or of the path if there are none.
 pub record MacroCall : Type 0 where
   pub first : Ident
   pub name : Ident

@@ -1,4 +1,4 @@
-// Finds the call that attributes are on.
+// Finds the call that attributes belong to.
 //
 // Before rustc expands a call, it evaluates each `#[cfg(..)]` on it, and ignores every other
 // attribute that it knows. So these attributes belong to the call: an expansion replaces them too,
@@ -115,7 +115,7 @@ fn after_attributes<'t, A: Allocator>(tokens: TokenTreesView<'t, A>) -> TokenTre
     rest
 }
 
-// ---- the call that they are on
+// ---- the call that they belong to
 
 fn is_brace(kind: DelimiterKind) -> bool
     ensures { result ≡ spec.is_brace kind }
@@ -147,7 +147,7 @@ fn is_separator(char: Option<char>) -> bool
     matches!(char, Some(';' | ','))
 }
 
-// Returns whether the attributes before the call are on the call and nothing more.
+// Returns whether the attributes before the call belong to the call alone.
 fn takes_attributes_alone<A: Allocator>(call: MacroCall<'_, A>) -> bool
     ensures { result ≡ spec.takes_attributes_alone (call_shown call.entry) }
 {
@@ -172,7 +172,7 @@ fn call_at<'t, A: Allocator>(begin: Span, front: FrontItem<'t, A>) -> Option<Mac
     }
 }
 
-// Returns the call that the attributes at the front are on.
+// Returns the call that the attributes at the front belong to.
 fn attributed_call<'t, A: Allocator>(tokens: TokenTreesView<'t, A>) -> Option<MacroCall<'t, A>>
     ensures { option_map call_shown result ≡ spec.attributed_call (trees tokens.entry) }
 {

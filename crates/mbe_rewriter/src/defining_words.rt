@@ -101,8 +101,8 @@ impl DefiningWords {
     }
 
     /// Whether names after a call of the macro, or in its expansion, may mean another macro than
-    /// the last visible one. `is_item` says whether the macro is a `macro` item: the names that it
-    /// calls are those at its definition.
+    /// the last visible one. `is_item` says whether the macro is a `macro` item. The names in its
+    /// expansion are resolved at its definition.
     pub fn may_shadow(self, is_item: bool) -> bool
         ensures { result ≡ spec.may_shadow is_item self }
     {

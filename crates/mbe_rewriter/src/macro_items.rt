@@ -1,8 +1,7 @@
 // Finds calls and definitions of macros at the front of trees.
 //
 // `front_of` returns a definition, a call, any other tree, or the end. `attribute_at`,
-// `begins_with_operator` and
-// `is_standard_macro` look at what surrounds a call.
+// `begins_with_operator` and `is_standard_macro` look at what surrounds a call.
 ghost use Rattle.std.specs.Prelude.{◌≡◌, Some, length, option_map};
 ghost use Rattle.std.specs.List.{list_any};
 ghost use Rattle.std.specs.Str.{bytes_eq};

@@ -3,7 +3,7 @@ use Rattle.std.proofs.Common.{◌≡◌, ◌<◌, ℕ, true, false, Option, Some
 use Rattle.std.specs.Prelude.{◌≢◌, option_map, is_some, Result, Ok, Err, IfOk}
 use Rattle.mbe_tt.specs.Trees.Top.{Top}
 use Rattle.mbe_rewriter.specs.MacroItems.{MacroCall}
-use Rattle.mbe_session.specs.CallExpansion.{Setting, State, called_macro, with_fuel_spent, with_step_contexts, Makes}
+use Rattle.mbe_session.specs.CallExpansion.{Setting, State, called_macro, with_fuel_spent, with_step_contexts, with_written, Makes}
 use Rattle.mbe_session.specs.CallExpansion.{StaysUnexpanded, too_many, refused, Refuses, by_definition, by_rules}
 use Rattle.mbe_session.specs.CallExpansion.{Allows, Applies, Tries}
 
@@ -46,7 +46,7 @@ tried e c depth levels s t u (Some tree) l a h = (
     depth_left = a.0;
     fuel_left = a.1;
   },
-  h.4 ∙ ap (with_step_contexts c) a.2,
+  h.4 ∙ ap (λ x. with_written tree (with_step_contexts c x)) a.2,
 )
 
 pub tries_as : {R : Type 0} (e k : Setting) (c : MacroCall) (depth levels : ℕ) (s t u : State)

@@ -113,7 +113,8 @@ pub some_others : {X E : Type 0} (r : Result X E) (c : Option Top) (tree : Top) 
     → OnOk r (DefinesExtern e levels name c s t)
 some_others r c tree e levels name s t is h = subst (λ x. OnOk r (DefinesExtern e levels name x s t)) is h
 
-pub none_other : {X : Type 0} (e : Language) (levels : ℕ) (with_modules : Bool) (files : List Source) (n : ℕ) (s : Scope)
+pub none_other : {X : Type 0} (e : Language) (levels : ℕ) (with_modules : Bool) (files : List Source) (n : ℕ)
+    (s : Scope)
     (name : X → List ℕ) (all : List X) → length all < 1
     → DefinesExterns e levels with_modules files n s (map name all) s
 none_other e levels with_modules files n s name [] few = spec.no_other n s

@@ -1,7 +1,7 @@
 -- What follows from what replaces the calls of trees: each part is one of their calls', and there
 -- is none where no call is known.
 use Rattle.std.proofs.Common.{◌≡◌, ℕ, zero, suc, Bool, true, false, List, [], ◌∷◌, ◌++◌, length, Option, Some, None}
-use Rattle.std.proofs.Common.{refl, ap, sym, subst, ◌∙◌}
+use Rattle.std.proofs.Common.{refl, ap, sym, subst, inl, inr, ◌∙◌}
 use Rattle.std.specs.Prelude.{◌||◌, ◌&&◌, not, codes, if◌then◌else◌, option_map, option_and_then}
 use Rattle.std.specs.Option.{option_or}
 use Rattle.std.specs.List.{All, slice_get}
@@ -18,7 +18,7 @@ use Rattle.mbe_rewriter.specs.AttributedCalls.{front_item_with_attributes}
 use Rattle.mbe_rewriter.specs.Splice.{SplicedPart}
 use Rattle.mbe_session.specs.NestedExpansion.{after_group}
 use Rattle.mbe_session.specs.CallExpansion.{Setting, State, IsReplaced, StaysUnexpanded, too_many, not_found, limited}
-use Rattle.mbe_session.specs.CallExpansion.{refused, called_macro}
+use Rattle.mbe_session.specs.CallExpansion.{refused, called_macro, with_fuel_spent}
 use Rattle.mbe_session.specs.Adjustment.{IsRest, what_follows, after_semicolon}
 use Rattle.mbe_session.specs.Scopes.{Scope, Definition as AMacro, CrateFilter, Own, Others, Crate, ExceptCrateOf}
 use Rattle.mbe_session.specs.Scopes.{definition_at, is_admitted, is_found, last_below, last_found, permits}
@@ -34,7 +34,8 @@ use Rattle.mbe_session.specs.declared.scope.Visibility.TheVariants.{Text, Files,
 use Rattle.mbe_session.specs.CallReplacements.{Parts, ShowsItems, no_more, at_definition, at_call, at_tree, shown_at}
 use Rattle.mbe_session.specs.CallReplacements.{shown, is_block_item, item_shown, LeavesGroup, is_left, is_used}
 use Rattle.mbe_session.specs.CallReplacements.{PartsOfTree}
-use Rattle.mbe_session.specs.CallReplacements.{PartsOfArgument, PartsOfCall, of_kept, of_replaced, FrontParts}
+use Rattle.mbe_session.specs.CallReplacements.{PartsOfArgument, PartsOfCall, of_kept, of_replaced, of_spent}
+use Rattle.mbe_session.specs.CallReplacements.{FrontParts}
 use Rattle.mbe_session.specs.CallReplacements.{of_definition, of_tree, of_call, AllParts, ends, goes_on, PartsIn}
 use Rattle.mbe_session.specs.CallReplacements.{PartsWithin, PartsOfFile, IsIn, all_of_it, after_some, in_group}
 use Rattle.mbe_session.specs.CallReplacements.{IsOfCall, of_attributes, of_expansion, attribute_part, attribute_parts}
@@ -125,7 +126,9 @@ module _ (e : Setting) (whole : Forest) where
       each_in_argument (is_standard_macro c.name.sym) c.argument t u parts (argument_in whole f c is i) a,
       call_in whole f c is i,
     )
-    each_of_call f c s v all left i is (of_replaced made part rest u r p) = (
+    each_of_call f c s v all left i is (of_spent made part rest u r p over) =
+        (All-nil (IsOfCall e whole), call_in whole f c is i)
+    each_of_call f c s v all left i is (of_replaced made part rest u r p few) = (
       All-append (IsOfCall e whole) (attribute_parts c) (part ∷ [])
           (of_attribute f c s u made part rest i is r (has_attributes c) refl)
           (All-cons (IsOfCall e whole) part [] (record {
@@ -329,7 +332,11 @@ module _ (e : Setting) (ds : List AMacro) (whole : Forest) (none_called : NoneCa
         → t.scope.definitions ≡ ds
     kept_definitions c depth n s t too_many h k = k
     kept_definitions c depth n s t (not_found m is) h k = k
-    kept_definitions c depth n s t (limited m u a) h k = same_definitions s u a.1 k
+    kept_definitions c depth n s t (limited m u a) h k =
+        elim a [
+          | inl deep ↦ same_definitions s u deep.1 k
+          | inr spent ↦ same_definitions (with_fuel_spent s) u spent.1 k
+        ]
     kept_definitions c depth n s t (refused m a b r) h k = k
 
     none_of_call : (f : Forest) (c : MacroCall) (s u : State) (parts : List SplicedPart) (rest : Forest) → IsIn whole f
@@ -340,7 +347,9 @@ module _ (e : Setting) (ds : List AMacro) (whole : Forest) (none_called : NoneCa
           (kept_definitions c e.depth levels s t st (unknown f c s i is k) k) a,
       call_in whole f c is i,
     )
-    none_of_call f c s v all left i is k (of_replaced made part rest u r p) =
+    none_of_call f c s v all left i is k (of_spent made part rest u r p over) =
+        let ambiguity : Some r.rules ≡ None = sym r.found ∙ unknown f c s i is k in absurd (cc)
+    none_of_call f c s v all left i is k (of_replaced made part rest u r p few) =
         let ambiguity : Some r.rules ≡ None = sym r.found ∙ unknown f c s i is k in absurd (cc)
 
     shown_definitions : (o : Option ℕ) (s : Scope) → (shown_at o s).definitions ≡ s.definitions

@@ -15,7 +15,8 @@ pub makes : {A : Span → Span → Type 0} (e : Setting) (s : State) (c : MacroC
     (i : Option ℕ) (err is : Option ExpandError)
     → Expands e.grammar A m.rules FnLike buffer.1 c.name.span (top_group out) i err
     → ((x y : Span) → A x y → Marks s c x y)
-    → buffer ≡ (c.delimiter, spaced c.argument) → err ≡ is → tree ≡ settled_in e.grammar.dialect out → Makes e s c m tree is
+    → buffer ≡ (c.delimiter, spaced c.argument) → err ≡ is → tree ≡ settled_in e.grammar.dialect out
+    → Makes e s c m tree is
 makes e s c m buffer out tree i err is h only b k w = (
   i,
   out,

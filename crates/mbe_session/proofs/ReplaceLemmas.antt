@@ -1,5 +1,5 @@
 -- What replaces calls, by what replaces those in their parts.
-use Rattle.std.proofs.Common.{◌≡◌, ◌-◌, ℕ, suc, List, [], ◌∷◌, ◌++◌, length, map, refl, ap, sym, subst, ◌∙◌}
+use Rattle.std.proofs.Common.{◌≡◌, ◌-◌, ℕ, suc, true, false, List, [], ◌∷◌, ◌++◌, length, map, refl, ap, sym, subst, ◌∙◌}
 use Rattle.std.specs.Prelude.{Option, Some, None}
 use Rattle.std.proofs.lemmas.List.{append_assoc, append-nil, map-append}
 use Rattle.mbe_tt.specs.Trees.Top.{Top}
@@ -13,11 +13,12 @@ use Rattle.mbe_rewriter.specs.AttributedCalls.{front_item_with_attributes}
 use Rattle.mbe_session.specs.NestedExpansion.{after_group}
 use Rattle.mbe_session.specs.CallExpansion.{Setting, State, Tries}
 use Rattle.mbe_session.specs.Adjustment.{IsRest, what_follows}
+use Rattle.mbe_session.specs.Budgets.{is_spent}
 use Rattle.mbe_session.specs.Scopes.{with_left}
 use Rattle.mbe_session.specs.CallReplacements.{Parts, ShowsItems, no_more, at_definition, at_call, at_tree, item_shown}
 use Rattle.mbe_session.specs.CallReplacements.{rules_shown, LeavesGroup, is_left, PartsOfTree, PartsOfArgument}
-use Rattle.mbe_session.specs.CallReplacements.{IsPartOf, PartsOfCall, of_kept, of_replaced, FrontParts, of_definition}
-use Rattle.mbe_session.specs.CallReplacements.{of_tree, of_call, AllParts, ends, goes_on, PartsWithin, PartsOfFile}
+use Rattle.mbe_session.specs.CallReplacements.{IsPartOf, PartsOfCall, of_kept, of_replaced, of_spent, FrontParts}
+use Rattle.mbe_session.specs.CallReplacements.{of_definition, of_tree, of_call, AllParts, ends, goes_on, PartsWithin, PartsOfFile}
 use Rattle.mbe_session.specs.CallReplacements.{Adds, attribute_parts}
 
 -- ---- items
@@ -166,25 +167,45 @@ pub replaced_added : {X : Type 0} (shown : X
     (tree : Top) (o : Option Top) (s t u : State)
     (xs mid ys : List X) (x : X) → k ≡ e → mark ≡ length s.contexts → Tries e c levels e.depth s t o → o ≡ Some tree
     → IsPartOf k levels (e.depth - 1) mark c tree.1 t (shown x) left u
+    → is_spent u.fuel ≡ false
     → map shown mid ≡ map shown xs ++ attribute_parts c → ys ≡ mid ++ x ∷ []
     → Adds (λ parts. PartsOfCall e levels (PartsWithin e levels) c s parts left) (map shown xs) (map shown ys) u
-replaced_added shown e k levels mark left c tree o s t u xs mid ys x h m tried n p before is =
+replaced_added shown e k levels mark left c tree o s t u xs mid ys x h m tried n p few before is =
     let made = subst (Tries e c levels e.depth s t) n tried in
     let here = subst (λ v. IsPartOf k levels (e.depth - 1) v c tree.1 t (shown x) left u) m p in (
       attribute_parts c ++ shown x ∷ [],
       of_replaced tree (shown x) left u made.0
           (subst (λ v. IsPartOf e levels (e.depth - 1) (length s.contexts) c tree.1 v (shown x) left u) made.1
-          (subst (λ v. IsPartOf v levels (e.depth - 1) (length s.contexts) c tree.1 t (shown x) left u) h here)),
+          (subst (λ v. IsPartOf v levels (e.depth - 1) (length s.contexts) c tree.1 t (shown x) left u) h here))
+          few,
       ap (map shown) is
           ∙ (map-append shown mid (x ∷ []) ∙ (ap (λ ps. ps ++ shown x ∷ []) before
           ∙ append_assoc (map shown xs) (attribute_parts c) (shown x ∷ []))),
+    )
+
+pub spent_added : (e k : Setting) (levels mark : ℕ) (left : Forest) (c : MacroCall) (tree : Top) (o : Option Top)
+    (part : SplicedPart) (s t u v : State) (b now : List SplicedPart) → k ≡ e → mark ≡ length s.contexts
+    → Tries e c levels e.depth s t o → o ≡ Some tree
+    → IsPartOf k levels (e.depth - 1) mark c tree.1 t part left u → is_spent u.fuel ≡ true
+    → v ≡ record u { fuel = s.fuel } → now ≡ b
+    → Adds (λ parts. PartsOfCall e levels (PartsWithin e levels) c s parts c.rest) b now v
+spent_added e k levels mark left c tree o part s t u v b now h m tried n p over is same =
+    let made = subst (Tries e c levels e.depth s t) n tried in
+    let here = subst (λ w. IsPartOf k levels (e.depth - 1) w c tree.1 t part left u) m p in (
+      [],
+      subst (PartsOfCall e levels (PartsWithin e levels) c s [] c.rest) (sym is)
+          (of_spent tree part left u made.0
+          (subst (λ w. IsPartOf e levels (e.depth - 1) (length s.contexts) c tree.1 w part left u) made.1
+          (subst (λ w. IsPartOf w levels (e.depth - 1) (length s.contexts) c tree.1 t part left u) h here)) over),
+      same ∙ sym (append-nil b),
     )
 
 pub parts_left : (e : Setting) (levels : ℕ) (within : Parts) (c : MacroCall) (s u : State) (parts : List SplicedPart)
     (rest : Forest)
     → PartsOfCall e levels within c s parts rest u → IsRest c.rest rest
 parts_left e levels within c s v all left (of_kept parts t u h a) = what_follows
-parts_left e levels within c s v all left (of_replaced tree part rest u r p) = p.leaves
+parts_left e levels within c s v all left (of_replaced tree part rest u r p few) = p.leaves
+parts_left e levels within c s v all left (of_spent tree part rest u r p over) = what_follows
 
 -- ---- files
 

@@ -11,6 +11,7 @@ use Rattle.mbe_session.specs.CallExpansion.{Setting, State}
 use Rattle.mbe_session.specs.Scopes.{Language, Scope}
 use Rattle.mbe_session.specs.declared.session_options.CrateSettings.{CrateSettings}
 use Rattle.mbe_session.specs.declared.locations.CallPosition.{CallPosition}
+use Rattle.mbe_session.specs.declared.settings.Budget.{Budget}
 use Rattle.mbe_session.specs.declared.source_settings.SourceSettings.{SourceSettings}
 use Rattle.mbe_session.specs.Conditions.{Conditions}
 use Rattle.mbe_session.specs.FileExpansion as spec
@@ -94,20 +95,23 @@ is_there (x ∷ xs) n h e = some_is_none (sym (slice_get-get_or (x ∷ xs) n x h
     some_is_none e = grind (arith, common_steps)
 
 printed_by : {T E : Type 0} (language : Language) (c : Conditions) (own : ℕ → Option CrateSettings) (depth : Option ℕ)
-    (fuel : ℕ)
+    (fuel : Budget)
     (call : Option CallPosition) (with_modules : Bool) (root_count : ℕ) (extern_names : List (List ℕ))
     (texts : List Text)
     (files : List Source)
     (e : Setting) (s t : State) (before after : Option (List ℕ)) (r : Result T E) (found : Option Source)
-    → IsOpen language c own depth fuel with_modules root_count extern_names texts files e s → root_count - 1 < length files
+    → IsOpen language c own depth fuel with_modules root_count extern_names texts files e s
+    → root_count - 1 < length files
     → slice_get files (root_count - 1) ≡ found
     → IfSome found (λ root. WritesOne before after r
     (λ out. RootExpands e 1000 call with_modules files (root_count - 1) root s out t))
     → WritesOne before after r (IsPrinted language c own depth fuel call with_modules root_count extern_names texts)
-printed_by language c own depth fuel call with_modules root_count extern_names texts files e s t before after r None begun
+printed_by language c own depth fuel call with_modules root_count extern_names texts files e s t before after r None
+    begun
     within is last =
     absurd (is_there files (root_count - 1) within is)
-printed_by language c own depth fuel call with_modules root_count extern_names texts files e s t before after r (Some root)
+printed_by language c own depth fuel call with_modules root_count extern_names texts files e s t before after r
+    (Some root)
     begun within is
     last =
     elim last [
@@ -130,7 +134,7 @@ printed_by language c own depth fuel call with_modules root_count extern_names t
 
 -- Of values that are the same, as a call of `write_last` has them.
 pub printed : {T E : Type 0} (language : Language) (c : Conditions) (own : ℕ → Option CrateSettings) (depth : Option ℕ)
-    (fuel : ℕ)
+    (fuel : Budget)
     (call request : Option CallPosition) (with_modules followed : Bool) (root_count n : ℕ)
     (extern_names : List (List ℕ))
     (texts : List Text)
@@ -142,7 +146,8 @@ pub printed : {T E : Type 0} (language : Language) (c : Conditions) (own : ℕ �
     → IfSome (slice_get seen (n - 1)) (λ root. WritesOne before after r
     (λ out. RootExpands e 1000 request followed seen (n - 1) root s out t))
     → WritesOne before after r (IsPrinted language c own depth fuel call with_modules root_count extern_names texts)
-printed language c own depth fuel call request with_modules followed root_count n extern_names texts files seen e s t before
+printed language c own depth fuel call request with_modules followed root_count n extern_names texts files seen e s t
+    before
     after r begun
     some few same_call same_follows same_number same_files last =
     let within : root_count - 1 < length files =

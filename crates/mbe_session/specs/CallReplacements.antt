@@ -22,6 +22,7 @@ use Rattle.mbe_rewriter.specs.WholeFragments.FragmentGroups.{open_all}
 use Rattle.mbe_session.specs.NestedExpansion.{ExpandsTo, ReplacesCall, after_group}
 use Rattle.mbe_session.specs.CallExpansion.{Setting, State, StaysUnexpanded, IsReplaced, after_step}
 use Rattle.mbe_session.specs.Adjustment.{IsRest}
+use Rattle.mbe_session.specs.Budgets.{is_spent}
 use Rattle.mbe_rewriter.specs.Hygiene.Contexts.{apply_hygiene}
 use Rattle.mbe_session.specs.Scopes.{Scope, Definition as AMacro, is_placed_by_path, placed}
 use Rattle.mbe_session.specs.Resolution.{is_unclaimed}
@@ -146,7 +147,8 @@ has_attributes c = nat_lt c.begin.start c.start.start
 abbrev pub attribute_parts : MacroCall → List SplicedPart
 attribute_parts c = if has_attributes c then attribute_part c ∷ [] else []
 
--- The replacements for a call, and the trees that are left after it.
+-- The replacements for a call, and the trees that are left after it. A call whose expansion asks for
+-- more than the limits of calls and tokens allow is not replaced, and uses nothing of the limits.
 pub data PartsOfCall (e : Setting) (levels : ℕ) (within : Parts) (c : MacroCall) (s : State) : List
     SplicedPart → Forest → State
     → Type 0 where
@@ -155,8 +157,16 @@ pub data PartsOfCall (e : Setting) (levels : ℕ) (within : Parts) (c : MacroCal
       → PartsOfCall e levels within c s parts c.rest u
   of_replaced : (tree : Top) (part : SplicedPart) (left : Forest) (t : State)
       → IsReplaced e c levels e.depth s tree
-      → IsPartOf e levels (e.depth - 1) (length s.contexts) c tree.1 (after_step c s) part left t
+      → IsPartOf e levels (e.depth - 1) (length s.contexts) c tree.1 (after_step c tree s)
+      part left t
+      → is_spent t.fuel ≡ false
       → PartsOfCall e levels within c s (attribute_parts c ++ part ∷ []) left t
+  of_spent : (tree : Top) (part : SplicedPart) (left : Forest) (t : State)
+      → IsReplaced e c levels e.depth s tree
+      → IsPartOf e levels (e.depth - 1) (length s.contexts) c tree.1 (after_step c tree s)
+      part left t
+      → is_spent t.fuel ≡ true
+      → PartsOfCall e levels within c s [] c.rest (record t { fuel = s.fuel })
 
 -- The replacements for the front, and the trees that are left after it.
 pub data FrontParts (e : Setting) (levels : ℕ) (within : Parts) (f : Forest) (s : State) : List
@@ -227,7 +237,7 @@ pub record IsOfCall (e : Setting) (whole : Forest) (part : SplicedPart) : Type 0
   pub tree : Top
   pub left : Forest
   pub is_replaced : IsReplaced e call levels e.depth before tree
-  pub is_part : IsOf e levels (length before.contexts) call tree.1 (after_step call before) part
+  pub is_part : IsOf e levels (length before.contexts) call tree.1 (after_step call tree before) part
       left after
 
 -- None of these definitions has that name.

@@ -60,9 +60,9 @@ after_definition m = record { is_exported = false; is_used = m.is_used; is_built
 
 -- ---- places
 
--- The place of trees: the name of the innermost module around them (empty at the root of a crate);
--- whether the only groups around them are modules under `#[macro_use]`; whether the innermost one is
--- a module, or there is none; and whether the only ones are modules.
+-- The place of trees. It has the name of the innermost module around them, which is empty at the
+-- root of a crate. It says whether the only groups around them are modules under `#[macro_use]`,
+-- whether the innermost group is a module or there is none, and whether all groups are modules.
 pub record TreePlace : Type 0 where
   pub parent : List ℕ
   pub is_top : Bool

@@ -5,8 +5,8 @@ use Rattle.mbe_cfg.specs.declared.cfg_options.CfgOptions.{CfgOptions}
 use Rattle.mbe_cfg.specs.declared.targets.Target.{Target}
 use Rattle.mbe_cfg.specs.Targets.{options, rows}
 
--- A target, the options beside those of the target, the crate's features, and whether `test` is
--- set.
+-- A target, the options that are given in addition to the target's, the crate's features, and
+-- whether `test` is set.
 pub record Conditions : Type 0 where
   pub target : Target
   pub given : List CfgOption

@@ -1,5 +1,5 @@
 -- The settings under which the files of a crate are read: an external crate's own edition and
--- features, or those of the session.
+-- features, or the session's.
 use Rattle.std.specs.Prelude.{◌-◌, ℕ, List, Option, Some, None, false, map, if◌then◌else◌, nat_lt}
 use Rattle.std.specs.List.{slice_get}
 use Rattle.mbe_tt.specs.declared.span.Edition.{Edition}

@@ -19,6 +19,7 @@ use Rattle.mbe_session.specs.Locations.{IsLocation}
 abbrev pub level_shown : notes.Level → Level
 level_shown notes.TheVariants.Error = level.Error
 level_shown notes.TheVariants.Note = level.Note
+level_shown notes.TheVariants.Help = level.Help
 
 -- A diagnostic as it is written in that form.
 abbrev pub written : MessageFormat → Diagnostic → List ℕ
@@ -73,15 +74,15 @@ AreDiagnostics files (n ∷ ns) before after =
     (d : Diagnostic) × IsDiagnostic files (level_shown n.level) n.place n.text d
     × AreDiagnostics files ns (before ++ d ∷ []) after
 
--- The list is the diagnostics of the first notes, and then those of the others.
+-- The list is the diagnostics of the first notes, and then the diagnostics of the other notes.
 abbrev pub AreDiagnosticsOf : {A : Type 0} → List (SourceFile A) → List Note → List Note
     → List Diagnostic → Type 0
 AreDiagnosticsOf files first others all =
     (mid : List Diagnostic) × AreDiagnostics files first [] mid
     × AreDiagnostics files others mid all
 
--- The text is the diagnostics of the first notes, and then those of the others. No definition says
--- what it is in the short form.
+-- The text is the diagnostics of the first notes, and then the diagnostics of the other notes. The
+-- short form isn't specified.
 abbrev pub EmittedIn : {A : Type 0} → Option MessageFormat → List (SourceFile A) → List Note
     → List Note → List ℕ → Type 0
 EmittedIn None files first others text = ⊤
@@ -96,8 +97,8 @@ EmittedLints form files (l ∷ ls) before after =
     (d : Diagnostic) × IsDiagnostic files l.level l.place l.text d
     × EmittedLints form files ls (before ++ written form d) after
 
--- The text is the diagnostics of the notes, and then those of the lints. No definition says what
--- the notes are in the short form; the lints are in rustc's style then.
+-- The text is the diagnostics of the notes, and then the diagnostics of the lints. The short form
+-- of notes isn't specified. The lints are in rustc's style then.
 abbrev pub EmittedWithLints : {A : Type 0} → Option MessageFormat → List (SourceFile A) → List Note
     → List Lint → List ℕ → Type 0
 EmittedWithLints None files notes lints text =

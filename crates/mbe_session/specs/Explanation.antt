@@ -48,8 +48,8 @@ pub data PointsTo (g : Grammar) (rules : List Rule) (argument : Forest) (index :
       → AmbiguousThere g rules argument index v pair
       → PointsTo g rules argument index v (stop_of argument v) pair
 
--- The outcome of the rule with this index on an argument: its verdict; the span at the offset of
--- that; all parts that the rule expects there; and the two parts.
+-- The outcome of the rule with this index on an argument. It has the verdict, the span at the
+-- verdict's offset, all parts that the rule expects there, and the two parts.
 pub record HasOutcome (g : Grammar) (rules : List Rule) (argument : Delimiter × Forest) (index : ℕ)
     (outcome : MatchOutcome) : Type 0 where
   pub expectations : List Expected

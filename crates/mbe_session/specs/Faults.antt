@@ -1,6 +1,6 @@
--- What is wrong with definitions, and where that is said: of the file's own where they are, and of
--- those of another
--- crate only where a call finds one.
+-- Faults of definitions, and where they are reported. The fault of a file's own definition is
+-- reported at the definition. The fault of another crate's definition is reported only at a call
+-- that finds it.
 use Rattle.std.specs.Prelude.{ℕ, Bool, false, is_some, ◌++◌, codes, if◌then◌else◌, List, [], ◌∷◌}
 use Rattle.std.specs.Prelude.{Option, Some, None, option_map, option_and_then}
 use Rattle.mbe_tt.specs.declared.span.Span.{Span}
@@ -50,7 +50,7 @@ all_noted (d ∷ ds) = noted (fault_of d) ++ all_noted ds
 abbrev pub extern_fault : Scope → ℕ → Option (Span × List ℕ)
 extern_fault s n = if is_extern s.crates n then fault_at s n else None
 
--- the same of the one that a call names
+-- The fault of the definition that a call names, if the definition is another crate's.
 abbrev pub fault_of_call : Scope → MacroCall → Option (Span × List ℕ)
 fault_of_call s c = option_and_then (extern_fault s) (resolve s c)
 

@@ -34,7 +34,7 @@ pub data DefinesCrates (language : Language) (levels : ℕ) (with_modules : Bool
       → DefinesCrate language levels (crate_at with_modules files n) t u
       → DefinesCrates language levels with_modules files s (n + 1) u
 
--- The macros of an external crate are defined as those of the crate `name`, after `$crate` is
+-- The macros of an external crate are defined as macros of the crate `name`, after `$crate` is
 -- replaced by the name.
 abbrev pub DefinesExtern : Language → ℕ → List ℕ → Option Top → Scope → Scope → Type 0
 DefinesExtern language levels name None s u = u ≡ s

@@ -1,4 +1,5 @@
 pub mod NestedExpansion
+pub mod Budgets
 pub mod CallExpansion
 pub mod CfgFaults
 pub mod Collector

@@ -17,7 +17,7 @@ use Rattle.mbe_session.specs.CfgFront.{disabled, definition, call, tree, piece}
 use Rattle.mbe_session.specs.Scopes.{Scope, IsRead, with_shown, with_left}
 use Rattle.mbe_session.specs.declared.scope.Visibility.TheVariants.{Text}
 
--- That trees change to others, from one state to another.
+-- A relation: these trees in this state are rewritten to those trees, and leave that state.
 abbrev pub Change : Type 1
 Change = Forest → State → Forest → State → Type 0
 
@@ -90,7 +90,7 @@ pub data ChangesCall (e : Setting) (levels depth : ℕ) (within : ℕ
       → KeepsCall (within depth) (is_standard_macro c.name.sym) f c t out u
       → ChangesCall e levels depth within f c s out c.rest u
   is_replaced : (tree : Top) (out rest : Forest) (t : State) → IsReplaced e c levels depth s tree
-      → ReplacesCall (within (depth - 1)) c.delimiter tree.1 (after_step c s) out t
+      → ReplacesCall (within (depth - 1)) c.delimiter tree.1 (after_step c tree s) out t
       → IsRest c.rest rest
       → ChangesCall e levels depth within f c s out rest t
 

@@ -8,6 +8,7 @@ use Rattle.mbe_session.specs.declared.notes.Note.{Note}
 abbrev pub is_error_level : Level → Bool
 is_error_level levels.Error = true
 is_error_level levels.Note = false
+is_error_level levels.Help = false
 
 abbrev pub is_error : {A : Type 0} → Note A → Bool
 is_error note = is_error_level note.level

@@ -133,7 +133,7 @@ is_standard s n =
     is_in_crate (codes "std") s.crates n || is_in_crate (codes "core") s.crates n
     || is_in_crate (codes "alloc") s.crates n
 
--- A name may mean something else than that definition of another crate: a `use` gives it to
+-- A name may mean something else than that definition of another crate. A `use` gives it to
 -- something of another name, a call may define a macro of that name and no `use` names it, or the
 -- standard library has one.
 abbrev pub is_other : Scope → List ℕ → ℕ → Bool
@@ -155,7 +155,7 @@ resolve_import s name =
     if has_own s name then (if is_doubtful s name then None else sole_own s name)
     else resolve_extern s name
 
--- A name may mean another macro than that visible definition: a call may define one that shadows
+-- A name may mean another macro than that visible definition. A call may define one that shadows
 -- it, or the name may be in the expansion of a `macro` item.
 abbrev pub is_shadowed : Scope → List ℕ → ℕ → Bool
 is_shadowed s name n =
@@ -221,8 +221,8 @@ resolve_sole s first name =
 abbrev pub may_import : List DeclaredName → List ℕ → Bool
 may_import ds name = has_use ds name || has_use ds (codes "*")
 
--- A path may reach the only definition of its last name: a path of two names does only by a module
--- of the first name, or by a `use`.
+-- A path may reach the only definition of its last name. A path of two names reaches it by a module
+-- of the first name or by a `use`, or if the first name is relative.
 abbrev pub may_reach : Scope → Bool → List ℕ → List ℕ → Bool
 may_reach s is_pair first name =
     not is_pair || is_relative first || may_import s.declared name
@@ -256,9 +256,9 @@ path_to s c (Some n) = if is_unclear s c n then None else Some n
 path_to s c None =
     if is_global c then None else resolve_own s (is_pair c) c.first.sym c.name.sym
 
--- Resolves a path, to the last definition by that name which the crate at its start offers, if the
--- path is clear; else, if the crate offers none and the path doesn't begin with `::`, to one of the
--- files' own crate.
+-- Resolves a path to the last definition of its name that the crate at its start offers, if the
+-- path is clear. If the crate offers none and the path doesn't begin with `::`, it resolves to a
+-- definition of the files' own crate.
 abbrev pub resolve_path : Scope → MacroCall → Option ℕ
 resolve_path s c = path_to s c (last_found (Crate c.first.sym) s Crates c.name.sym)
 

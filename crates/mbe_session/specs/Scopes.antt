@@ -21,8 +21,8 @@ use Rattle.mbe_rewriter.specs.WholeFragments.VariableParentheses.{parenthesized,
 use Rattle.mbe_session.specs.declared.scope.Visibility.{Visibility}
 use Rattle.mbe_session.specs.declared.scope.Visibility.TheVariants.{Text, Files, Paths, Crates}
 
--- A definition: its name, its rules, the contexts of its tokens, what it is found by, the name of
--- the module in which paths find it (empty for the root), and the span of its name.
+-- A definition has a name with its span, rules, and the contexts of its tokens. It also has what it
+-- is found by, and the name of the module in which paths find it. That name is empty for the root.
 pub record Definition : Type 0 where
   pub name : List ℕ
   pub rules : Macro
@@ -38,18 +38,20 @@ pub record CrateDefinitions : Type 0 where
   pub first : ℕ
   pub count : ℕ
 
--- A name that a module or a `use` declares. The first name of a module's is `mod`, and that of a
--- `use` is the first name of its path. It is empty if the name means something else there: after
--- `as`, and for a second module of a name. A definition declares `macro_rules` if a call of it may
--- define a macro that is found outside of the call's group, and `macro_use` if names after a call,
--- or in its expansion, may mean another macro than the last visible one; their first name is empty.
+-- A name that a module or a `use` declares. For a module, `first` is `mod`. For a `use`, it is the
+-- first name of the path. It is empty if the name means something else there: after `as`, and for a
+-- second module of a name.
+--
+-- A definition declares `macro_rules` if a call of it may define a macro that is found outside of
+-- the call's group. It declares `macro_use` if names after a call, or in its expansion, may mean
+-- another macro than the last visible one. Their first name is empty.
 pub record DeclaredName : Type 0 where
   pub first : List ℕ
   pub name : List ℕ
 
--- A scope: the definitions that were read, in order; the numbers of those that are visible at
--- present, the latest last; the definitions of other crates; and the names that modules and `use`s
--- declare.
+-- A scope has the definitions that were read, in order, and the numbers of the ones that are
+-- visible at present, the latest last. It also has the definitions of other crates, and the names
+-- that modules and `use`s declare.
 pub record Scope : Type 0 where
   pub definitions : List Definition
   pub visible : List ℕ
@@ -162,10 +164,14 @@ abbrev pub is_of_file : ℕ → Option Definition → Bool
 is_of_file file None = false
 is_of_file file (Some d) = d.place.file == file
 
--- Among which definitions a lookup searches: those that are no other crate's; these without one; of
--- these the ones in modules of that name, without one, or in any other file; those of all other
--- crates; those of the crate of that name; or those of all other crates except the one of a
--- definition.
+-- The definitions that a lookup searches.
+--
+-- - `Own`: the definitions of no other crate. `OwnExcept` leaves out one of them.
+-- - `Module`: the own definitions in modules of that name. `ModuleExcept` leaves out one of them.
+-- - `OtherFile`: the own definitions in any other file.
+-- - `Others`: the definitions of all other crates.
+-- - `Crate`: the definitions of the crate of that name.
+-- - `ExceptCrateOf`: the definitions of all other crates except the crate of that definition.
 pub data CrateFilter : Type 0 where
   Own : CrateFilter
   OwnExcept : ℕ → CrateFilter
@@ -190,7 +196,7 @@ is_admitted s Others n = is_extern s.crates n
 is_admitted s (Crate name) n = is_in_crate name s.crates n
 is_admitted s (ExceptCrateOf m) n = is_extern s.crates n && not (is_in_same_crate m s.crates n)
 
--- The definitions from the number `first` on are those of the crate of that name.
+-- The definitions from the number `first` on belong to the crate of that name.
 abbrev pub with_crate : List ℕ → ℕ → Scope → Scope
 with_crate name first s = record s {
   crates = s.crates ++ (record {

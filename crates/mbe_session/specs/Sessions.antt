@@ -8,6 +8,7 @@ use Rattle.mbe_rewriter.specs.Splice.{SplicedPart}
 use Rattle.mbe_session.specs.CallExpansion.{Setting, State}
 use Rattle.mbe_session.specs.Scopes.{Language, Scope}
 use Rattle.mbe_session.specs.declared.locations.CallPosition.{CallPosition}
+use Rattle.mbe_session.specs.declared.settings.Budget.{Budget}
 use Rattle.mbe_session.specs.declared.session_options.CrateSettings.{CrateSettings}
 use Rattle.mbe_session.specs.Conditions.{Conditions, IsUnder}
 use Rattle.mbe_session.specs.FileExpansion.{CratesParts, DefinesCrates, FilesExpand, LoadsExterns}
@@ -22,13 +23,15 @@ LEVELS = 1000
 
 -- An open session. The files are read, each under the settings of its crate, and by one table of
 -- Rust's grammar, with the edition of the crate. The expander has the same table in the session's
--- dialect. The macros of the
--- external crates of these names are defined, and their re-exports of each other are linked; their
--- roots are the files after the first `root_count`. Then the macros of the crates are defined whose
--- roots are the first `root_count` files, in the order of the crates' trees. No call is expanded
--- yet. The limit of nested expansions is that of the options, else that of the files, else 128.
+-- dialect.
+--
+-- The macros of the external crates of these names are defined, and their re-exports of each other
+-- are linked. Their roots are the files after the first `root_count`. Then the macros of the
+-- session's own crates are defined, in the order of the crates' trees. Their roots are the first
+-- `root_count` files. No call is expanded yet. The limit of nested expansions is the limit of the
+-- options, else the limit of the files, else 128.
 pub record IsOpen (language : Language) (c : Conditions)
-    (own : ℕ → Option CrateSettings) (depth : Option ℕ) (fuel : ℕ)
+    (own : ℕ → Option CrateSettings) (depth : Option ℕ) (fuel : Budget)
     (with_modules : Bool) (root_count : ℕ)
     (extern_names : List (List ℕ)) (texts : List Text) (files : List Source) (e : Setting)
     (s : State) : Type 0 where
@@ -52,7 +55,7 @@ pub record IsOpen (language : Language) (c : Conditions)
 -- those
 -- of modules and of external crates.
 pub record IsPrinted (language : Language) (c : Conditions)
-    (own : ℕ → Option CrateSettings) (depth : Option ℕ) (fuel : ℕ)
+    (own : ℕ → Option CrateSettings) (depth : Option ℕ) (fuel : Budget)
     (call : Option CallPosition)
     (with_modules : Bool) (root_count : ℕ) (extern_names : List (List ℕ)) (texts : List Text)
     (out : List ℕ) : Type 0 where
@@ -69,7 +72,7 @@ pub record IsPrinted (language : Language) (c : Conditions)
 -- What is written: the expansion of each file, by the replacements of the crates whose roots are
 -- the first `root_count` files.
 pub record AreWritten (language : Language) (c : Conditions)
-    (own : ℕ → Option CrateSettings) (depth : Option ℕ) (fuel : ℕ)
+    (own : ℕ → Option CrateSettings) (depth : Option ℕ) (fuel : Budget)
     (call : Option CallPosition)
     (with_modules : Bool) (root_count : ℕ) (extern_names : List (List ℕ)) (texts : List Text)
     (outs : List (List ℕ)) : Type 0 where

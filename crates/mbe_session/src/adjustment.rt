@@ -1,5 +1,5 @@
-// Adjusts an expansion to the place of its call: which delimiters it is put in, whether it gets a
-// `;`, and whether the `;` after the call is removed.
+// Adjusts an expansion to the code around its call. It decides which delimiters surround the
+// expansion, whether it gets a `;`, and whether the `;` after the call is removed.
 ghost use Rattle.std.specs.Prelude.{◌≡◌, IsTrue, IfOk, IfSome};
 ghost use Rattle.mbe_tt.specs.Trees.Tree.{Forest, append, flat_len};
 ghost use Rattle.mbe_tt.specs.Views.LeafViews.{leaf_of};
@@ -25,11 +25,11 @@ pub(crate) struct Adjustment {
     // The delimiters around the expansion. An expression of several trees beside an operator gets
     // parentheses. Statements get braces where an expression is expected.
     pub(crate) wrap: Option<DelimiterKind>,
-    // Whether the expansion gets a `;`: a call by braces that is a statement does, where it expands
+    // Whether the expansion gets a `;`. It does if the call has braces, is a statement, and expands
     // to an expression.
     pub(crate) adds_semicolon: bool,
-    // Whether the `;` after the call is removed with it. This is so if the call expands to items,
-    // to nothing, or to something with a `;` of its own.
+    // Whether the `;` after the call is removed with it. It is if the call expands to items, to
+    // nothing, or to something with its own `;`.
     pub(crate) consumes_semicolon: bool,
 }
 
@@ -77,7 +77,8 @@ pub(crate) fn up_to<'t, A: Allocator>(
     rest.iter().from_savepoint(tokens.iter().savepoint())
 }
 
-// Returns the trees from the first one on after which no more trees are left than in `rest`.
+// Returns the trees from the first one on after which at most as many flat tokens are left as in
+// `rest`.
 pub(crate) fn from_last<'t, A: Allocator>(
     tokens: TokenTreesView<'t, A>,
     rest: TokenTreesView<'_, A>,
@@ -109,8 +110,8 @@ fn without_semicolon<A: Allocator>(tokens: TokenTreesView<'_, A>) -> TokenTreesV
     }
 }
 
-// Returns the trees of an expansion that are used. Where no statement begins, a `;` at their end is
-// dropped, as in rustc.
+// Returns the trees of an expansion that are used. A `;` at their end is dropped where no statement
+// begins, as in rustc.
 pub(crate) fn trimmed<A: Allocator>(
     tokens: TokenTreesView<'_, A>,
     last: Preceding,

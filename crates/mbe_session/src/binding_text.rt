@@ -25,7 +25,7 @@ use std::alloc::{AllocError, Allocator, Global};
 /// The largest number of rounds of a repetition that is shown.
 const MAX_ROUNDS: usize = 16;
 
-/// A variable of a rule, and the text of what it is bound to. Clauses see it by
+/// A variable of a rule, and the text of its fragments. Clauses see it by
 /// `binding_text_seen`.
 #[derive(Drop)]
 pub struct BindingText<A: Allocator = Global> {

@@ -154,7 +154,7 @@ fn failure_note<A: Allocator + Copy>(
 
 impl<'g, A: Allocator + Copy> FileExpander<'g, A> {
     // Returns why no rule of the macro that a call names expands it.
-    fn failure_of(
+    pub(crate) fn failure_of(
         &self,
         call: MacroCall<'_, A>,
         argument: &TopSubtree<A>,

@@ -1,14 +1,16 @@
 // Notes captures: names that hygiene keeps apart, but that the text of an expansion would bring
 // together.
 //
-// The call's argument binds one of the two, and the macro uses the other one in its scope. (A name
-// that the macro binds is renamed instead.) The span of a token tells its origin, because the
-// tokens of the argument keep their spans. A word is left out if it may be neither a binding nor a
-// use.
+// The call's argument binds one of the two, and the macro uses the other one in its scope. A name
+// that the macro binds is renamed instead. The span of a token tells its origin, because the tokens
+// of the argument keep their spans. A word is left out if it may be neither a binding nor a use.
 ghost use Rattle.std.specs.Prelude.{◌≡◌, OnOk};
 ghost use Rattle.mbe_session.specs.SessionViews.{setting_of, state_of};
 
+pub(crate) mod local_scopes;
+pub(crate) mod pattern_calls;
 mod pattern_scope;
+pub(crate) mod shadowed;
 
 use crate::file_expander::FileExpander;
 use crate::notes::{Level, Note};
@@ -18,12 +20,13 @@ use mbe_tt::tt::{DelimiterKind, Ident, Leaf, TokenTreesView, TopSubtree, TtEleme
 use pattern_scope::{PatternScope, is_bound, is_rebound, is_used, scope_at, scope_end};
 use std::alloc::{AllocError, Allocator};
 
-// A token of an expansion. A group is two tokens, an opening and a closing delimiter.
+// A token of an expansion or of a file. A group is two tokens, an opening and a closing delimiter.
+// The opening has the number of tokens between them.
 #[derive(Drop)]
 pub(crate) enum Token<'t, A: Allocator> {
     Name(&'t Ident<A>),
     Punct(char),
-    Open(DelimiterKind),
+    Open(DelimiterKind, usize),
     Close,
     Literal,
 }
@@ -48,7 +51,9 @@ fn tokens_of<'t, A: Allocator + Copy>(
             Some(TtElement::Leaf(Leaf::Ident(ident))) => Token::Name(ident),
             Some(TtElement::Leaf(Leaf::Punct(punct))) => Token::Punct(punct.char),
             Some(TtElement::Leaf(Leaf::Literal(_))) => Token::Literal,
-            Some(TtElement::Subtree(group, _)) => Token::Open(group.delimiter.kind),
+            Some(TtElement::Subtree(group, inside)) => {
+                Token::Open(group.delimiter.kind, inside.remaining().flat_len())
+            }
             None => Token::Close,
         })?;
         cursor.bump_or_end();
@@ -163,7 +168,7 @@ fn add_captures<'t, A: Allocator>(
     let mut depth = 0usize;
     for at in binding.from..binding.to {
         match tokens.get(at) {
-            Some(Token::Open(_)) => depth = depth.saturating_add(1),
+            Some(Token::Open(..)) => depth = depth.saturating_add(1),
             Some(Token::Close) => depth = depth.saturating_sub(1),
             Some(Token::Name(name)) if is_bound(tokens, at, depth == 0) => {
                 add_capture(captures, texts, binding, *name)?;

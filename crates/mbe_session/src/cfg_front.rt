@@ -1,8 +1,8 @@
-// What the trees of an expansion begin with.
+// Finds the call or the definition that the trees of an expansion begin with.
 //
-// In a file, what a `cfg` disables is left out of the trees before calls are looked for. An
-// expansion is made later, so it is
-// looked at here, piece by piece: what is disabled stays as it is, and nothing in it counts.
+// A file loses its disabled code before its calls are looked for. An expansion exists only later,
+// so its disabled code is found here, at each front. It is copied unchanged: calls in it are not
+// expanded, and its definitions are ignored.
 ghost use Rattle.std.specs.Prelude.{◌≡◌, IfOk, option_map};
 ghost use Rattle.mbe_rewriter.specs.MacroItemViews.{front_item_shown};
 ghost use Rattle.mbe_grammar.specs.Tables.Lawful.{grammar_of};
@@ -20,17 +20,17 @@ use std::alloc::{AllocError, Allocator, Global};
 
 #[derive(Drop)]
 pub(crate) enum CfgFront<'t, A: Allocator = Global> {
-    /// What attributes are on whose `cfg`s don't hold, up to these trees.
+    /// Disabled code: the attributes and their target. These trees follow it.
     Disabled(TokenTreesView<'t, A>),
     Definition(MacroDefinition<'t, A>),
-    /// A call, with the attributes that are on it.
+    /// A call, with its attributes.
     MacroCall(MacroCall<'t, A>),
-    /// Any other tree, and what follows it.
+    /// Any other tree, and the trees after it.
     Tree(TtElement<'t, A>, TokenTreesView<'t, A>),
     End,
 }
 
-// These trees, if they are fewer than those.
+// Returns `rest` if it has fewer trees than `tokens`.
 fn if_fewer<'t, A: Allocator>(
     tokens: TokenTreesView<'_, A>,
     rest: TokenTreesView<'t, A>,
@@ -44,7 +44,7 @@ fn if_fewer<'t, A: Allocator>(
     }
 }
 
-// What is after the attributes at the front whose `cfg`s don't hold, and after what they are on.
+// Returns the trees after the disabled code at the front, if there is any.
 fn after_disabled<'t, A: Allocator>(
     grammar: &RuleTable<'_>,
     conditions: &CfgOptions<'_>,
@@ -71,8 +71,8 @@ fn of_front<A: Allocator>(front: FrontItem<'_, A>) -> CfgFront<'_, A>
     }
 }
 
-// What is at the front. Attributes with a fault stay before what they are on, so that the fault is
-// reported there.
+// Returns what the trees begin with. Attributes with a fault are returned as trees of their own, so
+// that the fault is reported there.
 fn sound_front<'t, A: Allocator>(
     conditions: &CfgOptions<'_>,
     tokens: TokenTreesView<'t, A>,
@@ -86,9 +86,8 @@ fn sound_front<'t, A: Allocator>(
     }
 }
 
-/// What is at the front of these trees, where the grammar says what an item is, and `cfg`s are
-/// evaluated under these conditions.
-/// `AllocError` if the grammar is out of memory.
+/// Returns what these trees begin with. The grammar decides where an item ends, and `cfg`s are
+/// evaluated under these conditions. `AllocError` if the grammar is out of memory.
 pub(crate) fn cfg_front<'t, A: Allocator>(
     grammar: &RuleTable<'_>,
     conditions: &CfgOptions<'_>,

@@ -22,6 +22,8 @@ ghost use Rattle.mbe_cfg.specs.Crates.ModuleInliner.{crate_tree};
 ghost use Rattle.mbe_cfg.specs.Crates.CrateViews.{file_shown};
 ghost use Rattle.mbe_cfg.specs.Files.ModuleDirs as places;
 
+mod crate_steps;
+
 use crate::dollar_crate::replace_dollar_crate;
 use crate::file_expander::{FileExpander, LEVELS};
 use crate::module_files::note_missing_files;
@@ -235,7 +237,7 @@ fn copied(alloc: Global, tree: &TopSubtree) -> Result<TopSubtree, AllocError>
     buffer_of(alloc, tree.top_subtree().delimiter, tree.iter().remaining())
 }
 
-// Defines the macros of these trees in the expander, as those of the external crate `name`.
+// Defines the macros of these trees in the expander, as macros of the external crate `name`.
 fn define_extern_tree(
     alloc: Global,
     expander: &mut FileExpander<'_>,

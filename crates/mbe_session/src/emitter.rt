@@ -22,8 +22,8 @@ use mbe_diagnostics::renderer::rendered;
 use mbe_tt::span::Span;
 use std::alloc::{AllocError, Global};
 
-/// The form of diagnostics. Where a form is optional, `None` is the short form of notes:
-/// `FILE:LINE:COL: LEVEL: MESSAGE`, the line, and a caret.
+/// The form of diagnostics. Some functions take an optional form. `None` is the short form of
+/// notes: `FILE:LINE:COL: LEVEL: MESSAGE`, the line, and a caret.
 #[derive(Clone, Copy, Drop)]
 pub enum MessageFormat {
     /// Text in rustc's style.
@@ -185,6 +185,7 @@ fn level_of(level: notes::Level) -> Level
     match level {
         notes::Level::Error => Level::Error,
         notes::Level::Note => Level::Note,
+        notes::Level::Help => Level::Help,
     }
 }
 

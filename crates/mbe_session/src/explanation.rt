@@ -35,7 +35,7 @@ use std::alloc::{AllocError, Allocator, Global};
 #[derive(Drop)]
 pub struct RuleExplanation<A: Allocator = Global> {
     pub outcome: MatchOutcome<A>,
-    /// What the variables of the rule are bound to, if it matches.
+    /// The variables of the rule and the texts of their fragments, if it matches.
     pub matched: Vec<BindingText<A>, A>,
 }
 

@@ -1,11 +1,11 @@
 // Expands the calls of files and of expansions.
 //
 // The trees are walked from the front. A definition is parsed, and names resolve to it up to the
-// end of the group around it. A call is replaced by its expansion if its macro is found, and the
-// calls in the expansion are expanded too, up to the limits of the settings. Any other tree stays.
+// end of the group around it. A call is replaced by its expansion if its macro is found. The calls
+// in the expansion are expanded too, up to the limits of the settings. Any other tree is unchanged.
 //
-// Three sorts of calls are left: those of macros that no file defines, those that no rule matches,
-// and those beyond the limits. An error is noted for each of the last two.
+// Three sorts of calls are unchanged: no file defines the macro, no rule matches, or the call is
+// beyond the limits. The last two are errors, and each is noted.
 ghost use Rattle.std.specs.Prelude.{◌≡◌, ◌++◌, ◌∷◌, [], IsSome, IfOk, OnOk, length, map};
 ghost use Rattle.std.specs.Prelude.{option_map};
 ghost use Rattle.std.specs.Prelude.{true, unwrap_or};
@@ -15,8 +15,9 @@ ghost use Rattle.mbe.specs.MacroViews.{macro_of};
 ghost use Rattle.mbe_rewriter.specs.MacroItemViews.{call_shown, macro_definition_shown};
 ghost use Rattle.mbe_grammar.specs.Tables.Lawful.{grammar_of};
 ghost use Rattle.mbe_text.specs.RustText.Printer as text;
+ghost use Rattle.mbe_session.specs.Budgets.{full};
 ghost use Rattle.mbe_session.specs.CallExpansion.{Allows, Applies, Tries, macro_contexts};
-ghost use Rattle.mbe_session.specs.CallExpansion.{settled_in};
+ghost use Rattle.mbe_session.specs.CallExpansion.{settled_in, with_written};
 ghost use Rattle.mbe_session.specs.CallExpansion.{called_macro, next_context, with_step_contexts};
 ghost use Rattle.mbe_session.specs.CfgFaults as cfg_faults;
 ghost use Rattle.mbe_session.specs.Explanation.{note_seen};
@@ -25,15 +26,21 @@ ghost use Rattle.mbe_session.specs.Scopes.{IsRead, IsReadAs, empty_scope};
 ghost use Rattle.mbe_session.specs.Resolution.{contexts_found};
 ghost use Rattle.mbe_session.specs.SessionViews.{scope_of, setting_of, state_of};
 
+mod call_chain;
 mod call_replacements;
+pub mod call_steps;
+mod closest_rule;
 mod collector;
 mod nested_expansion;
+mod unknown_macros;
 mod unresolved_calls;
 
+use crate::call_counts::CallCounts;
+use crate::captures::local_scopes::{LocalScope, PatternPart};
 use crate::notes::{Level, Note};
 use crate::scope::{Scope, Visibility};
-use crate::settings::ExpansionSettings;
-use mbe::{DeclarativeMacro, MacroCallStyle, ValueResult};
+use crate::settings::{Budget, ExpansionSettings};
+use mbe::{DeclarativeMacro, ExpandError, MacroCallStyle, ValueResult};
 use mbe_cfg::cfg_options as cfg;
 use mbe_cfg::cfg_strip::fault_at;
 use mbe_grammar::tables::peg_table::RuleTable;
@@ -45,10 +52,10 @@ use mbe_rewriter::whole_fragments::receivers::parenthesize_receivers;
 use mbe_text::rust_printer::RustPrinter;
 use mbe_tt::grammar::Dialect;
 use mbe_tt::span::Span;
-use mbe_tt::tt::{TokenTreesView, TopSubtree};
+use mbe_tt::tt::{Ident, Leaf, Punct, Spacing, TokenTreesView, TopSubtree, TtElement};
 use std::alloc::{AllocError, Allocator, Global};
 
-/// How many groups and calls may be in one another where calls are looked for.
+/// The maximum depth of groups and calls in which calls are looked for.
 pub const LEVELS: u32 = 1000;
 
 /// Expands the calls of files. Clauses see it by `setting_of` and `state_of`.
@@ -57,13 +64,21 @@ pub struct FileExpander<'g, A: Allocator + Copy = Global> {
     pub(crate) alloc: A,
     pub(crate) settings: ExpansionSettings,
     pub(crate) grammar: RuleTable<'g>,
-    // What the `cfg`s in expansions are evaluated under.
+    // The conditions under which the `cfg`s in expansions are evaluated.
     pub(crate) conditions: cfg::CfgOptions<'g>,
     scope: Scope<A>,
-    // How many calls may still be expanded.
-    fuel: u32,
+    // How many calls may still be expanded, and how many tokens these may write.
+    fuel: Budget,
     // The context of the macro's token, for each context of a step's tokens. These begin with 1.
     contexts: Vec<u32, A>,
+    // The locals of the file, and those that expansions bind in it.
+    pub(crate) locals: Vec<LocalScope<A>, A>,
+    // The patterns of the file.
+    pub(crate) patterns: Vec<PatternPart, A>,
+    // The calls whose expansions are in one another, from the file's call on. Those of expansions
+    // that are complete may be left at the end.
+    callers: Vec<Span, A>,
+    counts: CallCounts,
     pub notes: Vec<Note<A>, A>,
 }
 
@@ -86,7 +101,7 @@ impl<'g, A: Allocator + Copy> FileExpander<'g, A> {
         } }
         ensures state { state_of result ≡ record {
           scope = empty_scope;
-          fuel = settings.fuel;
+          fuel = full settings.fuel settings.max_tokens;
           contexts = [];
         } }
     {
@@ -96,10 +111,19 @@ impl<'g, A: Allocator + Copy> FileExpander<'g, A> {
             grammar,
             conditions,
             scope: Scope::new(alloc, settings.edition),
-            fuel: settings.fuel,
+            fuel: Budget::new(settings.fuel, settings.max_tokens),
             contexts: Vec::new(alloc),
+            locals: Vec::new(alloc),
+            patterns: Vec::new(alloc),
+            callers: Vec::new(alloc),
+            counts: CallCounts::new(),
             notes: Vec::new(alloc),
         }
+    }
+
+    /// Returns how many calls were met so far, and how many of them are expanded.
+    pub fn counts(&self) -> CallCounts {
+        self.counts
     }
 
     pub(crate) fn note(
@@ -192,7 +216,7 @@ impl<'g, A: Allocator + Copy> FileExpander<'g, A> {
         self.note_refused(call, place, message)
     }
 
-    // Notes at a call what is wrong with its macro, which is defined there.
+    // Notes at a call what is wrong with the definition of its macro.
     fn note_refused(
         &mut self,
         call: MacroCall<'_, A>,
@@ -254,7 +278,37 @@ impl<'g, A: Allocator + Copy> FileExpander<'g, A> {
         push_contexts(&mut self.contexts, &self.scope, call)
     }
 
-    // Returns whether the limits allow one more call of that name. If not, an error is noted.
+    // Notes the limit of which a call of a file asked for more, if it did.
+    fn note_spent(&mut self, call: MacroCall<'_, A>) -> Result<(), AllocError>
+        ensures state { OnOk result (state_of self.new ≡ state_of self.old) }
+        ensures setting { OnOk result (setting_of self.new ≡ setting_of self.old) }
+    {
+        if !self.fuel.is_spent() {
+            return Ok(());
+        }
+        let (limit, what) = match self.fuel.calls {
+            0 => (self.settings.fuel, "calls"),
+            _ => (self.settings.max_tokens, "tokens"),
+        };
+        let name = call.name.sym.as_str();
+        let message = format!(in self.alloc;
+            "limit of {limit} {what} reached while expanding `{name}!`"
+        )?;
+        self.note(Level::Error, call.name.span, message)
+    }
+
+    // The tokens of an expansion are written.
+    fn spend_tokens(&mut self, tree: &TopSubtree<A>)
+        ensures state { state_of self.new ≡ with_written tree.now (state_of self.old) }
+        ensures setting { setting_of self.new ≡ setting_of self.old }
+        ensures notes { self.new.notes.items ≡ self.old.notes.items }
+    {
+        let count = tree.iter().remaining().flat_len();
+        self.fuel = self.fuel.with_tokens_spent(count as u64);
+    }
+
+    // Returns whether the limits allow one more call of that name. If not, an error is noted: at
+    // each call for the depth, and at the file's own calls for the others.
     fn may_expand(&mut self, call: MacroCall<'_, A>, depth: u32) -> Result<bool, AllocError>
         ensures allows { IfOk result (Allows depth (state_of self.old) (state_of self.new)) }
         ensures setting { OnOk result (setting_of self.new ≡ setting_of self.old) }
@@ -263,6 +317,7 @@ impl<'g, A: Allocator + Copy> FileExpander<'g, A> {
         if depth == 0 {
             // `--once` has this limit, and is no error.
             if self.settings.depth > 1 {
+                self.counts.add_call();
                 let limit = self.settings.depth;
                 let message = format!(in self.alloc;
                     "recursion limit of {limit} reached while expanding `{name}!`"
@@ -271,18 +326,53 @@ impl<'g, A: Allocator + Copy> FileExpander<'g, A> {
             }
             return Ok(false);
         }
-        if self.fuel == 0 {
-            let limit = self.settings.fuel;
-            let message = format!(in self.alloc; "more than {limit} calls, at `{name}!`")?;
-            self.note(Level::Error, call.name.span, message)?;
+        self.counts.add_call();
+        self.fuel = self.fuel.with_call_spent();
+        if self.fuel.is_spent() {
+            if depth == self.settings.depth {
+                self.note_spent(call)?;
+            }
             return Ok(false);
         }
-        self.fuel -= 1;
         Ok(true)
     }
 
+    // Notes that a call is in too many groups and calls, if its macro is found.
+    fn note_too_deep(&mut self, call: MacroCall<'_, A>) -> Result<(), AllocError>
+        ensures setting { OnOk result (setting_of self.new ≡ setting_of self.old) }
+        ensures state { OnOk result (state_of self.new ≡ state_of self.old) }
+    {
+        if self.rules(call).is_none() {
+            return Ok(());
+        }
+        self.note_depth(call.name)
+    }
+
+    // Notes that calls in trees are in too many groups and calls, at the first name that may be one
+    // of a macro.
+    fn note_too_deep_in(&mut self, tokens: TokenTreesView<'_, A>) -> Result<(), AllocError>
+        ensures setting { OnOk result (setting_of self.new ≡ setting_of self.old) }
+        ensures state { OnOk result (state_of self.new ≡ state_of self.old) }
+    {
+        match first_called(&self.scope, tokens) {
+            Some(name) => self.note_depth(name),
+            None => Ok(()),
+        }
+    }
+
+    fn note_depth(&mut self, name: &Ident<A>) -> Result<(), AllocError>
+        ensures setting { OnOk result (setting_of self.new ≡ setting_of self.old) }
+        ensures state { OnOk result (state_of self.new ≡ state_of self.old) }
+    {
+        let called = name.sym.as_str();
+        let message = format!(in self.alloc;
+            "more than {LEVELS} groups and calls in one another, at `{called}!`"
+        )?;
+        self.note(Level::Error, name.span, message)
+    }
+
     // Returns the expansion of a call, if its macro is found, a rule matches, and the limits allow
-    // it.
+    // it. What is noted of a call in an expansion is followed by the calls that led there.
     fn expansion(
         &mut self,
         call: MacroCall<'_, A>,
@@ -293,7 +383,26 @@ impl<'g, A: Allocator + Copy> FileExpander<'g, A> {
             levels depth (state_of self.old) (state_of self.new)) }
         ensures setting { OnOk result (setting_of self.new ≡ setting_of self.old) }
     {
+        let mark = self.notes.len();
+        let expansion = self.single_step(call, depth, levels)?;
+        self.note_callers(mark, depth)?;
+        self.enter_call(call, depth, expansion.is_some())?;
+        Ok(expansion)
+    }
+
+    // Returns the expansion of a call, and notes what is wrong with the call alone.
+    fn single_step(
+        &mut self,
+        call: MacroCall<'_, A>,
+        depth: u32,
+        levels: u32,
+    ) -> Result<Option<TopSubtree<A>>, AllocError>
+        ensures tries { IfOk result (Tries (setting_of self.old) (call_shown call.entry)
+            levels depth (state_of self.old) (state_of self.new)) }
+        ensures setting { OnOk result (setting_of self.new ≡ setting_of self.old) }
+    {
         if levels == 0 {
+            self.note_too_deep(call)?;
             return Ok(None);
         }
         if self.rules(call).is_none() {
@@ -306,7 +415,7 @@ impl<'g, A: Allocator + Copy> FileExpander<'g, A> {
         self.apply_rules(call)
     }
 
-    // Notes what is wrong in the one attribute at the front of these trees of an expansion.
+    // Notes the fault of the first attribute at the front of these trees of an expansion.
     fn note_attribute(&mut self, tokens: TokenTreesView<'_, A>) -> Result<(), AllocError>
         ensures setting { OnOk result (setting_of self.new ≡ setting_of self.old) }
         ensures state { OnOk result (state_of self.new ≡ state_of self.old) }
@@ -352,8 +461,7 @@ impl<'g, A: Allocator + Copy> FileExpander<'g, A> {
             call.name.span,
         )?;
         if let Some(error) = err {
-            self.note_failure(call, &argument, &error)?;
-            self.explain(call, &argument, false)?;
+            self.note_no_expansion(call, &argument, &error)?;
             return Ok(None);
         }
         let (written, _rule) = value;
@@ -361,10 +469,26 @@ impl<'g, A: Allocator + Copy> FileExpander<'g, A> {
         self.note_expansion(call, &tree)?;
         self.explain(call, &argument, true)?;
         self.add_contexts(call)?;
+        self.spend_tokens(&tree);
         Ok(Some(tree))
     }
 
-    // Notes what the settings ask to be said of what a call expands to.
+    // Notes why a call has no expansion, and explains the call if the settings ask for that.
+    fn note_no_expansion(
+        &mut self,
+        call: MacroCall<'_, A>,
+        argument: &TopSubtree<A>,
+        error: &ExpandError<A>,
+    ) -> Result<(), AllocError>
+        ensures setting { OnOk result (setting_of self.new ≡ setting_of self.old) }
+        ensures state { OnOk result (state_of self.new ≡ state_of self.old) }
+    {
+        self.note_failure(call, argument, error)?;
+        self.note_closest_rule(call, argument)?;
+        self.explain(call, argument, false)
+    }
+
+    // Notes an expansion in the ways that the settings ask for.
     fn note_expansion(
         &mut self,
         call: MacroCall<'_, A>,
@@ -396,7 +520,7 @@ impl<'g, A: Allocator + Copy> FileExpander<'g, A> {
     }
 }
 
-// Returns an expansion as it is expanded further in the dialect.
+// Returns an expansion in the form in which the dialect expands it further.
 fn settled_in<A: Allocator + Copy>(
     alloc: A,
     dialect: Dialect,
@@ -419,6 +543,34 @@ fn contexts_of<'s, A: Allocator + Copy>(scope: &'s Scope<A>, call: MacroCall<'_,
         Some(contexts) => contexts,
         None => &[],
     }
+}
+
+// Returns the first name before a `!` that a definition may have.
+fn first_called<'t, A: Allocator + Copy>(
+    scope: &Scope<A>,
+    tokens: TokenTreesView<'t, A>,
+) -> Option<&'t Ident<A>> {
+    let mut name = None;
+    let mut cursor = tokens.cursor();
+    for _ in 0..tokens.flat_len() {
+        name = match (cursor.token_tree(), name) {
+            (Some(TtElement::Leaf(Leaf::Ident(ident))), _) => Some(ident),
+            (Some(TtElement::Leaf(Leaf::Punct(punct))), Some(called)) if is_bang(punct) => {
+                if !scope.is_unclaimed(called.sym.as_str()) {
+                    return Some(called);
+                }
+                None
+            }
+            _ => None,
+        };
+        cursor.bump_or_end();
+    }
+    None
+}
+
+// Whether a punct is a `!` that isn't part of a `!=`.
+fn is_bang(punct: &Punct) -> bool {
+    punct.char == '!' && punct.spacing == Spacing::Alone
 }
 
 fn push_contexts<A: Allocator + Copy>(

@@ -26,7 +26,7 @@ use std::alloc::{AllocError, Global};
 use std::io;
 use std::io::Write;
 
-/// What is printed of the files.
+/// The part of the files that is printed.
 #[derive(Drop)]
 pub struct PrintRequest {
     /// The position whose calls are printed, in place of the whole text.

@@ -64,9 +64,9 @@ impl FileSet {
         Ok(())
     }
 
-    /// Adds the root of a crate: a root of the session's own crates, in the order of the options'
-    /// `names`, and after these the root of an external crate, in the order of its `externs`.
-    /// `AllocError` if out of memory; then the set may only be dropped.
+    /// Adds the root of a crate. First come the roots of the session's own crates, in the order of
+    /// the options' `names`. Then come the roots of the external crates, in the order of the
+    /// options' `externs`. `AllocError` if out of memory; then the set may only be dropped.
     pub fn add_root(
         &mut self,
         alloc: Global,

@@ -480,9 +480,11 @@ fn add_last_name<A: Allocator + Copy>(
     add_name(alloc, names, first, name)
 }
 
-// Returns what a definition declares: `macro_rules` if a call of it may define a macro that is found
-// outside of the group of the call, and `macro_use` if names after a call or in its expansion may
-// mean another macro than the last visible one.
+// Returns what a definition declares.
+//
+// - `macro_rules`: a call may define a macro that is found outside of the group of the call.
+// - `macro_use`: a name after a call or in its expansion may mean another macro than the last
+//   visible one.
 pub(crate) fn names_of_definition<A: Allocator + Copy>(
     alloc: A,
     is_item: bool,

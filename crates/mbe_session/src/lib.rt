@@ -17,19 +17,23 @@
 // caller who follows modules adds the files that `FileSet::modules` names; the crate `mbe_files`
 // reads them from a disk. `lint` checks the definitions of the same texts, and expands nothing.
 //
+// The modules by what they treat:
+//
 // - Files: `file_set`, `source_files`, `module_files`, `lines`, `locations`.
 // - Options: `session_options`, `source_settings`, `recursion_limit`.
 // - Crates: `session`, `crate_expander`, `dollar_crate`, `file_expansion`, `linted_files`.
 // - Calls: `file_expander`, `scope`, `imports`, `adjustment`, `cfg_front`, `origins`, `settings`.
-// - Diagnostics: `notes`, `call_failure`, `explanation`, `binding_text`, `captures`, `emitter`,
-//   `note_lines`.
+// - Diagnostics: `notes`, `call_failure`, `explanation`, `binding_text`, `captures`,
+//   `emitter`, `note_lines`, `call_counts`, `summary`.
 #![tactic(auto)]
 
 mod adjustment;
 pub mod binding_text;
+pub mod call_counts;
 pub mod call_failure;
 mod captures;
 mod cfg_front;
+mod closed_text;
 mod crate_expander;
 mod dollar_crate;
 pub mod emitter;
@@ -52,3 +56,4 @@ pub mod session_options;
 pub mod settings;
 pub mod source_files;
 pub mod source_settings;
+mod summary;

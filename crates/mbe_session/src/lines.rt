@@ -62,8 +62,8 @@ fn is_before_feed(bytes: &[u8], at: usize) -> bool
     bytes[at] == b'\r' && bytes.get(at + 1) == Some(&b'\n')
 }
 
-// Returns the offsets of the line feeds that have a carriage return before them. The offsets are
-// those after the carriage returns are removed.
+// Returns the offsets of the line feeds that have a carriage return before them. The offsets count
+// the text without these carriage returns.
 #[tactic(auto, using(crate::proofs::ReturnLemmas::one_return, crate::proofs::ReturnLemmas::no_return, crate::proofs::ReturnLemmas::all_returns))]
 fn returns_of<A: Allocator>(alloc: A, text: &str) -> Result<Vec<usize, A>, AllocError>
     ensures { IfOk result (λ v. v.items ≡ returns text.now) }

@@ -16,6 +16,7 @@ use crate::notes::Note;
 use crate::session::{NamedText, sources};
 use crate::session_options::SessionOptions;
 use crate::source_files::SourceFile;
+use crate::summary::{ReportCounts, summary_line};
 use mbe_diagnostics::lints::lint::Lint;
 use mbe_diagnostics::lints::linter::push_lints;
 use mbe_grammar::rust::rust_rules::rust_rules;
@@ -117,5 +118,18 @@ impl LintedFiles<'_> {
         let form = form.unwrap_or(MessageFormat::Text);
         add_lints(alloc, form, &self.files, &self.lints, &mut text)?;
         Ok(text)
+    }
+    /// Returns the line that ends a run: how many errors and warnings it has, such as
+    /// `2 errors, 1 warning`. The text is empty without one, and in JSON. `AllocError` if out of
+    /// memory.
+    pub fn summary_text(
+        &self,
+        alloc: Global,
+        form: Option<MessageFormat>,
+    ) -> Result<String, AllocError> {
+        let mut reports = ReportCounts::new();
+        reports.add_notes(&self.notes);
+        reports.add_lints(&self.lints);
+        summary_line(alloc, form, reports, None)
     }
 }

@@ -1,7 +1,7 @@
-// Out-of-line modules and `include!`s: those whose content is in other files.
+// Out-of-line modules and `include!`s. Their content is in other files.
 //
-// `modules_in` lists those of one text, so that their files can be read. `note_missing_files`
-// reports those whose file is missing, ambiguous or circular.
+// `modules_in` lists the ones of a text, so that their files can be read. `note_missing_files`
+// reports each one whose file is missing, ambiguous or circular.
 ghost use Rattle.std.specs.Prelude.{IfOk, map};
 ghost use Rattle.mbe_session.specs.ModuleFiles.{AreModules};
 ghost use Rattle.mbe_session.specs.LineEndings.{normalized};
@@ -56,7 +56,7 @@ fn candidates_text(alloc: Global, candidates: &Candidates) -> Result<String, All
     }
 }
 
-// Returns what has no file, as a message names it.
+// Returns how a message names the module or `include!` that has no file.
 fn subject(alloc: Global, unresolved: &UnresolvedFile) -> Result<String, AllocError> {
     let name = unresolved.name.as_str();
     match &unresolved.candidates {
@@ -81,8 +81,8 @@ fn message(alloc: Global, unresolved: &UnresolvedFile) -> Result<Option<String>,
     Ok(Some(message))
 }
 
-/// Adds a note for each module and `include!` without its file, which says why. `AllocError` if out
-/// of memory.
+/// Adds a note for each module and `include!` without its file. The note says why. `AllocError` if
+/// out of memory.
 pub fn note_missing_files(
     alloc: Global,
     notes: &mut Vec<Note>,

@@ -40,6 +40,7 @@ fn message<A: Allocator + Copy>(
     let level = match note.level {
         Level::Error => "error",
         Level::Note => "note",
+        Level::Help => "help",
     };
     let margin = margin(alloc, place.text, column.saturating_sub(1))?;
     let message = shown(alloc, note.message.as_str())?;

@@ -7,6 +7,7 @@ use std::alloc::{Allocator, Global};
 pub enum Level {
     Error,
     Note,
+    Help,
 }
 
 /// A message about a part of a file.

@@ -1,13 +1,18 @@
 // The scope of macros: the definitions that were read, and which of them a call resolves to.
 //
-// A plain name resolves to the last definition before it that is visible in the groups around it;
-// else to the only one that paths find; else to the one that another crate offers; else to one in
-// no group of another file. The definitions of a `#[macro_use]` module are visible after it. A path
-// resolves to the last definition of that name that the crate at its start offers; else, if its
-// first name is one of these files, to the one in the module that it names, or to the only one that
-// paths find.
+// A plain name resolves to the first of these that exists:
 //
-// Where more than one definition can be meant, a call resolves to none, and `doubt` says why.
+// 1. The last definition before it that is visible in the groups around it. The definitions of a
+//    `#[macro_use]` module are visible after it.
+// 2. The only definition that paths find.
+// 3. The definition that another crate offers.
+// 4. A definition of another file that is in no group.
+//
+// A path resolves to the last definition of its name that the crate at its start offers. Any other
+// path is relative to these files. It resolves to the definition in the module that it names, or
+// else to the only definition that paths find.
+//
+// A call resolves to none if more than one definition can be meant, and `doubt` says why.
 ghost use Rattle.std.specs.Prelude.{◌≡◌, ◌&&◌, ◌∷◌, [], length, IfOk, OnOk, option_map, false};
 ghost use Rattle.std.specs.String.{string_bytes};
 ghost use Rattle.std.specs.List.{list_any, slice_get};
@@ -28,6 +33,7 @@ ghost use Rattle.mbe_session.specs.SessionViews.{crate_definitions_of, scope_of}
 ghost use Rattle.mbe_session.specs.declared.scope.Visibility.TheVariants.{Text};
 
 mod linker;
+mod numbered_definitions;
 pub(crate) mod resolution;
 
 use crate::imports::names_of_definition;
@@ -146,14 +152,14 @@ impl<A: Allocator> CrateDefinitions<A> {
     }
 }
 
-// Whether the definition of that number is one of these crates'.
+// Whether the definition of that number belongs to one of these crates.
 fn is_in_any_crate<A: Allocator>(crates: &[CrateDefinitions<A>], number: usize) -> bool
     ensures { result ≡ list_any (λ c. spec.is_within number (crate_definitions_of c)) crates.now }
 {
     crates.iter().any(|one| one.is_within(number))
 }
 
-// Whether it is one of the crate of that name.
+// Whether the definition of that number belongs to the crate of that name.
 fn is_in_crate_named<A: Allocator>(
     crates: &[CrateDefinitions<A>],
     name: &str,
@@ -165,7 +171,7 @@ fn is_in_crate_named<A: Allocator>(
     crates.iter().any(|one| one.is_named(name, number))
 }
 
-// Whether both definitions are of the same one of these crates.
+// Whether both definitions belong to one of these crates.
 fn are_in_same_crate<A: Allocator>(
     crates: &[CrateDefinitions<A>],
     other: usize,
@@ -198,8 +204,9 @@ enum CrateFilter<'n> {
     ExceptCrateOf(usize),
 }
 
-/// The definitions that were read, and the numbers of those that are visible at present: the ones
-/// before this point of the text, in the groups around it. Clauses see it by `scope_of`.
+/// The definitions that were read, and the numbers of the visible ones. A definition is visible if
+/// it is before this point of the text, in one of the groups around it. Clauses see a scope by
+/// `scope_of`.
 #[derive(Drop)]
 pub struct Scope<A: Allocator + Copy = Global> {
     alloc: A,
@@ -477,14 +484,14 @@ impl<A: Allocator + Copy> Scope<A> {
         is_in_any_crate(self.crates.as_slice(), number)
     }
 
-    // Whether it is one of the crate of that name.
+    // Whether the definition of that number belongs to the crate of that name.
     fn is_in_crate(&self, name: &str, number: usize) -> bool
         ensures { result ≡ spec.is_in_crate name.now (scope_of self.now).crates number }
     {
         is_in_crate_named(self.crates.as_slice(), name, number)
     }
 
-    // Whether both definitions are of the same other crate.
+    // Whether both definitions belong to one other crate.
     fn is_in_same_crate(&self, other: usize, number: usize) -> bool
         ensures { result ≡ spec.is_in_same_crate other (scope_of self.now).crates number }
     {
@@ -652,6 +659,33 @@ impl<A: Allocator + Copy> Scope<A> {
         }
     }
 
+    /// Returns the span of the name of the definition that a call resolves to.
+    pub(crate) fn place_of_macro(&self, call: MacroCall<'_, A>) -> Option<Span> {
+        let number = self.resolve(call)?;
+        Some(self.definition(number)?.place)
+    }
+
+    /// Returns the names of the visible definitions, and then these. `AllocError` if out of memory.
+    pub(crate) fn macro_names<'s>(
+        &'s self,
+        more: &[&'s str],
+    ) -> Result<Vec<&'s str, A>, AllocError> {
+        let mut names = Vec::new(self.alloc);
+        for number in &self.visible {
+            if let Some(one) = self.definition(*number) {
+                names.push(one.name.as_str())?;
+            }
+        }
+        names.extend_from_slice(more)?;
+        Ok(names)
+    }
+
+    /// Returns the span of the name of the visible definition of that name.
+    pub(crate) fn place_of_name(&self, name: &str) -> Option<Span> {
+        let number = self.last_visible(name)?;
+        Some(self.definition(number)?.place)
+    }
+
     /// Returns the number of definitions that were read.
     pub fn count(&self) -> usize
         ensures { result ≡ length (scope_of self.now).definitions }
@@ -659,8 +693,8 @@ impl<A: Allocator + Copy> Scope<A> {
         self.definitions.len()
     }
 
-    /// Makes the definitions from the number `first` on those of the crate of that name.
-    /// `AllocError` if out of memory.
+    /// Gives the definitions from the number `first` on to the crate of that name. `AllocError` if
+    /// out of memory.
     pub fn close_crate(&mut self, name: &str, first: usize) -> Result<(), AllocError>
         ensures closed { OnOk result (scope_of self.new
             ≡ with_crate name.now first (scope_of self.old)) }

@@ -4,6 +4,7 @@ ghost use Rattle.std.specs.Prelude.{option_map};
 ghost use Rattle.std.specs.List.{list_any, slice_get};
 ghost use Rattle.std.specs.String.{string_bytes};
 ghost use Rattle.mbe_rewriter.specs.ReplacementViews.{part_of};
+ghost use Rattle.mbe_session.specs.Budgets.{full};
 ghost use Rattle.mbe_session.specs.SessionViews.{setting_of, state_of};
 ghost use Rattle.mbe_session.specs.EmittedNotes.{AreDiagnosticsOf, EmittedIn};
 ghost use Rattle.mbe_session.specs.Explanation.{note_seen};
@@ -15,6 +16,7 @@ ghost use Rattle.mbe_session.specs.OptionViews.{conditions_of, language_of, name
 ghost use Rattle.mbe_session.specs.Sources.{AreSources, source_text};
 ghost use Rattle.mbe_session.specs.NoteLevels.{is_error};
 
+use crate::closed_text::is_closed_text;
 use crate::crate_expander::{crates_replacements, define_crates, load_externs};
 use crate::emitter::{MessageFormat, add_notes, calls_to_explain, push_diagnostics};
 use crate::file_expander::FileExpander;
@@ -24,6 +26,7 @@ use crate::notes::{Level, Note};
 use crate::recursion_limit::recursion_limit;
 use crate::session_options::SessionOptions;
 use crate::source_files::{SourceFile, source_file};
+use crate::summary::{ReportCounts, summary_line};
 use mbe_diagnostics::diagnostic::Diagnostic;
 use mbe_grammar::rust::rust_rules::rust_rules;
 use mbe_grammar::tables::peg_table::RuleTable;
@@ -100,11 +103,12 @@ fn has_errors(notes: &[Note]) -> bool
 }
 
 impl<'f> Session<'f> {
-    /// Opens a session: reads the files, and defines the macros of the session's own crates after
-    /// those of the external crates. `texts` begins with the roots of the own crates, then those of
-    /// the external crates; `roots` has for each file the number of the root from which it was
-    /// reached. No call is expanded yet. `AllocError` if out of memory, or if there are more than
-    /// 2^32 files.
+    /// Opens a session: reads the files, and defines the macros of the external crates, then the
+    /// macros of the session's own crates. No call is expanded yet.
+    ///
+    /// `texts` begins with the roots of the own crates. The roots of the external crates follow.
+    /// `roots` has for each file the number of the root from which it was reached. `AllocError` if
+    /// out of memory, or if there are more than 2^32 files.
     pub fn open(
         alloc: Global,
         options: &'f SessionOptions<'_>,
@@ -113,7 +117,7 @@ impl<'f> Session<'f> {
     ) -> Result<Session<'f>, AllocError>
         ensures { IfOk result (λ s. IsOpen (language_of options.now)
             (conditions_of options.now) (own_of options.now roots.now) options.now.depth
-            options.now.fuel options.now.with_modules
+            (full options.now.fuel options.now.max_tokens) options.now.with_modules
             (length options.now.names.items) (names_of options.now) (map text_of texts.now)
             (sources_of s)
             (setting_of s.expander) (state_of s.expander)) }
@@ -123,7 +127,8 @@ impl<'f> Session<'f> {
         let files = sources(alloc, options, grammar, roots, texts, &mut notes)?;
         let root_count = options.names.len();
         let explain = calls_to_explain(options.explain, files.as_slice(), root_count);
-        let settings = options.settings(first_limit(&files, root_count), explain);
+        let is_closed = is_closed_text(&files);
+        let settings = options.settings(first_limit(&files, root_count), explain, is_closed);
         let table = grammar.with_dialect(options.dialect);
         let mut expander = FileExpander::new(alloc, table, options.conditions(), settings);
         let externs = options.externs.as_slice();
@@ -157,8 +162,8 @@ impl<'f> Session<'f> {
         has_errors(&self.notes) || has_errors(&self.expander.notes)
     }
 
-    /// Returns the text of the notes in that form: those on the files, then those on definitions
-    /// and calls. `None` is the short form. `AllocError` if out of memory.
+    /// Returns the text of the notes in that form: first the notes on files, then the notes on
+    /// definitions and calls. `None` is the short form. `AllocError` if out of memory.
     pub fn notes_text(
         &self,
         alloc: Global,
@@ -174,8 +179,22 @@ impl<'f> Session<'f> {
         Ok(text)
     }
 
-    /// Returns the diagnostics of the notes, as data: those of the files, then those of definitions
-    /// and calls. `AllocError` if out of memory.
+    /// Returns the line that ends a run: how many errors it has, and how many calls are expanded,
+    /// such as `2 errors; 41 of 44 calls expanded; 2 calls of unknown macros`. The text is empty
+    /// without an error, and in JSON. `AllocError` if out of memory.
+    pub fn summary_text(
+        &self,
+        alloc: Global,
+        form: Option<MessageFormat>,
+    ) -> Result<String, AllocError> {
+        let mut reports = ReportCounts::new();
+        reports.add_notes(&self.notes);
+        reports.add_notes(&self.expander.notes);
+        summary_line(alloc, form, reports, Some(self.expander.counts()))
+    }
+
+    /// Returns the diagnostics of the notes, as data: first the diagnostics of files, then the
+    /// diagnostics of definitions and calls. `AllocError` if out of memory.
     pub fn diagnostics(&self, alloc: Global) -> Result<Vec<Diagnostic<'_>>, AllocError>
         ensures { IfOk result (λ v. AreDiagnosticsOf self.now.files.items
             (map note_seen self.now.notes.items) (map note_seen self.now.expander.notes.items)
@@ -188,8 +207,9 @@ impl<'f> Session<'f> {
     }
 
     /// Expands the calls of the session's own crates, and returns the replacements for them, in
-    /// order. Each names its file by its number. What is wrong is noted. `options` are those that
-    /// the session was opened with. The files stay as they are. `AllocError` if out of memory.
+    /// order. Each replacement names its file by its number. Errors are noted. `options` must be
+    /// the options that the session was opened with. The files are unchanged. `AllocError` if out
+    /// of memory.
     pub fn expand_crates(
         &mut self,
         alloc: Global,
@@ -285,7 +305,8 @@ pub fn write_expansion<'f, W: Write>(
         → length options.now.names.items ≤ length texts.now
         → WritesOne (W.contents out.old) (W.contents out.new) r.1
         (IsPrinted (language_of options.now) (conditions_of options.now)
-        (own_of options.now roots.now) options.now.depth options.now.fuel options.now.call
+        (own_of options.now roots.now) options.now.depth
+        (full options.now.fuel options.now.max_tokens) options.now.call
         options.now.with_modules
         (length options.now.names.items) (names_of options.now) (map text_of texts.now))) }
 {
@@ -307,7 +328,8 @@ pub fn expand_files<'f>(
     texts: &'f [NamedText],
 ) -> Result<(Session<'f>, Vec<String>), AllocError>
     ensures { IfOk result (λ r. AreWritten (language_of options.now) (conditions_of options.now)
-        (own_of options.now roots.now) options.now.depth options.now.fuel options.now.call
+        (own_of options.now roots.now) options.now.depth
+        (full options.now.fuel options.now.max_tokens) options.now.call
         options.now.with_modules
         (length options.now.names.items) (names_of options.now) (map text_of texts.now)
         (map string_bytes r.1.items)) }

@@ -29,7 +29,7 @@ pub struct ExternCrate<'w> {
     pub name: &'w str,
     /// The path of the crate's root file, or of the folder that has it as `src/lib.rs`.
     pub path: &'w str,
-    /// Its own edition and features; `None` if it is read under those of the session.
+    /// The crate's own edition and features; `None` if it has the session's.
     pub settings: Option<CrateSettings<'w>>,
 }
 
@@ -49,7 +49,7 @@ pub struct SessionOptions<'w, A: Allocator = Global> {
     pub dialect: Dialect,
     /// The target whose options `cfg` sees.
     pub target: Target,
-    /// The `cfg` options beside those of the target, in order.
+    /// The `cfg` options that are given in addition to the target's, in order.
     pub given: Vec<CfgOption<'w>, A>,
     /// The features of the crate, each an option `feature = ".."`.
     pub features: Vec<&'w str, A>,
@@ -59,6 +59,8 @@ pub struct SessionOptions<'w, A: Allocator = Global> {
     pub depth: Option<u32>,
     /// The limit of expansions in all.
     pub fuel: u32,
+    /// The limit of tokens that expansions write in all.
+    pub max_tokens: u32,
     /// Whether each step is reported.
     pub is_traced: bool,
     /// Whether the origin of each token of an expansion is reported.
@@ -69,7 +71,7 @@ pub struct SessionOptions<'w, A: Allocator = Global> {
     /// The paths of the files that are the roots of the session's own crates. The session's texts
     /// begin with these files, in this order.
     pub names: Vec<&'w str, A>,
-    /// Whether the trees of a crate have those of its out-of-line modules.
+    /// Whether the trees of a crate include the trees of its out-of-line modules.
     pub with_modules: bool,
     /// The external crates whose macros are expanded too.
     pub externs: Vec<ExternCrate<'w>, A>,
@@ -157,6 +159,7 @@ impl<'w, A: Allocator + Copy> SessionOptions<'w, A> {
             is_test: false,
             depth: None,
             fuel: 100_000,
+            max_tokens: 10_000_000,
             is_traced: false,
             is_origin_noted: false,
             explain: None,
@@ -168,10 +171,17 @@ impl<'w, A: Allocator + Copy> SessionOptions<'w, A> {
     }
 
     /// Returns the settings of the expander. `limit` is the limit of nested expansions that the
-    /// files set; `explain` is the calls to explain.
-    pub fn settings(&self, limit: Option<u32>, explain: ExplainFilter) -> ExpansionSettings
+    /// files set; `explain` is the calls to explain; `is_closed` says whether every macro that a
+    /// plain name can mean is known.
+    pub fn settings(
+        &self,
+        limit: Option<u32>,
+        explain: ExplainFilter,
+        is_closed: bool,
+    ) -> ExpansionSettings
         ensures edition { result.edition ≡ self.now.edition }
         ensures fuel { result.fuel ≡ self.now.fuel }
+        ensures tokens { result.max_tokens ≡ self.now.max_tokens }
         ensures traced { result.is_traced ≡ self.now.is_traced }
         ensures origin { result.is_origin_noted ≡ self.now.is_origin_noted }
         ensures explain { result.explain ≡ explain }
@@ -181,9 +191,11 @@ impl<'w, A: Allocator + Copy> SessionOptions<'w, A> {
             edition: self.edition,
             depth: self.depth.or(limit).unwrap_or(DEPTH),
             fuel: self.fuel,
+            max_tokens: self.max_tokens,
             is_traced: self.is_traced,
             is_origin_noted: self.is_origin_noted,
             explain,
+            is_closed,
         }
     }
 
@@ -199,10 +211,10 @@ impl<'w, A: Allocator + Copy> SessionOptions<'w, A> {
         }
     }
 
-    /// Returns the settings of the external crate that file `number` is of. `roots` has for each
-    /// file the number of the root from which it was reached; the roots of external crates come
-    /// after those of the session's own crates. `None` if the crate has no settings of its
-    /// own.
+    /// Returns the settings of the external crate that file `number` belongs to. `roots` has for
+    /// each file the number of the root from which it was reached. The roots of the session's own
+    /// crates come first, then the roots of external crates. `None` if the crate has no settings of
+    /// its own.
     pub fn crate_settings(&self, roots: &[usize], number: usize) -> Option<&CrateSettings<'w>>
         ensures { option_map (λ s. s.now) result ≡ own_of self.now roots.now number }
     {

@@ -79,7 +79,8 @@ fragment_written inner s p d around f rest bare needed is_path span now opened m
     ∙ ap (λ x. put (grouped bare (around_fragment x) (held is_path needed x)) now) sp
     ∙ ap (λ x. put (grouped x (around_fragment place) (held is_path needed place)) now) b
     ∙ ap (λ x. put (grouped (is_bare s p d f rest) (around_fragment place) (held x needed place)) now) i
-    ∙ ap (λ x. put (grouped (is_bare s p d f rest) (around_fragment place) (held (is_around groups.Path d) x place)) now)
+    ∙ ap (λ x. put (grouped (is_bare s p d f rest) (around_fragment place) (held (is_around groups.Path d) x place))
+    now)
     n
 
 -- ---- another group

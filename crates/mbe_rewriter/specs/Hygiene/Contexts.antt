@@ -102,9 +102,8 @@ apply_hygiene contexts mark left out =
     renamed_trees (reserved_names out left) (record { contexts = contexts; mark = numbered mark })
     out
 
--- What isn't decided about an expansion: the uses that keep locals from being renamed where they
--- meet others of their names, and the uses of names that are the expansion's own if it is a
--- pattern.
+-- The undecided uses of an expansion. Some keep locals from being renamed although other words have
+-- their names. The others use names that are the expansion's own if it is a pattern.
 abbrev pub undecided_of : List ℕ → ℕ → Forest → Top → List UndecidedUse
 undecided_of contexts mark left out =
     undecided_in (reserved_names out.1 left) (record { contexts = contexts; mark = numbered mark })

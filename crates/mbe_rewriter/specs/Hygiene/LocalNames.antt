@@ -21,8 +21,8 @@ use Rattle.mbe_rewriter.specs.Hygiene.FormatNames.{format_names}
 use Rattle.mbe_rewriter.specs.Hygiene.Roles.{inner_role}
 use Rattle.mbe_rewriter.specs.Hygiene.TreeEvents.{TreeEvent, token, opening, closing}
 
--- A word of the trees, or another token that matters to locals: a name that a string mentions, the
--- end of a value or of an arm, or the beginning or the end of a group.
+-- A word of the trees, or another token that matters to locals. Such a token is a name that a
+-- string mentions, the end of a value or of an arm, or the beginning or the end of a group.
 pub record Word : Type 0 where
   pub text : List ℕ
   pub span : Span
@@ -99,7 +99,7 @@ outer_words ns w (suc left) n =
     ∷ outer_words ns w left (context_before ns.contexts n)
     else []
 
--- That word again, for each step whose locals it may know.
+-- The word once more for each step whose locals it may know.
 abbrev pub inner_words : ContextParents → Word → List Word
 inner_words ns w =
     if is_nested_role (inner_role w.role) && nat_lt ns.mark (w.span.ctx).0
@@ -157,7 +157,7 @@ context w = (w.span.ctx).0
 abbrev pub is_same : Word → Word → Bool
 is_same v w = is_same_namespace v.role w.role && (context v == context w && bytes_eq v.text w.text)
 
--- A step binds the word. Context 0 is that of the text itself.
+-- A step binds the word. Context 0 is the context of the text itself.
 abbrev pub is_binding : Word → Bool
 is_binding w = binds_role w.role && not (context w == 0)
 

@@ -1,5 +1,6 @@
--- What a word may be, by the state of the scan and by the trees after it: a binding of a local, a
--- use of one, a label, or none of these. A word that isn't surely a binding isn't one.
+-- The roles of words. The state of the scan and the trees after a word decide whether it is a
+-- binding of a local, a use of one, a label, or none of these. A word that isn't surely a binding
+-- isn't one.
 use Rattle.std.specs.Prelude.{Bool, true, false, not, ◌&&◌, ◌||◌, if◌then◌else◌}
 use Rattle.mbe_tt.specs.Trees.Leaf.{Ident}
 use Rattle.mbe_tt.specs.Trees.Tree.{Forest}
@@ -89,8 +90,8 @@ alone_role s i rest = if path_follows rest || bang_follows rest then Other else 
 abbrev pub label_role : Forest → TokenRole
 label_role rest = if is_label rest then Label else Other
 
--- A field or a method is after a `.`, a part of a path after a `::`, a macro's variable after a
--- `$`, and an item after a keyword such as `fn`.
+-- A word after a `.` is a field or a method. After a `::` it is a part of a path, after a `$` a
+-- macro's variable, and after a keyword such as `fn` an item.
 abbrev pub role_after : ScanState → PreviousToken → Ident → Forest → TokenRole
 role_after s before.Quote i rest = label_role rest
 role_after s before.JumpQuote i rest = Jump

@@ -72,19 +72,26 @@ final_delimiter d = if is_around_variable d then around_fragment d.opening else 
 
 abbrev pub prefix_after_word : List ℕ → TreePrefix → TreePrefix
 prefix_after_word word prefix.Bang = prefix.Bang
+prefix_after_word word prefix.Quote = prefix.Sign
 prefix_after_word word _ =
     if is_text word (codes "mut") || is_text word (codes "const") then prefix.Sign else prefix.Other
 
-abbrev pub prefix_after_char : ℕ → TreePrefix
-prefix_after_char char =
-    if char == 33 then prefix.Bang
+abbrev pub is_sign : TreePrefix → Bool
+is_sign prefix.Sign = true
+is_sign _ = false
+
+-- A lifetime may be between a sign and its operand.
+abbrev pub prefix_after_char : ℕ → TreePrefix → TreePrefix
+prefix_after_char char p =
+    if char == 39 && is_sign p then prefix.Quote
+    else if char == 33 then prefix.Bang
     else if char == 38 || char == 64 || char == 124 || char == 42 then prefix.Sign
     else prefix.Other
 
 -- What a leaf after that is to the tree after it.
 abbrev pub prefix_after : Leaf → TreePrefix → TreePrefix
 prefix_after (ident i) p = prefix_after_word i.sym p
-prefix_after (punct q) p = prefix_after_char q.char
+prefix_after (punct q) p = prefix_after_char q.char p
 prefix_after (literal l) p = prefix.Other
 
 -- Braces hold statements, except in the argument of a macro call.
@@ -121,6 +128,7 @@ has s f = any_tree (is_found s) f
 -- A sign before the trees would apply to a part of them.
 abbrev pub is_split : TreePrefix → Forest → Bool
 is_split prefix.Sign f = is_word (codes "mut") f || has search_for.Split f
+is_split prefix.Quote f = false
 is_split prefix.Bang f = false
 is_split prefix.Other f = false
 

@@ -1,8 +1,11 @@
--- Variables of templates that rustc keeps whole, where their text would be parsed differently. In
--- `$x as $t << 1`, the `<` would begin generic arguments of the type, so `($t)` is written there.
--- In `$x.pow(2)`, the `-` of `-2` would apply to the whole call, and in `&$p` the `&` to a part of
--- `1 | 2`, so an operand's parentheses are written there. In `$s - 1` the `-` would go on with the
--- statement, so a statement's parentheses are written there.
+-- Variables of templates that rustc keeps whole, where their text would be parsed differently.
+--
+-- - In `$x as $t << 1`, the `<` would begin generic arguments of the type. So `($t)` is written
+--   there.
+-- - In `$x.pow(2)`, the `-` of `-2` would apply to the whole call. In `&$p`, the `&` would apply to
+--   a part of `1 | 2`. So an operand's parentheses are written there.
+-- - In `$s - 1`, the `-` would go on with the statement. So a statement's parentheses are written
+--   there.
 use Rattle.std.specs.Prelude.{ℕ, zero, suc, Bool, true, false, ◌&&◌, ◌||◌, if◌then◌else◌, codes}
 use Rattle.std.specs.Prelude.{List, Option, Some, None, is_some, option_map}
 use Rattle.mbe_tt.specs.Trees.Leaf.{Leaf, literal, punct, ident, span_of}

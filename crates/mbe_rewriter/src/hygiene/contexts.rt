@@ -1,8 +1,7 @@
 // Syntax contexts of the tokens of a step.
 //
 // `contexts_in` lists the contexts of a macro's tokens, and `step_span` gives a token its context
-// in a
-// step. `apply_hygiene` renames the locals of an expansion, also apart from names after it.
+// in a step. `apply_hygiene` renames the locals of an expansion, also apart from names after it.
 ghost use Rattle.std.specs.Prelude.{◌≡◌, ◌++◌, [], IfOk, OnOk, map};
 ghost use Rattle.mbe_tt.specs.Trees.Leaf as tree;
 ghost use Rattle.mbe_tt.specs.Views.LeafViews.{leaf_of, literal_of};
@@ -100,7 +99,8 @@ pub fn numbered(number: usize) -> u32
 }
 
 // Returns the context that a token of the context `context` gets in a step. `contexts` are the
-// macro's contexts. The first of them becomes `number`, and each further one the next number.
+// macro's contexts. The step gives the first one the number `number`, and each further one the next
+// number.
 fn step_context(number: u32, contexts: &[u32], context: u32) -> u32
     ensures { result ≡ spec.step_context number contexts.now context }
 {
@@ -236,8 +236,8 @@ fn words_in<A: Allocator + Copy>(
     words_of(alloc, events.as_slice())
 }
 
-// Returns the names that an expansion's locals must not get: those after the expansion, if they may
-// see its locals.
+// Returns the names that an expansion's locals must not get. These are the names after the
+// expansion, if they may see its locals.
 fn reserved_names<A: Allocator + Copy>(
     alloc: A,
     tree: &TopSubtree<A>,
@@ -252,11 +252,11 @@ fn reserved_names<A: Allocator + Copy>(
     }
 }
 
-/// Returns an expansion with its locals renamed apart from others of their names, also those in
-/// `left`, the trees after the expansion. For each context of a step, from 1 on, `contexts` has the
-/// context that the macro's token had. Contexts up to `mark` belong to earlier calls. The result
-/// also lists names that `left` uses and that are the expansion's own if it is a pattern. Returns
-/// `AllocError` if memory runs out.
+/// Returns an expansion with its locals renamed apart from other words of their names, also from
+/// words in `left`, the trees after the expansion. For each context of a step, from 1 on,
+/// `contexts` has the context that the macro's token had. Contexts up to `mark` belong to earlier
+/// calls. The result also lists names that `left` uses and that are the expansion's own if it is a
+/// pattern. Returns `AllocError` if memory runs out.
 pub fn apply_hygiene<A: Allocator + Copy>(
     alloc: A,
     tree: &TopSubtree<A>,

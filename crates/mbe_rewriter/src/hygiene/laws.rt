@@ -25,8 +25,8 @@ pub fn no_name_around()
     ensures { NoNameAround }
 {}
 
-/// A local that a step binds is decided, or one of its uses is listed as undecided, or no token in
-/// its scope has its name in another context.
+/// For each local that a step binds, one of three holds. It is decided, one of its uses is listed
+/// as undecided, or no token in its scope has its name in another context.
 pub fn each_is_settled()
     ensures { EachIsSettled }
 {}

@@ -1,7 +1,8 @@
 // Decides which locals and labels may be renamed.
 //
-// `words_of` lists the words of an expansion, and `locals` those that its steps bind. `undecided`
-// lists the uses that keep a local from being renamed. `new_names` has the names of the others.
+// `words_of` lists the words of an expansion, and `locals` the ones that its steps bind.
+// `undecided` lists the uses that keep a local from being renamed. `new_names` has the names of the
+// others.
 ghost use Rattle.std.specs.Prelude.{◌≡◌, ◌≤◌, ◌++◌, ◌∷◌, [], IfOk, OnOk, length, map};
 ghost use Rattle.mbe_tt.specs.Trees.Leaf as tree;
 ghost use Rattle.mbe_tt.specs.Views.LeafViews.{leaf_of, literal_of};
@@ -21,8 +22,8 @@ use mbe_tt::symbol::Symbol;
 use mbe_tt::tt::{Leaf, Literal};
 use std::alloc::{AllocError, Allocator};
 
-/// A word of the trees, or another token that matters to locals: a name that a string mentions, the
-/// end of a value or of an arm, or the beginning or the end of a group.
+/// A word of the trees, or another token that matters to locals. Such a token is a name that a
+/// string mentions, the end of a value or of an arm, or the beginning or the end of a group.
 #[derive(Clone, Copy, Drop)]
 pub(crate) struct Word<'t> {
     pub(crate) text: &'t str,

@@ -1,7 +1,7 @@
 // Chooses the new names of locals and labels.
 //
-// The new name of `a` is the first of `a_1`, `a_2` and so on that no word of the trees, no name
-// around them and no other local has.
+// The new name of `a` is the first unused one of `a_1`, `a_2` and so on. A name is used if a word
+// of the trees, a name around them or another local has it.
 ghost use Rattle.std.specs.Prelude.{◌≡◌, ◌≤◌, [], IfOk, OnOk, length, map, option_map};
 ghost use Rattle.mbe_rewriter.specs.Hygiene.EventViews.{word_of, naming_of};
 ghost use Rattle.mbe_rewriter.specs.Hygiene.Buckets.{AreBuckets, buckets_of, numbered_words};
@@ -132,8 +132,8 @@ fn push_name<'t, A: Allocator + Copy>(
     Ok(())
 }
 
-/// Returns those of these locals that are renamed, with their new names. Returns `AllocError` if
-/// memory runs out.
+/// Returns the locals that are renamed, with their new names. Returns `AllocError` if memory runs
+/// out.
 pub(crate) fn namings<'t, A: Allocator + Copy>(
     alloc: A,
     words: &[Word<'_>],

@@ -1,9 +1,9 @@
 // Calls that may be patterns.
 //
-// Where a call is a pattern, as in `let m!() = 1;`, the names that the macro's template binds are
-// locals of the call alone. Which calls are patterns isn't known here, but the trees after a call
-// tell which may be. Such a name keeps its text, and each that the trees after the call use is a
-// doubt.
+// A call may be a pattern, as in `let m!() = 1;`. The names that the macro's template binds are
+// then locals of the call alone. Which calls are patterns isn't known here, but the trees after a
+// call tell which may be. Such a name keeps its text, and each such name that the trees after the
+// call use is a doubt.
 ghost use Rattle.std.specs.Prelude.{◌≡◌, ◌++◌, [], IfOk, OnOk, map};
 ghost use Rattle.mbe_tt.specs.Views.LeafViews.{leaf_of};
 ghost use Rattle.mbe_tt.specs.Views.View.{trees};
@@ -180,7 +180,7 @@ fn push_first_uses<A: Allocator>(
     Ok(())
 }
 
-// Returns the words of the trees after a call. `events` are those of the trees.
+// Returns the words of the trees after a call. `events` are the events of these trees.
 fn words_after<'t, A: Allocator + Copy>(
     alloc: A,
     events: &[TreeEvent<'t, A>],
@@ -195,9 +195,9 @@ fn words_after<'t, A: Allocator + Copy>(
     words_of(alloc, context_parents, events)
 }
 
-/// Appends to `found` the doubts of an expansion that may be a pattern: each name that a step binds
-/// there, with its first use in `left`, the trees after the call. Contexts up to `mark` belong to
-/// earlier calls. Returns `AllocError` if memory runs out.
+/// Appends to `found` the doubts of an expansion that may be a pattern. A doubt is a name that a
+/// step binds there, with its first use in `left`, the trees after the call. Contexts up to `mark`
+/// belong to earlier calls. Returns `AllocError` if memory runs out.
 pub(crate) fn push_pattern_doubts<A: Allocator + Copy>(
     alloc: A,
     found: &mut Vec<UndecidedUse, A>,

@@ -1,8 +1,7 @@
 // Tracks where a token is, by the tokens before it.
 //
 // A scan passes the tokens of a group from the front. Its state is a `ScanState`: the last token,
-// what
-// the group holds, and which part of a statement or closure the scan is in.
+// what the group holds, and which part of a statement or closure the scan is in.
 ghost use Rattle.std.specs.Prelude.{◌≡◌};
 ghost use Rattle.mbe_tt.specs.Trees.Leaf.{ident};
 ghost use Rattle.mbe_tt.specs.Views.LeafViews.{ident_of, leaf_of};
@@ -64,7 +63,7 @@ pub(crate) enum PreviousToken {
     Sign,
 }
 
-/// What a group holds, at a point of it.
+/// The kind of content that a group holds at a point of it.
 #[derive(Clone, Copy, Drop)]
 pub(crate) enum Region {
     // Items, statements and expressions.
@@ -118,7 +117,7 @@ pub(crate) struct ScanState {
     pub(crate) is_late: bool,
 }
 
-/// What a word may be.
+/// The roles that a token may have for locals and labels.
 #[derive(Clone, Copy, Drop)]
 pub enum TokenRole {
     /// No local and no label.
@@ -147,7 +146,7 @@ pub enum TokenRole {
     Begin,
     /// The end of the value that belongs to a `let`.
     End,
-    /// The opening of a group. What it binds is bound up to its closing.
+    /// The opening of a group. A local that the group binds is bound up to its closing.
     Enter,
     /// Such an opening that ends the value of an `if let`, a `while let` or a `for`.
     Body,
@@ -202,7 +201,8 @@ pub(crate) fn is_pattern(scan: ScanState) -> bool
     }
 }
 
-// Returns whether a group is the argument of a macro. What it binds may be bound after it too.
+// Returns whether a group is the argument of a macro. A local that the group binds may be bound
+// after it too.
 fn is_argument(before: PreviousToken) -> bool
     ensures { result ≡ spec.is_argument before }
 {

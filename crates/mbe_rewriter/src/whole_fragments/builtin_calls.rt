@@ -19,7 +19,7 @@ use std::alloc::{AllocError, Allocator};
 // The maximum depth of groups. Deeper groups are copied unchanged.
 const LEVELS: u32 = 1000;
 
-/// What calls of `line!` and `column!` become, and which of these four macros are builtin.
+/// The numbers that `line!` and `column!` expand to, and which of these four macros are builtin.
 #[derive(Clone, Copy, Drop)]
 pub struct Builtins {
     pub line: Option<u32>,
@@ -28,7 +28,7 @@ pub struct Builtins {
     pub concat: bool,
 }
 
-// What surrounds the trees.
+// The surroundings of the trees.
 #[derive(Clone, Copy, Drop)]
 pub(crate) enum BuiltinContext {
     Code,

@@ -2,9 +2,9 @@
 //
 // An expansion of rustc's dialect has each fragment in an invisible group that knows its kind. Text
 // has no such groups. A group becomes parentheses where its trees would be parsed differently
-// without it, and is removed elsewhere. The rules are those of `parenthesize_receivers`, and the
-// expander's in rust-analyzer's dialect: an expression of several trees gets parentheses, and a
-// path gets a `::` before its generic arguments.
+// without it, and is removed elsewhere. The rules are the rules of `parenthesize_receivers`, and
+// two rules of the expander in rust-analyzer's dialect. An expression of several trees gets
+// parentheses. A path gets a `::` before its generic arguments.
 //
 // The argument of a macro call keeps its groups: the macro may pass them on, and matches them
 // whole. They are opened when no call is left to expand.
@@ -107,8 +107,8 @@ fn is_negative_receiver<A: Allocator>(
     is_negative(tokens) && is_single_dot(rest)
 }
 
-// Returns whether the group of a fragment becomes parentheses. `tokens` are its trees, `rest` those
-// after it.
+// Returns whether the group of a fragment becomes parentheses. `tokens` are its trees, and `rest`
+// are the trees after it.
 fn is_parenthesized<A: Allocator>(
     surroundings: Surroundings,
     prefix: TreePrefix,
@@ -259,7 +259,7 @@ fn is_kept(opening: Opening, prefix: TreePrefix, delimiter: Delimiter) -> bool
     }
 }
 
-// What is known where trees are written.
+// The circumstances in which trees are written.
 #[derive(Clone, Copy, Drop)]
 struct Site {
     opening: Opening,

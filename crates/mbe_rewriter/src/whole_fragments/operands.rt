@@ -2,7 +2,8 @@
 // fields, calls, indexes and `?`. No operator beside such an operand takes a part of it.
 //
 // Each tree leads from one state to the next. In `a::b(1).c`, `a` gives `Path`, each `:` gives
-// `AfterColon`, `b` gives `Path`, `(1)` gives `Applied`, `.` gives `AfterDot`, and `c` gives `Field`.
+// `AfterColon`, `b` gives `Path`, `(1)` gives `Applied`, `.` gives `AfterDot`, and `c` gives
+// `Field`.
 ghost use Rattle.std.specs.Prelude.{◌≡◌, false};
 ghost use Rattle.mbe_tt.specs.Views.Element.{element_tree};
 ghost use Rattle.mbe_tt.specs.Views.LeafViews.{leaf_of};

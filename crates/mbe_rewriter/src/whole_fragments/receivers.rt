@@ -28,7 +28,7 @@ use std::alloc::{AllocError, Allocator};
 // The maximum depth of groups. Deeper groups are copied unchanged.
 const LEVELS: u32 = 1000;
 
-// What surrounds trees.
+// The surroundings of trees.
 #[derive(Clone, Copy, Drop)]
 pub(crate) enum Surroundings {
     // Statements may be here: braces, or no group.
@@ -38,17 +38,20 @@ pub(crate) enum Surroundings {
     Other,
 }
 
-// What precedes a tree.
+// The tokens before a tree.
 #[derive(Clone, Copy, Drop)]
 pub(crate) enum TreePrefix {
-    // `&`, `@` or `|`, perhaps with `mut` or `const` after it. The next tree is its operand.
+    // `&`, `@` or `|`, perhaps with a lifetime, `mut` or `const` after it. The next tree is its
+    // operand.
     Sign,
+    // The `'` of a lifetime after such a sign, as in `&'a`.
+    Quote,
     // A `!`, perhaps with a name after it. The next group is the argument of a macro call.
     Bang,
     Other,
 }
 
-// What is searched for among trees.
+// The tokens that are searched for among trees.
 #[derive(Clone, Copy, Drop)]
 pub(crate) enum Search {
     // A `|`, a `+` or a `..` with an end. A sign before the trees would apply to a part of them.
@@ -158,6 +161,7 @@ fn prefix_after_word(word: &str, prefix: TreePrefix) -> TreePrefix
 {
     match prefix {
         TreePrefix::Bang => TreePrefix::Bang,
+        TreePrefix::Quote => TreePrefix::Sign,
         TreePrefix::Sign | TreePrefix::Other => {
             if word == "mut" || word == "const" {
                 TreePrefix::Sign
@@ -168,10 +172,18 @@ fn prefix_after_word(word: &str, prefix: TreePrefix) -> TreePrefix
     }
 }
 
-fn prefix_after_char(char: char) -> TreePrefix
-    ensures { result ≡ spec.prefix_after_char char }
+fn is_sign(prefix: TreePrefix) -> bool
+    ensures { result ≡ spec.is_sign prefix }
 {
-    if char == '!' {
+    matches!(prefix, TreePrefix::Sign)
+}
+
+fn prefix_after_char(char: char, prefix: TreePrefix) -> TreePrefix
+    ensures { result ≡ spec.prefix_after_char char prefix }
+{
+    if char == '\'' && is_sign(prefix) {
+        TreePrefix::Quote
+    } else if char == '!' {
         TreePrefix::Bang
     } else if char == '&' || char == '@' || char == '|' || char == '*' {
         TreePrefix::Sign
@@ -185,7 +197,7 @@ pub(crate) fn prefix_after<A: Allocator>(leaf: &Leaf<A>, prefix: TreePrefix) -> 
 {
     match leaf {
         Leaf::Ident(ident) => prefix_after_word(ident.sym.as_str(), prefix),
-        Leaf::Punct(punct) => prefix_after_char(punct.char),
+        Leaf::Punct(punct) => prefix_after_char(punct.char, prefix),
         Leaf::Literal(_) => TreePrefix::Other,
     }
 }
@@ -266,7 +278,7 @@ pub(crate) fn is_split<A: Allocator>(prefix: TreePrefix, tokens: TokenTreesView<
 {
     match prefix {
         TreePrefix::Sign => is_word("mut", tokens) || has(Search::Split, tokens),
-        TreePrefix::Bang | TreePrefix::Other => false,
+        TreePrefix::Quote | TreePrefix::Bang | TreePrefix::Other => false,
     }
 }
 
@@ -379,10 +391,9 @@ fn write_receivers<A: Allocator>(
     Ok(())
 }
 
-/// Returns the trees of an expansion without the groups around variables. What a variable is bound
-/// to gets parentheses instead if it is a negative literal before a `.`, or a pattern or a type to
-/// which a sign would apply in part. A statement gets a `;` if it needs one. Returns `AllocError`
-/// if memory runs out.
+/// Returns the trees of an expansion without the groups around variables. A negative literal before
+/// a `.` gets parentheses instead. So does a pattern or a type of which a sign would apply to a
+/// part only. A statement gets a `;` if it needs one. Returns `AllocError` if memory runs out.
 pub fn parenthesize_receivers<A: Allocator + Copy>(
     alloc: A,
     tree: &TopSubtree<A>,

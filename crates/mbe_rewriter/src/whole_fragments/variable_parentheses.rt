@@ -2,8 +2,7 @@
 // an expansion would be parsed differently:
 //
 // - In `$x as $t << 1`, the `<` would begin generic arguments of the type. So `parenthesize_rules`
-//   writes
-//   `($t)` there.
+//   writes `($t)` there.
 // - In `$x.pow(2)`, the `-` of `-2` would apply to the whole call. So `parenthesize_rules` writes an
 //   operand's parentheses there. They are kept or removed once `$x` is known.
 // - In `&$p`, the `&` would apply to the first part of `1 | 2`. An operand's parentheses are there

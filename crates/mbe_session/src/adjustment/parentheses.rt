@@ -1,7 +1,10 @@
 // Decides whether the text of an expansion needs parentheses or braces in place of its call.
 //
-// rustc keeps an expansion whole. Its text may be parsed differently: an operator beside it takes a
-// part of it, a block at its start ends a statement, a brace in a condition begins the block.
+// rustc keeps an expansion whole. Its text may be parsed differently:
+//
+// - An operator beside it takes a part of it.
+// - A block at its start ends a statement.
+// - A brace in a condition begins the block.
 ghost use Rattle.std.specs.Prelude.{IfOk, IfSome};
 ghost use Rattle.mbe_session.specs.Adjustment.{IsWrap};
 
@@ -177,7 +180,7 @@ fn is_expression_split<A: Allocator>(
     }
     Ok(match place.last {
         Preceding::Value => is_value_split(grammar, tokens)?,
-        // A label would be that of the `break`.
+        // A label at the front would become the label of the `break`.
         Preceding::Break if tokens.iter().expect_char('\'').is_ok() => true,
         _ => {
             (place.head != Head::None && (has_braces(tokens) || has_jump(tokens)))
@@ -204,7 +207,7 @@ fn is_pattern_or_type_split<A: Allocator>(
 }
 
 // Whether an expression, a pattern or a type needs parentheses in place of a call. No `<` may be
-// right after a type, and no `else` after braces, which a call in the expansion may become.
+// right after a type, and no `else` after braces. A call in the expansion may expand to braces.
 fn is_split<A: Allocator>(
     grammar: &RuleTable<'_>,
     tokens: TokenTreesView<'_, A>,
@@ -228,6 +231,32 @@ fn is_split<A: Allocator>(
     }
 }
 
+// Whether a `.` or a `?` is at the front, and no `..`.
+fn begins_with_postfix<A: Allocator>(rest: TokenTreesView<'_, A>) -> bool {
+    let mut iter = rest.iter();
+    iter.expect_char('?').is_ok()
+        || (iter.expect_char('.').is_ok() && iter.expect_char('.').is_err())
+}
+
+// Returns the delimiters that keep an expression, a pattern or a type whole after `last`, before
+// `rest`. An attribute may be on the value of a block, but not on an expression in parentheses.
+// Where a statement or a value begins, braces would be all of it, except before a `.` or a `?`.
+fn delimiters_around<A: Allocator>(
+    tokens: TokenTreesView<'_, A>,
+    last: Preceding,
+    rest: TokenTreesView<'_, A>,
+) -> DelimiterKind
+    ensures { IsWrap result }
+{
+    let begins_statement = matches!(last, Preceding::Statement | Preceding::Value);
+    let may_be_block = !begins_statement || begins_with_postfix(rest);
+    if may_be_block && tokens.iter().expect_char('#').is_ok() {
+        DelimiterKind::Brace
+    } else {
+        DelimiterKind::Parenthesis
+    }
+}
+
 // Returns the delimiters that these trees are put in, in place of a call at `place`.
 #[tactic(auto, using(crate::proofs::AdjustmentLemmas::wrap_if))]
 pub(crate) fn wrap_of<A: Allocator + Copy>(
@@ -241,7 +270,7 @@ pub(crate) fn wrap_of<A: Allocator + Copy>(
 {
     let is_expression = is_whole(grammar, PrefixEntryPoint::Expr, tokens)?;
     if is_split(grammar, tokens, call, place, is_expression)? {
-        return Ok(Some(DelimiterKind::Parenthesis));
+        return Ok(Some(delimiters_around(tokens, place.last, call.rest)));
     }
     if is_expression || tokens.len() <= 1 {
         return Ok(None);

@@ -1,6 +1,7 @@
-// Where a tree is: what precedes it in its group, and what the group holds.
+// Describes the surroundings of a tree: what precedes it in its group, and what the group holds.
 use mbe_rewriter::macro_items::{MacroCall, begins_with_operator};
-use mbe_tt::tt::{DelimiterKind, Leaf, Spacing, TokenTreesView, TtElement};
+use mbe_tt::fragment_group::FragmentGroup;
+use mbe_tt::tt::{Delimiter, DelimiterKind, Leaf, Spacing, TokenTreesView, TtElement};
 use std::alloc::Allocator;
 
 // What precedes a tree in its group.
@@ -106,6 +107,22 @@ pub(crate) fn place_in_file() -> Place {
 // Returns the place of the first tree of a macro's argument, where that is made of expressions.
 pub(crate) fn place_in_arguments() -> Place {
     place_of(Preceding::Other, GroupContent::Arguments)
+}
+
+// Returns the place of the first tree of a group that is at `around`. A group without delimiters
+// is a fragment. It holds no statement if it is an expression, or where no statement may begin, as
+// in the arguments of a macro.
+pub(crate) fn place_in_tree(delimiter: Delimiter, around: Place) -> Place {
+    let is_argument = matches!(
+        around.content,
+        GroupContent::Arguments | GroupContent::Other
+    );
+    let is_fragment = delimiter.kind == DelimiterKind::Invisible;
+    if is_fragment && (is_argument || FragmentGroup::Expr.is_around(delimiter)) {
+        place_of(Preceding::Other, GroupContent::Other)
+    } else {
+        place_in_group(delimiter.kind)
+    }
 }
 
 // Returns the place of the first tree of a group of that kind. Braces hold statements, and a group

@@ -1,10 +1,13 @@
 // Finds patterns that bind names, and where the names are in scope, by the tokens around them.
 use crate::captures::Token;
 use mbe_tt::tt::DelimiterKind;
-use std::alloc::Allocator;
+use std::alloc::{AllocError, Allocator};
 
 // How many tokens before the `=>` of an arm are searched for the start of its pattern.
 const MAX_PATTERN_TOKENS: usize = 100;
+
+// How many trees are searched for a token that ends a pattern, a statement, or the like.
+const MAX_TREES: usize = 1000;
 
 // A pattern, and the scope of the names that it binds. Both are ranges of tokens.
 #[derive(Clone, Copy, Drop)]
@@ -30,7 +33,7 @@ fn is_word<A: Allocator>(tokens: &[Token<'_, A>], at: usize, word: &str) -> bool
 }
 
 fn is_open<A: Allocator>(tokens: &[Token<'_, A>], at: usize, kind: DelimiterKind) -> bool {
-    matches!(tokens.get(at), Some(Token::Open(found)) if *found == kind)
+    matches!(tokens.get(at), Some(Token::Open(found, _)) if *found == kind)
 }
 
 // Whether two chars are there, one after the other.
@@ -38,7 +41,7 @@ fn are_chars<A: Allocator>(tokens: &[Token<'_, A>], at: usize, first: char, seco
     is_char(tokens, at, first) && is_char(tokens, at.saturating_add(1), second)
 }
 
-// What ends the range of tokens that is looked for.
+// The end of the range of tokens that is looked for.
 #[derive(Clone, Copy, Drop)]
 enum Stop {
     // The end of the pattern of a `let`.
@@ -78,22 +81,33 @@ fn is_single_colon<A: Allocator>(tokens: &[Token<'_, A>], at: usize) -> bool {
         && !is_char(tokens, at.saturating_sub(1), ':')
 }
 
+// Returns the token after the tree at a token. A closing delimiter and the end have none.
+fn after_tree<A: Allocator>(tokens: &[Token<'_, A>], at: usize) -> Option<usize> {
+    match tokens.get(at) {
+        Some(Token::Open(_, len)) => Some(at.saturating_add(*len).saturating_add(2)),
+        Some(Token::Close) | None => None,
+        Some(Token::Name(_) | Token::Punct(_) | Token::Literal) => Some(at.saturating_add(1)),
+    }
+}
+
 // Returns the first stop from a token on, in the same group; the end of the group, if there is
-// none.
+// none. Only the end of a group is looked for behind more than `MAX_TREES` trees.
 fn stop_after<A: Allocator>(tokens: &[Token<'_, A>], from: usize, stop: Stop) -> usize {
-    let mut depth = 0usize;
-    for at in from..tokens.len() {
-        if depth == 0 && is_stop(tokens, at, stop) {
+    let limit = match stop {
+        Stop::Group => tokens.len(),
+        _ => MAX_TREES,
+    };
+    let mut at = from;
+    for _ in 0..limit {
+        if is_stop(tokens, at, stop) {
             return at;
         }
-        match tokens.get(at) {
-            Some(Token::Open(_)) => depth = depth.saturating_add(1),
-            Some(Token::Close) if depth == 0 => return at,
-            Some(Token::Close) => depth -= 1,
-            _ => {}
+        match after_tree(tokens, at) {
+            Some(next) => at = next,
+            None => return at.min(tokens.len()),
         }
     }
-    tokens.len()
+    at.min(tokens.len())
 }
 
 // Returns the pattern from one token up to another. Its names are in scope in the first braces
@@ -151,7 +165,7 @@ fn begins_closure<A: Allocator>(tokens: &[Token<'_, A>], at: usize) -> bool {
         return true;
     }
     match tokens.get(at - 1) {
-        Some(Token::Open(kind)) => *kind != DelimiterKind::Brace,
+        Some(Token::Open(kind, _)) => *kind != DelimiterKind::Brace,
         Some(Token::Punct(char)) => matches!(*char, ',' | '=' | ';'),
         Some(Token::Name(name)) => matches!(name.sym.as_str(), "move" | "return"),
         Some(Token::Close | Token::Literal) | None => false,
@@ -187,8 +201,8 @@ fn arm_before<A: Allocator>(tokens: &[Token<'_, A>], at: usize) -> Option<usize>
         let last = first - 1;
         match tokens.get(last) {
             Some(Token::Close) => depth = depth.saturating_add(1),
-            Some(Token::Open(_)) if depth == 0 => return Some(first),
-            Some(Token::Open(_)) => depth -= 1,
+            Some(Token::Open(..)) if depth == 0 => return Some(first),
+            Some(Token::Open(..)) => depth -= 1,
             Some(Token::Punct(',')) if depth == 0 => return Some(first),
             Some(Token::Punct('>')) if depth == 0 => return Some(first),
             _ => {}
@@ -219,6 +233,97 @@ fn arm_scope<A: Allocator>(tokens: &[Token<'_, A>], at: usize) -> Option<Pattern
         scope_from: to,
         scope_to: Some(scope_to),
     })
+}
+
+pub(crate) fn is_closing<A: Allocator>(tokens: &[Token<'_, A>], at: usize) -> bool {
+    matches!(tokens.get(at), Some(Token::Close))
+}
+
+// Counts the angle brackets after a token. The `>` of a `->` is none.
+fn angles_after<A: Allocator>(tokens: &[Token<'_, A>], at: usize, angles: usize) -> usize {
+    if is_char(tokens, at, '<') {
+        angles.saturating_add(1)
+    } else if is_char(tokens, at, '>') && !is_char(tokens, at.saturating_sub(1), '-') {
+        angles.saturating_sub(1)
+    } else {
+        angles
+    }
+}
+
+// Returns the opening of a function's parameters, from a token on. Parentheses in the generic
+// parameters before them don't count.
+fn parameters_after<A: Allocator>(tokens: &[Token<'_, A>], from: usize) -> Option<usize> {
+    let mut angles = 0usize;
+    let mut at = from;
+    for _ in 0..MAX_TREES {
+        match tokens.get(at) {
+            Some(Token::Open(DelimiterKind::Parenthesis, _)) if angles == 0 => return Some(at),
+            Some(Token::Open(..) | Token::Punct(';')) if angles == 0 => return None,
+            _ => angles = angles_after(tokens, at, angles),
+        }
+        at = after_tree(tokens, at)?;
+    }
+    None
+}
+
+// Returns the opening of a function's body, from a token on. A function may have none.
+fn body_after<A: Allocator>(tokens: &[Token<'_, A>], from: usize) -> Option<usize> {
+    let mut at = from;
+    for _ in 0..MAX_TREES {
+        match tokens.get(at) {
+            Some(Token::Open(DelimiterKind::Brace, _)) => return Some(at),
+            Some(Token::Punct(';')) => return None,
+            _ => at = after_tree(tokens, at)?,
+        }
+    }
+    None
+}
+
+// Returns the parameters of a function whose `fn` is there. They are in scope in its body.
+pub(crate) fn function_scope<A: Allocator>(
+    tokens: &[Token<'_, A>],
+    at: usize,
+) -> Option<PatternScope> {
+    if !is_word(tokens, at, "fn") {
+        return None;
+    }
+    let from = parameters_after(tokens, at.saturating_add(1))?.saturating_add(1);
+    let to = stop_after(tokens, from, Stop::Group);
+    let scope_from = body_after(tokens, to.saturating_add(1))?.saturating_add(1);
+    Some(PatternScope {
+        from,
+        to,
+        scope_from,
+        scope_to: None,
+    })
+}
+
+// Returns the tokens that a pattern or parameters bind. The types of parameters bind none.
+pub(crate) fn bound_tokens<A: Allocator + Copy>(
+    alloc: A,
+    tokens: &[Token<'_, A>],
+    pattern: PatternScope,
+) -> Result<Vec<usize, A>, AllocError> {
+    let mut bound = Vec::new(alloc);
+    let mut depth = 0usize;
+    let mut angles = 0usize;
+    let mut is_type = false;
+    for at in pattern.from..pattern.to {
+        match tokens.get(at) {
+            Some(Token::Open(..)) => depth = depth.saturating_add(1),
+            Some(Token::Close) => depth = depth.saturating_sub(1),
+            Some(Token::Punct(',')) if depth == 0 && angles == 0 => is_type = false,
+            Some(Token::Punct(_)) if depth == 0 => {
+                is_type = is_type || is_single_colon(tokens, at);
+                angles = angles_after(tokens, at, angles);
+            }
+            Some(Token::Name(_)) if !is_type && is_bound(tokens, at, depth == 0) => {
+                bound.push(at)?;
+            }
+            _ => {}
+        }
+    }
+    Ok(bound)
 }
 
 // Returns the end of the scope of a pattern.
@@ -285,6 +390,35 @@ pub(crate) fn is_used<A: Allocator>(tokens: &[Token<'_, A>], at: usize) -> bool 
         && is_char(tokens, at - 1, '.')
         && (at == 1 || !is_char(tokens, at - 2, '.'));
     is_alone(tokens, at, false) && !is_field
+}
+
+// Returns the end of an attribute or of the rules of a macro, if one begins at a token.
+pub(crate) fn end_of_inert<A: Allocator>(tokens: &[Token<'_, A>], at: usize) -> Option<usize> {
+    let opening = if is_char(tokens, at, '#') {
+        at.saturating_add(1)
+    } else if is_word(tokens, at, "macro_rules") {
+        at.saturating_add(3)
+    } else {
+        return None;
+    };
+    match tokens.get(opening) {
+        Some(Token::Open(..)) => Some(stop_after(tokens, opening.saturating_add(1), Stop::Group)),
+        _ => None,
+    }
+}
+
+// Whether a name names an item there.
+pub(crate) fn is_item_name<A: Allocator>(tokens: &[Token<'_, A>], at: usize) -> bool {
+    if at == 0 {
+        return false;
+    }
+    match tokens.get(at - 1) {
+        Some(Token::Name(name)) => matches!(
+            name.sym.as_str(),
+            "const" | "enum" | "fn" | "mod" | "static" | "struct" | "trait" | "type" | "use"
+        ),
+        _ => false,
+    }
 }
 
 // Whether a name is bound again, or names an item.

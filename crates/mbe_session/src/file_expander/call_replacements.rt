@@ -21,6 +21,7 @@ use crate::adjustment::place::{
     Place, Preceding, place_after_call, place_after_tree, place_in_arguments, place_in_file,
     place_in_group,
 };
+use crate::captures::local_scopes::{FileLocals, file_locals};
 use crate::file_expander::{FileExpander, LEVELS, text_of};
 use crate::notes::Level;
 use mbe_rewriter::attributed_calls::front_item_with_attributes;
@@ -60,6 +61,9 @@ impl<A: Allocator + Copy> FileExpander<'_, A> {
         ensures setting { OnOk result (setting_of self.new ≡ setting_of self.old) }
     {
         let mut replacements = Vec::new(self.alloc);
+        let FileLocals { locals, patterns } = file_locals(self.alloc, tokens)?;
+        self.locals = locals;
+        self.patterns = patterns;
         let mark = self.scope.enter();
         self.replace_in(&mut replacements, texts, tokens, place_in_file(), LEVELS)?;
         self.scope.leave(mark);
@@ -217,12 +221,14 @@ impl<A: Allocator + Copy> FileExpander<'_, A> {
         ensures setting { OnOk result (setting_of self.new ≡ setting_of self.old) }
     {
         if levels == 0 {
+            self.note_too_deep_in(tokens)?;
             return Ok(());
         }
         self.replace_in(replacements, texts, tokens, place, levels - 1)
     }
 
-    // Adds the replacement for a call, and returns the trees after it.
+    // Adds the replacement for a call, and returns the trees after it. A call stays if its expansion
+    // asks for more than the limits allow; it then uses nothing of them.
     #[cycle(replacing)]
     fn replace_call<'t>(
         &mut self,
@@ -242,6 +248,7 @@ impl<A: Allocator + Copy> FileExpander<'_, A> {
     {
         let depth = self.settings.depth;
         let mark = self.contexts.len();
+        let fuel = self.fuel;
         match self.expansion(call, depth, levels)? {
             Some(tree) => {
                 let (replacement, rest) = self.replacement(
@@ -253,6 +260,11 @@ impl<A: Allocator + Copy> FileExpander<'_, A> {
                     depth - 1,
                     levels,
                 )?;
+                if self.fuel.is_spent() {
+                    self.note_spent(call)?;
+                    self.fuel = fuel;
+                    return Ok(call.rest);
+                }
                 push_attributes(self.alloc, replacements, call)?;
                 replacements.push(replacement)?;
                 Ok(rest)
@@ -318,6 +330,9 @@ impl<A: Allocator + Copy> FileExpander<'_, A> {
         let written = all_opened_in(self.alloc, self.grammar.dialect, builder.build())?;
         let apart = apply_hygiene(self.alloc, &written, rest, self.contexts.as_slice(), mark)?;
         self.note_doubts(texts, apart.undecided.as_slice())?;
+        self.note_shadowed(call, &apart.tree, mark)?;
+        self.note_pattern_call(texts, call, &apart, mark)?;
+        self.add_locals(call, &apart.tree, rest)?;
         let (around, start) = (
             text_of_file(texts, call.start.file),
             call.start.start as usize,

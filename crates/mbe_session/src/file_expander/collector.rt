@@ -1,5 +1,5 @@
-// Collects the definitions of files, and decides by what each one is found: a name in its group, a
-// name in any file, a path, or a path from another crate.
+// Collects the definitions of files, and decides what each one is found by. This is a name in its
+// group, a name in any file, a path, or a path from another crate.
 ghost use Rattle.std.specs.Prelude.{◌≡◌, ◌&&◌, ◌++◌, suc, true, OnOk, length, map, drop};
 ghost use Rattle.mbe_tt.specs.Views.Element.{element_tree};
 ghost use Rattle.mbe_tt.specs.Views.LeafViews.{leaf_of};
@@ -224,9 +224,10 @@ impl<'n> TreePlace<'n> {
 }
 
 impl<A: Allocator + Copy> FileExpander<'_, A> {
-    /// Reads the definitions of trees, and notes the error of each. From then on, wherever a call
-    /// is, a name that finds no other definition finds those in no group. A path finds those that
-    /// are exported, `macro` items, or imported by a `use`. `AllocError` if out of memory.
+    /// Reads the definitions of trees, and notes the error of each. From then on, a name that finds
+    /// no other definition finds the definitions in no group, wherever the call is. A path finds
+    /// `macro` items and the definitions that are exported or imported by a `use`. `AllocError` if
+    /// out of memory.
     pub fn define(&mut self, tokens: TokenTreesView<'_, A>) -> Result<(), AllocError>
         ensures defines { OnOk result (Defines (setting_of self.old).language (suc LEVELS) true
             (trees tokens.entry) (state_of self.old).scope (state_of self.new).scope) }
@@ -259,9 +260,9 @@ impl<A: Allocator + Copy> FileExpander<'_, A> {
     }
 
     /// Reads the definitions of another crate's trees as definitions of that crate, and notes no
-    /// errors. From then on, a path that begins with the crate's name finds those that the crate
-    /// offers. So does a name that finds no other definition, if no other crate offers one.
-    /// `AllocError` if out of memory.
+    /// errors. From then on, a path that begins with the crate's name finds the definitions that
+    /// the crate offers. So does a name that finds no other definition, if no other crate offers
+    /// one. `AllocError` if out of memory.
     pub fn define_extern_crate(
         &mut self,
         name: &str,
@@ -282,8 +283,8 @@ impl<A: Allocator + Copy> FileExpander<'_, A> {
         self.scope.close_crate(name, first)
     }
 
-    /// Gives other crates what they export of others. It takes that many rounds, since what is
-    /// exported may be exported in turn. `AllocError` if out of memory.
+    /// Gives other crates the macros that they re-export. It takes `rounds` rounds, because a
+    /// re-exported macro may be re-exported again. `AllocError` if out of memory.
     pub fn link(&mut self, exports: &[Export<A>], rounds: usize) -> Result<(), AllocError>
         ensures linked { OnOk result ((state_of self.new).scope
             ≡ linked rounds (map export_of exports.now) (state_of self.old).scope) }

@@ -18,6 +18,7 @@ ghost use Rattle.mbe_session.specs.SessionViews.{setting_of, state_of};
 
 use crate::adjustment::place::{
     Place, Preceding, place_after_call, place_after_tree, place_in_arguments, place_in_group,
+    place_in_tree,
 };
 use crate::adjustment::{
     adjustment_of, from_last, place_of_expansion, rest_after, semicolon, trimmed, up_to,
@@ -71,7 +72,7 @@ impl<A: Allocator + Copy> FileExpander<'_, A> {
                 }
                 CfgFront::Tree(tree, after) => {
                     self.note_attribute(rest)?;
-                    self.write_tree(builder, tree, depth, levels)?;
+                    self.write_tree(builder, tree, place, depth, levels)?;
                     place = place_after_tree(rest, place);
                     rest = after;
                 }
@@ -99,12 +100,13 @@ impl<A: Allocator + Copy> FileExpander<'_, A> {
         builder.extend_with_tt(up_to(tokens, defined.rest))
     }
 
-    // Writes a tree with the calls in it expanded.
+    // Writes a tree with the calls in it expanded. It is at `place`.
     #[cycle(writing)]
     fn write_tree(
         &mut self,
         builder: &mut TopSubtreeBuilder<A>,
         tree: TtElement<'_, A>,
+        place: Place,
         depth: u32,
         levels: u32,
     ) -> Result<(), AllocError>
@@ -118,7 +120,7 @@ impl<A: Allocator + Copy> FileExpander<'_, A> {
         match tree {
             TtElement::Leaf(leaf) => builder.push(leaf.clone()?),
             TtElement::Subtree(group, inside) => {
-                let place = place_in_group(group.delimiter.kind);
+                let place = place_in_tree(group.delimiter, place);
                 self.write_group(
                     builder,
                     group.delimiter,
@@ -157,7 +159,7 @@ impl<A: Allocator + Copy> FileExpander<'_, A> {
         Ok(())
     }
 
-    // Writes what is in a group or an expansion; as it is, if that is too deep.
+    // Writes the content of a group or an expansion. Too deep content is written unchanged.
     #[cycle(writing)]
     fn write_inside(
         &mut self,
@@ -175,12 +177,13 @@ impl<A: Allocator + Copy> FileExpander<'_, A> {
         ensures setting { OnOk result (setting_of self.new ≡ setting_of self.old) }
     {
         if levels == 0 {
+            self.note_too_deep_in(tokens)?;
             return builder.extend_with_tt(tokens);
         }
         self.write(builder, tokens, place, depth, levels - 1)
     }
 
-    // Writes what a call becomes, and returns what is left after it.
+    // Writes the expansion of a call, and returns the trees that are left after it.
     #[cycle(writing)]
     fn write_call<'t>(
         &mut self,
@@ -209,8 +212,8 @@ impl<A: Allocator + Copy> FileExpander<'_, A> {
         }
     }
 
-    // Writes a call that stays. In the argument of a macro of the standard library calls are
-    // expanded.
+    // Writes a call that isn't expanded. The calls in its argument are expanded if its macro is one
+    // of the standard library's.
     #[cycle(writing)]
     fn write_kept(
         &mut self,
@@ -244,7 +247,7 @@ impl<A: Allocator + Copy> FileExpander<'_, A> {
         )
     }
 
-    // Writes an expansion in place of its call, and returns what is left after that.
+    // Writes an expansion in place of its call, and returns the trees that are left after the call.
     #[cycle(writing)]
     pub(crate) fn write_expansion<'t>(
         &mut self,
@@ -310,7 +313,7 @@ impl<A: Allocator + Copy> FileExpander<'_, A> {
         Ok(())
     }
 
-    // From here on, names don't find what a group of braces defined.
+    // From here on, names don't find the definitions of a group of braces.
     pub(crate) fn leave(&mut self, kind: DelimiterKind, mark: usize)
         ensures state { state_of self.new ≡ after_group kind mark (state_of self.old) }
         ensures setting { setting_of self.new ≡ setting_of self.old }
@@ -322,7 +325,7 @@ impl<A: Allocator + Copy> FileExpander<'_, A> {
     }
 }
 
-// Writes a call as it is.
+// Writes a call unchanged.
 fn copy_call<A: Allocator>(
     builder: &mut TopSubtreeBuilder<A>,
     tokens: TokenTreesView<'_, A>,

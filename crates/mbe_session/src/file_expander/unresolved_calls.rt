@@ -4,22 +4,29 @@ ghost use Rattle.mbe_session.specs.SessionViews.{setting_of, state_of};
 
 use crate::file_expander::FileExpander;
 use crate::notes::Level;
-use crate::scope::resolution::Doubt;
+use crate::scope::resolution::{Doubt, is_prelude_macro};
 use mbe_rewriter::macro_items::MacroCall;
 use mbe_tt::span::Span;
 use std::alloc::{AllocError, Allocator};
 
 impl<A: Allocator + Copy> FileExpander<'_, A> {
-    /// Notes why a call resolves to no definition, if some definition has its name. `AllocError` if
-    /// out of memory.
+    /// Notes why a call resolves to no definition, if some definition has its name, and counts the
+    /// call. `AllocError` if out of memory.
     pub(crate) fn note_unresolved(&mut self, call: MacroCall<'_, A>) -> Result<(), AllocError>
         ensures setting { OnOk result (setting_of self.new ≡ setting_of self.old) }
         ensures state { OnOk result (state_of self.new ≡ state_of self.old) }
     {
-        match self.scope.doubt(call) {
-            None => Ok(()),
-            Some(Doubt::OutOfScope(place)) => self.note_out_of_scope(call, place),
-            Some(Doubt::Unsure(place, rival)) => self.note_unsure(call, place, rival),
+        let Some(doubt) = self.scope.doubt(call) else {
+            if is_unknown(call) {
+                self.counts.add_unknown();
+                self.note_unknown(call)?;
+            }
+            return Ok(());
+        };
+        self.counts.add_call();
+        match doubt {
+            Doubt::OutOfScope(place) => self.note_out_of_scope(call, place),
+            Doubt::Unsure(place, rival) => self.note_unsure(call, place, rival),
         }
     }
 
@@ -53,4 +60,14 @@ impl<A: Allocator + Copy> FileExpander<'_, A> {
             None => Ok(()),
         }
     }
+}
+
+// Whether a call that resolves to no definition is of a macro that isn't the standard library's.
+fn is_unknown<A: Allocator>(call: MacroCall<'_, A>) -> bool {
+    let is_standard = if call.is_path {
+        matches!(call.first.sym.as_str(), "std" | "core" | "alloc")
+    } else {
+        is_prelude_macro(call.name.sym.as_str())
+    };
+    !is_standard
 }

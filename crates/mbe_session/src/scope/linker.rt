@@ -37,7 +37,7 @@ impl<A: Allocator + Copy> Scope<A> {
         self.last_found(name, Visibility::Crates, CrateFilter::Crate(of))
     }
 
-    // Adds the definition of that number to those of the crate `by`.
+    // Adds the definition of that number to the definitions of the crate `by`.
     fn add_reexport(&mut self, by: &str, number: usize) -> Result<(), AllocError>
         ensures shared { OnOk result (scope_of self.new
             ≡ spec.with_reexport by.now number (scope_of self.old)) }
@@ -65,7 +65,7 @@ impl<A: Allocator + Copy> Scope<A> {
         Ok(())
     }
 
-    // Adds the definition of that number to those of the crate `by`, by another name.
+    // Adds the definition of that number to the definitions of the crate `by`, under another name.
     fn add_renamed_reexport(
         &mut self,
         by: &str,
@@ -112,8 +112,8 @@ impl<A: Allocator + Copy> Scope<A> {
         }
     }
 
-    // Adds to the crate `by` what the crate `from` offers by the name of that definition, if the
-    // definition is one of its own.
+    // Adds to the crate `by` the macro that the crate `from` offers by the name of that definition,
+    // if the definition is one of its own.
     fn link_number(&mut self, by: &str, from: &str, number: usize) -> Result<(), AllocError>
         ensures linked { OnOk result (scope_of self.new
             ≡ spec.with_number by.now from.now number (scope_of self.old)) }
@@ -167,7 +167,7 @@ impl<A: Allocator + Copy> Scope<A> {
         }
     }
 
-    // Applies one export after another, in the same way.
+    // Applies the exports one after another.
     fn link_exports(&mut self, is_all: bool, exports: &[Export<A>]) -> Result<(), AllocError>
         ensures linked { OnOk result (scope_of self.new
             ≡ spec.all_exported is_all (map export_of exports.now) (scope_of self.old)) }
@@ -179,8 +179,8 @@ impl<A: Allocator + Copy> Scope<A> {
         Ok(())
     }
 
-    /// Gives crates what they export of others. It takes that many rounds, since what is exported
-    /// may be exported in turn. In each round exports of single macros come before globs.
+    /// Gives crates the macros that they re-export. It takes `rounds` rounds, because a re-exported
+    /// macro may be re-exported again. In each round exports of single macros come before globs.
     /// `AllocError` if out of memory.
     pub fn link(&mut self, exports: &[Export<A>], rounds: usize) -> Result<(), AllocError>
         ensures linked { OnOk result (scope_of self.new

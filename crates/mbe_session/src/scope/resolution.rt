@@ -192,7 +192,7 @@ fn is_text_of(text: &str, texts: &[&str]) -> bool
 }
 
 // Whether a macro of the standard library has that name without a `use`.
-fn is_prelude_macro(name: &str) -> bool
+pub(crate) fn is_prelude_macro(name: &str) -> bool
     ensures { result ≡ spec.is_prelude_macro name.now }
 {
     is_standard_macro(name) || is_text_of(name, BUILTIN_MACROS)
@@ -289,7 +289,7 @@ impl<A: Allocator + Copy> Scope<A> {
             || self.is_in_crate("alloc", number)
     }
 
-    // Whether a name may mean something else than that definition of another crate: a `use` may
+    // Whether a name may mean something else than that definition of another crate. A `use` may
     // give the name to another macro, a call may define one, and the standard library has macros
     // that need no `use`.
     fn is_other(&self, name: &str, number: usize) -> bool
@@ -326,7 +326,7 @@ impl<A: Allocator + Copy> Scope<A> {
         self.sole_own(name)
     }
 
-    // Whether a name may mean another macro than that visible definition: a call may define one
+    // Whether a name may mean another macro than that visible definition. A call may define one
     // that shadows it, or the name may be in the expansion of a `macro` item.
     fn is_shadowed(&self, name: &str, number: usize) -> bool
         ensures { result ≡ spec.is_shadowed (scope_of self.now) name.now number }
@@ -417,8 +417,8 @@ impl<A: Allocator + Copy> Scope<A> {
         has_use(self.declared.as_slice(), name) || has_use(self.declared.as_slice(), "*")
     }
 
-    // Whether a path may reach the only definition of its last name: a path of two names does only
-    // by a module of the first name, or by a `use`.
+    // Whether a path may reach the only definition of its last name. A path of two names reaches it
+    // by a module of the first name or by a `use`, or if the first name is relative.
     fn may_reach(&self, is_pair: bool, first: &str, name: &str) -> bool
         ensures { result ≡ spec.may_reach (scope_of self.now) is_pair first.now name.now }
     {
@@ -571,6 +571,11 @@ impl<A: Allocator + Copy> Scope<A> {
             return None;
         }
         self.unsure(name)
+    }
+
+    /// Whether a `use` may give that name to a macro, or a call may define one.
+    pub(crate) fn may_be_named(&self, name: &str) -> bool {
+        has_use(self.declared.as_slice(), name) || self.may_define()
     }
 
     /// Returns why a call that resolves to no definition does so, if some definition has its name.

@@ -28,6 +28,7 @@ returns c =
       };
       are_read = c.in_ok-files.ensures.read;
       linted = subst (λ ts. FilesLinted c.args.options.now.edition ts [] said) trees
-          (subst (λ before. FilesLinted c.args.options.now.edition (map (λ f. f.tree) c.as_slice.result.now) before said)
+          (subst (λ before. FilesLinted c.args.options.now.edition (map (λ f. f.tree) c.as_slice.result.now) before
+          said)
           (ap (map lint_seen) c.new-lints.ensures.items) c.in_ok-push_all_lints.ensures);
     }

@@ -17,7 +17,8 @@ Reads table options roots =
 pub loop-number-init : goal.loop-number-init
 loop-number-init c = (
   ap (map (λ f. source_text (source_of f))) c.new-files.ensures.items,
-  no_source source_of (Reads c.args.grammar c.args.options.now c.args.roots.now) c.new-files.result.items c.new-files.ensures.items,
+  no_source source_of (Reads c.args.grammar c.args.options.now c.args.roots.now) c.new-files.result.items
+      c.new-files.ensures.items,
   ap length c.new-files.ensures.items,
 )
 
@@ -31,7 +32,8 @@ loop-number-preserved c = (
       (same_text (source_text (source_of c.in_ok-file.file)) (text_of c.index-texts-number.result)
       (c.in_ok-file.ensures.name ∙ c.as_str-name.ensures.value)
       (c.in_ok-file.ensures.text ∙ c.as_str-text.ensures.value)),
-  one_more_source source_of (Reads c.args.grammar c.args.options.now c.args.roots.now) c.file_settings-source_settings.result
+  one_more_source source_of (Reads c.args.grammar c.args.options.now c.args.roots.now)
+      c.file_settings-source_settings.result
       c.loop-number.files.items c.push.new.self.items c.in_ok-file.file
       c.in-Ok.at c.loop-number.invariant.1
       (search rules) c.in_ok-push.ensures.items (search rules) (search rules),

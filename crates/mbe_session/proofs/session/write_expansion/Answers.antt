@@ -1,6 +1,7 @@
 use Rattle.std.proofs.Common.{◌≡◌, ◌≤◌, ap, arith, length, map, subst, sym}
 use Rattle.std.proofs.lemmas.List.{length-map}
 use Rattle.mbe_session.specs.SessionViews.{setting_of, state_of}
+use Rattle.mbe_session.specs.Budgets.{full}
 use Rattle.mbe_session.specs.FileViews.{source_of, sources_of, text_of}
 use Rattle.mbe_session.specs.OptionViews.{language_of, names_of}
 use Rattle.mbe_session.proofs.SessionLemmas.{printed}
@@ -11,7 +12,8 @@ returns-clause-printed g c some few =
     let session = c.in_ok-session.session in
     let n : c.len-root_count.result ≡ length c.args.options.now.names.items =
     omega (arith, c.len-root_count.ensures, c.args.options.now.names.ok.0) in
-    printed (language_of c.args.options.now) _ _ c.args.options.now.depth c.args.options.now.fuel c.args.options.now.call
+    printed (language_of c.args.options.now) _ _ c.args.options.now.depth
+    (full c.args.options.now.fuel c.args.options.now.max_tokens) c.args.options.now.call
     c.print_request-request.result.call c.args.options.now.with_modules c.print_request-request.result.with_modules
     (length c.args.options.now.names.items) c.len-root_count.result (names_of c.args.options.now)
     (map text_of c.args.texts.now) (sources_of session)

@@ -1,4 +1,4 @@
-use Rattle.std.proofs.Common.{rules, map, refl, ap, ◌∙◌}
+use Rattle.std.proofs.Common.{◌≡◌, rules, map, refl, ap, ◌∙◌}
 use Rattle.mbe_tt.specs.Views.Element.{element_tree}
 use Rattle.mbe_tt.specs.Views.View.{trees}
 use Rattle.mbe_rewriter.specs.ReplacementViews.{part_of}
@@ -10,7 +10,7 @@ use Rattle.mbe_session.proofs.AdjustmentLemmas.{call_less}
 use Rattle.mbe_session.proofs.FrontLemmas.{ahead_less}
 use Rattle.mbe_session.proofs.CfgFrontLemmas.{piece_is, subject_call, subject_definition, subject_end, subject_less}
 use Rattle.mbe_session.proofs.ReplaceLemmas.{none_added, definition_added, tree_added, call_added, all_added}
-use Rattle.mbe_session.proofs.ReplaceLemmas.{inside_none, left_group, group_added, kept_added, replaced_added}
+use Rattle.mbe_session.proofs.ReplaceLemmas.{inside_none, left_group, group_added, kept_added, replaced_added, spent_added}
 use Rattle.mbe_session.proofs.ReplaceLemmas.{parts_left}
 use Rattle.mbe_session.proofs.file_expander.FileExpander.+replacing.Goals as goal
 
@@ -121,9 +121,10 @@ replace_tree-returns-else-not-is_used-clause-adds g t c =
 
 pub replace_inside-returns-then-levels-eq0-clause-adds : goal.replace_inside-returns-then-levels-eq0-clause-adds
 replace_inside-returns-then-levels-eq0-clause-adds g t c =
+    let same : state_of c.note_too_deep_in.new.self ≡ state_of c.args.self.now = search rules in
     inside_none (setting_of c.args.self.now) c.args.levels (trees c.args.tokens) (state_of c.args.self.now)
-    (state_of c.args.self.now)
-    (map part_of c.args.replacements.now.items) (map part_of c.args.replacements.now.items) (search rules) refl refl
+    (state_of c.note_too_deep_in.new.self)
+    (map part_of c.args.replacements.now.items) (map part_of c.args.replacements.now.items) (search rules) refl same
 
 pub replace_call-returns-in_ok-push-in-Some-clause-adds : goal.replace_call-returns-in_ok-push-in-Some-clause-adds
 replace_call-returns-in_ok-push-in-Some-clause-adds g t c =
@@ -133,8 +134,17 @@ replace_call-returns-in_ok-push-in-Some-clause-adds g t c =
     c.args.replacements.now.items
     c.push_attributes.new.replacements.items c.push.new.self.items _ c.in_ok-tree.ensures.setting (search rules)
     c.in_ok-tree.ensures.tries c.in-Some.is
-    c.in_ok-replacement-in-Some.ensures.part
+    c.in_ok-replacement-in-Some.ensures.part (search rules)
     c.in_ok-push_attributes-in-Some.ensures c.in_ok-push-in-Some.ensures.items
+
+pub replace_call-returns-then-is_spent-clause-adds : goal.replace_call-returns-then-is_spent-clause-adds
+replace_call-returns-then-is_spent-clause-adds g t c =
+    spent_added (setting_of c.args.self.now) (setting_of c.expansion.new.self) c.args.levels _ _
+    (call_shown c.args.call) c.in-Some.tree _ _
+    (state_of c.args.self.now) (state_of c.expansion.new.self) (state_of c.replacement.new.self) _
+    (map part_of c.args.replacements.now.items) (map part_of c.args.replacements.now.items)
+    c.in_ok-tree.ensures.setting (search rules) c.in_ok-tree.ensures.tries c.in-Some.is
+    c.in_ok-replacement-in-Some.ensures.part (search rules) (search rules) refl
 
 pub replace_call-returns-in_ok-replace_argument-in-None-clause-adds :
     goal.replace_call-returns-in_ok-replace_argument-in-None-clause-adds

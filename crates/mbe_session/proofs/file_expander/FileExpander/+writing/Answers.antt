@@ -1,4 +1,4 @@
-use Rattle.std.proofs.Common.{rules, refl, subst, ◌∙◌}
+use Rattle.std.proofs.Common.{◌≡◌, rules, refl, subst, ◌∙◌}
 use Rattle.mbe_tt.specs.Views.Element.{element_tree}
 use Rattle.mbe_tt.specs.Views.View.{trees}
 use Rattle.mbe_rewriter.specs.Surroundings.{is_standard_macro}
@@ -162,10 +162,11 @@ write_expansion-returns-clause-writes g t c =
 
 pub write_inside-returns-then-levels-eq0-clause-writes : goal.write_inside-returns-then-levels-eq0-clause-writes
 write_inside-returns-then-levels-eq0-clause-writes g t c =
+    let same : state_of c.note_too_deep_in.new.self ≡ state_of c.args.self.now = search rules in
     on_ok c.extend_with_tt.result
     (λ copied. inside_kept (setting_of c.args.self.now) c.args.levels c.args.depth (trees c.args.tokens)
     (state_of c.args.self.now)
-    (state_of c.args.self.now) c.args.builder.now c.extend_with_tt.new.self (search rules) copied refl)
+    (state_of c.note_too_deep_in.new.self) c.args.builder.now c.extend_with_tt.new.self (search rules) copied same)
     c.extend_with_tt.ensures.ok
 
 pub write_kept-returns-then-not-is_standard_macro-clause-writes :

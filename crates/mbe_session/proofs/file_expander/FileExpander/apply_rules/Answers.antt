@@ -4,7 +4,7 @@ use Rattle.mbe_rewriter.specs.MacroItemViews.{call_shown}
 use Rattle.mbe_ops.specs.Errors.ErrorViews.{error_of, errors_of}
 use Rattle.mbe_session.specs.SessionViews.{setting_of, state_of}
 use Rattle.mbe.specs.MacroViews.{macro_of}
-use Rattle.mbe_session.specs.CallExpansion.{by_definition, by_rules, settled_in, with_step_contexts}
+use Rattle.mbe_session.specs.CallExpansion.{by_definition, by_rules, settled_in, with_step_contexts, with_written}
 use Rattle.mbe_session.proofs.FaultLemmas.{sound}
 use Rattle.mbe_session.proofs.MarkLemmas.{makes}
 use Rattle.mbe_session.proofs.CallLemmas.{found_as, there, not_there}
@@ -40,7 +40,8 @@ returns-clause-applies g c = (
       c.in_ok-argument.argument c.in_ok-value.field-0.value.0 c.in_ok-tree.tree
       c.in_ok-value.field-0.value.1 (errors_of c.in_ok-value.field-0.err) None c.in_ok-value.ensures.expands
       (λ s t asked. search rules) (search rules) (search rules) c.in_ok-tree.ensures,
-  c.in_ok-add_contexts.ensures.state ∙ ap (with_step_contexts (call_shown c.args.call)) (search rules),
+  c.spend_tokens.ensures.state ∙ ap (with_written c.in_ok-tree.tree)
+      (c.in_ok-add_contexts.ensures.state ∙ ap (with_step_contexts (call_shown c.args.call)) (search rules)),
 )
 
 pub returns-in-Some-err-clause-refused : goal.returns-in-Some-err-clause-refused

@@ -14,7 +14,8 @@ returns-clause-defines g c =
       read,
       c.in_ok-define_root.ensures.defines,
       closed ∙ ap (with_crate name c.count-first.result) c.forget_declared.ensures.left
-          ∙ ap (λ first. with_crate name first (with_first_declared c.declared_count-declared.result read)) c.count-first.ensures
+          ∙ ap (λ first. with_crate name first (with_first_declared c.declared_count-declared.result read))
+          c.count-first.ensures
           ∙ ap (λ n. with_crate name (length (scope_of c.args.self.now.scope).definitions) (with_first_declared n read))
           c.declared_count-declared.ensures,
     ))

@@ -2,6 +2,7 @@ use Rattle.std.proofs.Common.{◌≡◌, ◌∙◌, [], ap, sym, subst, arith, l
 use Rattle.std.proofs.lemmas.Simd.{map-map}
 use Rattle.mbe_session.specs.SessionViews.{setting_of, state_of}
 use Rattle.mbe_session.specs.Conditions.{IsUnder}
+use Rattle.mbe_session.specs.Budgets.{full}
 use Rattle.mbe_session.specs.FileViews.{source_of}
 use Rattle.mbe_grammar.specs.Tables.Lawful.{grammar_of}
 use Rattle.mbe_session.specs.OptionViews.{conditions_of, language_of, names_of}
@@ -30,7 +31,10 @@ returns c =
     let n : c.len-root_count.result ≡ length options.names.items =
     omega (arith, c.len-root_count.ensures, options.names.ok.0) in
     let dialect = ap (λ t. t.dialect) c.with_dialect-table.ensures in
-    let language : record { dialect = c.with_dialect-table.result.dialect; edition = c.settings-settings.result.edition }
+    let language : record {
+      dialect = c.with_dialect-table.result.dialect;
+      edition = c.settings-settings.result.edition;
+    }
     ≡ language_of options =
     ap (λ d. record { dialect = d; edition = c.settings-settings.result.edition }) dialect
     ∙ ap (λ e. record { dialect = options.dialect; edition = e }) c.settings-settings.ensures.edition in
@@ -56,21 +60,23 @@ returns c =
       depth_is = ap (λ e. e.depth) setting ∙ c.settings-settings.ensures.depth;
       known = (state_of c.load_externs.new.expander).scope;
       outside = others_are (setting_of c.new-expander.result).language (language_of options) options.with_modules
-          (map source_of c.deref-2.result.now) (map source_of files) c.len-root_count.result
+          (map source_of c.deref-3.result.now) (map source_of files) c.len-root_count.result
           (length options.names.items)
           (state_of c.new-expander.result).scope (record { definitions = []; visible = []; crates = []; declared = [] })
           (state_of c.load_externs.new.expander).scope (map (λ x. x.name.now) c.as_slice-externs.result.now)
           (names_of options) (ap (λ e. e.language) at_start ∙ language)
-          (ap (map source_of) c.deref-2.ensures.value) n (ap (λ s. s.scope) c.new-expander.ensures.state)
+          (ap (map source_of) c.deref-3.ensures.value) n (ap (λ s. s.scope) c.new-expander.ensures.state)
           (ap (map (λ x. x.name.now)) c.as_slice-externs.ensures.value) c.in_ok-load_externs.ensures.knows;
       defines = crates_are (setting_of c.load_externs.new.expander).language (language_of options) options.with_modules
-          (map source_of c.deref-3.result.now) (map source_of files) c.len-root_count.result
+          (map source_of c.deref-4.result.now) (map source_of files) c.len-root_count.result
           (length options.names.items)
           (state_of c.load_externs.new.expander).scope (state_of c.define_crates.new.expander).scope
           (ap (λ e. e.language) before ∙ language)
-          (ap (map source_of) c.deref-3.ensures.value) n c.in_ok-define_crates.ensures.defines;
+          (ap (map source_of) c.deref-4.ensures.value) n c.in_ok-define_crates.ensures.defines;
       fuel_is = c.in_ok-define_crates.ensures.fuel ∙ c.in_ok-load_externs.ensures.fuel
-          ∙ ap (λ s. s.fuel) c.new-expander.ensures.state ∙ c.settings-settings.ensures.fuel;
+          ∙ ap (λ s. s.fuel) c.new-expander.ensures.state
+          ∙ ap (λ n. full n c.settings-settings.result.max_tokens) c.settings-settings.ensures.fuel
+          ∙ ap (full options.fuel) c.settings-settings.ensures.tokens;
       contexts_are = c.in_ok-define_crates.ensures.contexts ∙ c.in_ok-load_externs.ensures.contexts
           ∙ ap (λ s. s.contexts) c.new-expander.ensures.state;
     }
