@@ -58,9 +58,23 @@ else
     echo "skipped: C++, since c++ isn't there"
 fi
 if cargo --version >/dev/null 2>&1; then
-    echo "Rust"
-    (cd "$here/rust" && CARGO_TARGET_DIR="$work/target" cargo test --offline --quiet --test calls) >"$work/cargo" 2>&1
-    sed -n 's/^test result: .* \([0-9]*\) passed; \([0-9]*\) failed;.*/\1 passed, \2 failed/p' "$work/cargo" | tail -1 >"$work/log"
+    cp -r "$here/rust" "$work/rust"
+    rm -rf "$work/rust/target" "$work/rust/Cargo.lock"
+    # The features need crates that Debian has. Without these crates, only the rest is tested.
+    registry=/usr/share/cargo/registry features=
+    if [ -d "$(echo $registry/serde_json-1.*)" ] && [ -d "$(echo $registry/serde_derive-1.*)" ] && [ -d "$(echo $registry/proc-macro2-1.*)" ]; then
+        echo "Rust, with its features"
+        features=--all-features
+        mkdir "$work/rust/.cargo"
+        printf '[source.crates-io]\nreplace-with = "debian"\n[source.debian]\ndirectory = "%s"\n' $registry >"$work/rust/.cargo/config.toml"
+    else
+        echo "Rust"
+        echo "skipped: the features of the crate, since librust-serde-json-dev, librust-serde-derive-dev and librust-proc-macro2-dev aren't there"
+        sed -i 's/^\(serde\|proc-macro2\) = \["dep:.*/\1 = []/; /optional = true/d; /^serde_json = /d' "$work/rust/Cargo.toml" "$work/rust/sys/Cargo.toml"
+    fi
+    (cd "$work/rust" && CARGO_TARGET_DIR="$work/target" cargo test --offline --quiet $features --test calls --test features) >"$work/cargo" 2>&1
+    sed -n 's/^test result: .* \([0-9]*\) passed; \([0-9]*\) failed;.*/\1 \2/p' "$work/cargo" |
+        awk '{ passed += $1; failed += $2 } END { if (NR == 2) print passed " passed, " failed " failed" }' >"$work/log"
     grep -q passed "$work/log" || cat "$work/cargo"
     add
 else
@@ -68,7 +82,7 @@ else
 fi
 if python3 --version >/dev/null 2>&1 && [ -f "$MBE_LIB_DIR/libmbe_c.so" ]; then
     echo "Python"
-    for test in test_mbe.py test_texts.py; do
+    for test in test_mbe.py test_texts.py test_corpus.py; do
         (cd "$here/python" && MBE_LIB="$MBE_LIB_DIR/libmbe_c.so" PYTHONDONTWRITEBYTECODE=1 python3 "$test") >"$work/log" 2>&1
         add
     done

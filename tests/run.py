@@ -1,9 +1,9 @@
 #!/usr/bin/env python3
-"""Runs the tests of `expandm` and `mbex` as programs, over what `rt ci` built. From anywhere:
+"""Runs the tests of `expandm`, `mbex` and `mbe-lsp` as programs, over what `rt ci` built. From anywhere:
 
-    python3 tests/run.py [--expandm PROGRAM] [--mbex PROGRAM] [MODULE..]
+    python3 tests/run.py [--expandm PROGRAM] [--mbex PROGRAM] [--mbe-lsp PROGRAM] [MODULE..]
 
-Each file of tests/expandm and tests/mbex is a module: tables of rows, and a function `test` that tries each row on the program. A row
+Each file of tests/expandm, tests/mbex and tests/mbe_lsp is a module: tables of rows, and a function `test` that tries each row on the program. A row
 that isn't as it says is printed, with what was wanted and what was got. The last line is `N passed, M failed`; the exit status is 0 if
 none failed. A program that isn't there is a failure.
 """
@@ -45,9 +45,11 @@ def main():
     words = argparse.ArgumentParser(description=__doc__, formatter_class=argparse.RawDescriptionHelpFormatter)
     words.add_argument("--expandm", default=f"{TOP}/crates/expandm/out/expandm")
     words.add_argument("--mbex", default=f"{TOP}/crates/mbex/out/mbex")
+    words.add_argument("--mbe-lsp", default=f"{TOP}/crates/mbe_lsp_main/out/mbe_lsp_main")
     words.add_argument("modules", nargs="*", metavar="MODULE", help="such as mbex/lints")
     given = words.parse_args()
-    counts = [tried(name, path, given.modules) for name, path in (("expandm", given.expandm), ("mbex", given.mbex))]
+    programs = (("expandm", given.expandm), ("mbex", given.mbex), ("mbe_lsp", given.mbe_lsp))
+    counts = [tried(name, path, given.modules) for name, path in programs]
     passed, failed = (sum(it) for it in zip(*counts))
     print(f"{passed} passed, {failed} failed")
     return 0 if failed == 0 and passed > 0 else 1

@@ -25,7 +25,11 @@ EDITIONS = ["2015", "2018", "2021", "2024"]
 # The environment in which the stable rustc takes `-Z` options.
 NIGHTLY = {**os.environ, "RUSTC_BOOTSTRAP": "1"}
 # The words for which `rt try` runs a program, in the folder of its crate.
-SAMPLE_ARGS = {"expandm": "data/tour.rs", "mbex": "data/first.def data/first.arg"}
+SAMPLE_ARGS = {
+    "expandm": "data/tour.rs",
+    "mbex": "data/first.def data/first.arg",
+    "mbe_lsp_main": "--version",
+}
 
 
 # ---- arguments and results
@@ -161,7 +165,10 @@ def instructions(command, statuses=None, **how):
 
 
 def program(name, given=None):
-    """The path of `expandm` or `mbex`: the given one, or this checkout's, without proof."""
+    """The path of a program: the given one, or this checkout's, without proof.
+
+    `name` is the name of its crate: `expandm`, `mbex` or `mbe_lsp_main`.
+    """
     if given and not os.access(given, os.X_OK):
         sys.exit(f"no program at {given}")
     return os.path.abspath(given) if given else unproved(name)
@@ -173,6 +180,10 @@ def expandm(given=None):
 
 def mbex(given=None):
     return program("mbex", given)
+
+
+def mbe_lsp(given=None):
+    return program("mbe_lsp_main", given)
 
 
 # ---- programs without proof
@@ -227,7 +238,7 @@ def drop_old(name):
 
 
 def unproved(name):
-    """The path of `expandm` or `mbex` without proof. Builds it if the cache doesn't have it."""
+    """The path of a program without proof. Builds it if the cache doesn't have it."""
     path = f"{cache()}/{name}-{sources_hash()}"
     if os.access(path, os.X_OK):
         return path

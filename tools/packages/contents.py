@@ -8,6 +8,8 @@ from typing import NamedTuple
 import common
 from archives import Entry
 
+# The programs, by the names of their crates.
+PROGRAMS = ("expandm", "mbex", "mbe_lsp_main")
 # Files of the repository that state the version, each with the text before it.
 VERSIONS = {
     "bindings/rust/Cargo.toml": '\nversion = "',
@@ -15,6 +17,8 @@ VERSIONS = {
     "bindings/python/pyproject.toml": '\nversion = "',
     "bindings/c/mbe.pc": "\nVersion: ",
     "bindings/c/mbeConfigVersion.cmake": "\nset(PACKAGE_VERSION ",
+    "crates/mbe_lsp/src/server.rt": '\npub const VERSION: &str = "',
+    "editors/vscode/package.json": '\n  "version": "',
 }
 
 
@@ -50,15 +54,15 @@ def newer_source(path):
 def proved_folders(room):
     """The folder of the proved programs, in `room`, and the one of the proved library."""
     made = f"{common.TOP}/crates"
-    for path in (f"{made}/expandm/out/expandm", f"{made}/mbex/out/mbex",
-                 f"{made}/mbe_c/out/libmbe_c.a"):
+    programs = [f"{made}/{name}/out/{name}" for name in PROGRAMS]
+    for path in (*programs, f"{made}/mbe_c/out/libmbe_c.a"):
         if not os.path.exists(path):
             sys.exit(f"{os.path.relpath(path, common.TOP)} isn't there: run sh tests/all, or name "
                      "other programs by --programs and --library")
         if source := newer_source(path):
             sys.exit(f"{os.path.relpath(path, common.TOP)} is older than "
                      f"{os.path.relpath(source, common.TOP)}: run sh tests/all")
-    for name in ("expandm", "mbex"):
+    for name in PROGRAMS:
         os.symlink(f"{made}/{name}/out/{name}", f"{room}/{name}")
     return room, f"{made}/mbe_c/out"
 
@@ -104,7 +108,7 @@ def entries(source, library):
             found.append(Entry(path, link=file))
             continue
         folder, name = os.path.split(file)
-        if folder in ("crates/expandm/out", "crates/mbex/out"):
+        if name in PROGRAMS:
             data = stripped(f"{source.programs}/{name}")
         elif folder == "crates/mbe_c/out":
             data = read_bytes(f"{library}/{name}")

@@ -25,7 +25,8 @@ PACKAGES = {
     "mbe": ("devel", "libc6 (>= {glibc})", "expander for Rust's declarative macros", """
         The program expandm expands the macros of Rust files and Cargo packages, those of
         macro_rules! and macro. It explains calls that no rule matches, and checks definitions.
-        The program mbex expands one call, and prints the place of each token.""", ""),
+        The program mbex expands one call, and prints the place of each token. The program mbe-lsp
+        is a language server: it shows all this in an editor.""", ""),
     "libmbe1": ("libs", "libc6 (>= {glibc})", "expander for Rust's declarative macros, library", """
         The library expands one call of a macro of Rust, over text or over tokens. No input can
         crash a call. This package has the shared library.""", "Multi-Arch: same\n"),

@@ -87,7 +87,7 @@ GROUPS = {
         Row("($($($x:ident),*);*) => { [$(stringify!($x)),*] }", "a, b; c"),
         Row("($n:ident, $($x:ident),*) => { $($n)* }", "n, a"),
         Row("($($a:ident),*; $($b:ident),*) => { $(f!($a $($b)*);)* }", "a, b; c, d"),
-        Row("($($a:ident),*; $($b:expr),*) => { { $(let $a = $b;)* 0 } }", "a, b; 1", Agreement.SILENT),
+        Row("($($a:ident),*; $($b:expr),*) => { { $(let $a = $b;)* 0 } }", "a, b; 1", Agreement.ELSEWHERE),
         Row("($x:ident) => { $y }", "a"),
         Row("($x:ident) => { $x:ident }", "a", Agreement.SILENT),
         Row("($($t:tt)*) => { m!($($t)* x) }", "a"),

@@ -1,4 +1,5 @@
-"""Expands one call of a macro, explains how its rules read an argument, or shows tokens.
+"""Expands one call of a macro, explains how its rules read an argument, shows tokens, or runs
+`expandm` on many packages.
 
 A text that begins with `@` is the name of a file, as `@rules.txt`, or `@-` for standard input. The
 exit status is 0, or 1 if the expansion has an error, or 2 if there is no answer.
@@ -9,7 +10,7 @@ import argparse
 import sys
 from typing import Optional, Sequence
 
-from . import Error, Macro, Span, __version__, c, convert
+from . import Error, Macro, Span, __version__, c, convert, corpus
 
 #: The files of spans, and the file of the call itself, which has no text.
 FILES = ["rules", "argument"]
@@ -46,10 +47,15 @@ def _parser() -> argparse.ArgumentParser:
             command.add_argument("--style", choices=list(c.STYLES), default="fn")
         shown = "TEXT" if name == "convert" else "ARGUMENT"
         command.add_argument("text", type=_text, metavar=shown)
+    about = "lint and expand many packages by the program expandm"
+    more = "Arguments after `--` are options of expandm, as in `-- --all-features`."
+    corpus.add_arguments(commands.add_parser("corpus", help=about, description=about, epilog=more))
     return parser
 
 
-def _run(args: argparse.Namespace) -> int:
+def _run(args: argparse.Namespace, options: Sequence[str]) -> int:
+    if args.command == "corpus":
+        return corpus.main(args, options)
     if args.command == "convert":
         print(convert(args.text, args.form, args.edition, args.dialect))
         return 0
@@ -73,8 +79,13 @@ def _run(args: argparse.Namespace) -> int:
 
 def main(words: Optional[Sequence[str]] = None) -> int:
     """Runs the command that the words name, and returns its exit status."""
+    given = list(sys.argv[1:] if words is None else words)
+    options: list[str] = []
+    if given[:1] == ["corpus"] and "--" in given:
+        at = given.index("--")
+        given, options = given[:at], given[at + 1:]
     try:
-        return _run(_parser().parse_args(words))
+        return _run(_parser().parse_args(given), options)
     except (Error, OSError) as why:
         print(f"error: {why}", file=sys.stderr)
         return 2

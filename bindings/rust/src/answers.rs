@@ -8,6 +8,8 @@ use std::iter::FusedIterator;
 
 /// The parts of a call.
 #[derive(Clone, Copy, Debug, PartialEq, Eq, Hash)]
+#[cfg_attr(feature = "serde", derive(serde::Serialize, serde::Deserialize))]
+#[cfg_attr(feature = "serde", serde(rename_all = "snake_case"))]
 pub enum Part {
     /// No part.
     None,
@@ -32,6 +34,8 @@ impl fmt::Display for Part {
 
 /// Why a call has no answer.
 #[derive(Clone, Copy, Debug, PartialEq, Eq, Hash)]
+#[cfg_attr(feature = "serde", derive(serde::Serialize, serde::Deserialize))]
+#[cfg_attr(feature = "serde", serde(rename_all = "snake_case"))]
 pub enum Status {
     /// The definition has a fault.
     Refused,
@@ -87,6 +91,7 @@ impl fmt::Display for Status {
 
 /// Why a call has no answer, and where.
 #[derive(Clone, Debug, PartialEq, Eq)]
+#[cfg_attr(feature = "serde", derive(serde::Serialize, serde::Deserialize))]
 pub struct Error {
     /// Why there is no answer.
     pub status: Status,
@@ -131,6 +136,7 @@ impl std::error::Error for Error {}
 
 /// The error of an expansion, and its span.
 #[derive(Clone, Debug, PartialEq, Eq)]
+#[cfg_attr(feature = "serde", derive(serde::Serialize, serde::Deserialize))]
 pub struct Fault {
     /// An explanation.
     pub message: String,
@@ -148,6 +154,7 @@ impl std::error::Error for Fault {}
 
 /// An expansion.
 #[derive(Clone, Debug, PartialEq, Eq)]
+#[cfg_attr(feature = "serde", derive(serde::Serialize, serde::Deserialize))]
 pub struct Expansion {
     /// Its trees. Beside a fault they are the part that was expanded.
     pub trees: Trees,
@@ -191,6 +198,8 @@ impl TryFrom<Expansion> for Trees {
 
 /// How a rule reads an argument.
 #[derive(Clone, Copy, Debug, PartialEq, Eq, Hash)]
+#[cfg_attr(feature = "serde", derive(serde::Serialize, serde::Deserialize))]
+#[cfg_attr(feature = "serde", serde(rename_all = "snake_case"))]
 pub enum Reading {
     /// In one way.
     One,
@@ -204,6 +213,7 @@ pub enum Reading {
 
 /// A rule's index, and how the rule reads the argument.
 #[derive(Clone, Copy, Debug, PartialEq, Eq, Hash)]
+#[cfg_attr(feature = "serde", derive(serde::Serialize, serde::Deserialize))]
 pub struct Verdict {
     /// The index of the rule. Indices count from 0.
     pub rule: usize,

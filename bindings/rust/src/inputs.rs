@@ -9,6 +9,8 @@ use std::str::FromStr;
 
 /// An edition of Rust.
 #[derive(Clone, Copy, Debug, Default, PartialEq, Eq, PartialOrd, Ord, Hash)]
+#[cfg_attr(feature = "serde", derive(serde::Serialize, serde::Deserialize))]
+#[cfg_attr(feature = "serde", serde(try_from = "u32", into = "u32"))]
 pub enum Edition {
     /// The edition 2015.
     E2015,
@@ -83,6 +85,8 @@ impl fmt::Display for Edition {
 
 /// Which tokens texts have.
 #[derive(Clone, Copy, Debug, Default, PartialEq, Eq, Hash)]
+#[cfg_attr(feature = "serde", derive(serde::Serialize, serde::Deserialize))]
+#[cfg_attr(feature = "serde", serde(rename_all = "snake_case"))]
 pub enum Dialect {
     /// The project's sample dialect, which is smaller than Rust.
     Sample,
@@ -111,6 +115,8 @@ impl<'a> From<&'a str> for Grammar<'a> {
 
 /// The form in which trees are written.
 #[derive(Clone, Copy, Debug, Default, PartialEq, Eq, Hash)]
+#[cfg_attr(feature = "serde", derive(serde::Serialize, serde::Deserialize))]
+#[cfg_attr(feature = "serde", serde(rename_all = "snake_case"))]
 pub enum Form {
     /// Flat tokens, and the bytes of their texts.
     #[default]
@@ -123,6 +129,8 @@ pub enum Form {
 
 /// How a macro is called.
 #[derive(Clone, Copy, Debug, Default, PartialEq, Eq, Hash)]
+#[cfg_attr(feature = "serde", derive(serde::Serialize, serde::Deserialize))]
+#[cfg_attr(feature = "serde", serde(rename_all = "snake_case"))]
 pub enum Style {
     /// As `name!(argument)`.
     #[default]
@@ -185,10 +193,12 @@ impl<'a> Input<'a> {
 /// Flat tokens, which are one group, and the bytes of their texts. In the forms [`Form::Lines`] and
 /// [`Form::Rust`] there are no tokens, and the bytes are the text.
 #[derive(Clone, Debug, Default, PartialEq, Eq, Hash)]
+#[cfg_attr(feature = "serde", derive(serde::Serialize, serde::Deserialize))]
 pub struct Trees {
     /// An opening, the tokens of its group, and its closing.
     pub tokens: Vec<Token>,
     /// The bytes that the tokens' offsets count in, or the text of the other forms.
+    #[cfg_attr(feature = "serde", serde(with = "crate::serialized"))]
     pub text: Vec<u8>,
 }
 

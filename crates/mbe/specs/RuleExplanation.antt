@@ -46,3 +46,8 @@ BindsThere g rules argument index bound =
 -- the pattern of the rule with this index
 abbrev pub HasPattern : List Rule → ℕ → Ops → Type 0
 HasPattern rules index pattern = (r : Rule) × (slice_get rules index ≡ Some r) × (r.reads ≡ pattern)
+
+-- the template of the rule with this index
+abbrev pub HasTemplate : List Rule → ℕ → Ops → Type 0
+HasTemplate rules index template =
+    (r : Rule) × (slice_get rules index ≡ Some r) × (r.writes ≡ template)

@@ -201,8 +201,8 @@ fn search<'d>(
     Ok(None)
 }
 
-// Returns the manifest of a package in a checkout: that of the checkout's folder, or of a member of
-// its workspace.
+// Returns the manifest of a package in a checkout. It is the manifest of the checkout's folder, or
+// of a member of the workspace there.
 fn known_manifest<'d>(
     files: &mut Files<'d>,
     checkout: &str,

@@ -1,9 +1,10 @@
-//! Plans which crates a Cargo package consists of, and how each one is compiled.
+//! Plans the crates of a Cargo package: the root file, the edition, the features and the
+//! dependencies of each.
 //!
 //! The library opens no file and starts no process. A `Planner` holds the texts of files that the
-//! program read. `Planner::step` returns the files that it needs next, until it can return a
-//! `Plan` for each target that is asked for: its crate and the crates that it depends on, each with
-//! its root file, edition, features and dependencies.
+//! program read. `Planner::step` returns the files that it needs next. When it needs no more, it
+//! returns a `Plan` for each target that was asked for. A plan holds the target's crate and all
+//! crates that it depends on.
 #![tactic(auto)]
 
 pub mod cfg_expression;

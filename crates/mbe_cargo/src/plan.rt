@@ -373,7 +373,7 @@ fn first_crate(
     Ok(first)
 }
 
-// Adds the crates of libraries, those of the numbers from 1.
+// Adds the crates of the libraries. Their numbers begin at 1, since 0 is the target's own crate.
 fn add_libraries(
     alloc: Global,
     resolution: &Resolution<'_>,

@@ -238,7 +238,7 @@ fn setting_of<'d>(
     })
 }
 
-// Returns the options for `cfg` of a platform, and then those of the settings.
+// Returns the `cfg` options of a platform, followed by those that the settings add.
 fn cfgs_of<'d>(
     alloc: Global,
     platform: Platform<'d>,

@@ -211,8 +211,9 @@ fn git_source_in<'d>(document: &'d Document, url: &str) -> Option<&'d str> {
     None
 }
 
-/// Returns the manifest of a package from git in the folder that replaces its repository, as `cargo
-/// vendor` makes it; `None` if the settings name no such folder, or if it doesn't have the package.
+/// Returns the manifest of a package from git, read in the folder that replaces its repository.
+/// `cargo vendor` makes such a folder. Returns `None` if the settings name no folder, or if the
+/// folder doesn't have the package.
 pub fn in_replacement<'d>(
     files: &mut Files<'d>,
     settings: &[&'d Document],

@@ -450,7 +450,8 @@ fn main_target<'d>(files: &mut Files<'d>, package: &Package<'d>) -> Result<Targe
     main_program(files, package)
 }
 
-// Returns the targets of one choice. Of several packages, one may have no target of a name.
+// Returns the targets of a package that a choice means. A name must be that of a target if only
+// one package is asked for; of several packages, some may have no such target.
 fn targets_for<'d>(
     files: &mut Files<'d>,
     package: &Package<'d>,
@@ -513,7 +514,7 @@ impl<'d> Target<'d> {
         name_in_code(alloc, self.name.as_str())
     }
 
-    /// Returns the edition of the target: its own, or that of the package.
+    /// Returns the edition that the manifest gives for the target, else the package's edition.
     pub fn edition(&self, package: &Package<'d>) -> &'d str {
         match self.value {
             Some(value) => text_at(value, "edition").unwrap_or(package.edition),

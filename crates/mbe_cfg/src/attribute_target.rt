@@ -139,8 +139,8 @@ fn after_other<'t, A: Allocator, G: FragmentGrammar>(
     }
 }
 
-/// Returns the trees after the attributes at the front and after their target. The target is one
-/// of these:
+/// Skips the attributes at the front and the code that they apply to, and returns the trees that
+/// follow. The attributes apply to one of these:
 ///
 /// - an item, as the grammar parses it;
 /// - an arm of a `match`, with its expression;

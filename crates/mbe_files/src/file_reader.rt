@@ -124,8 +124,8 @@ impl FileReader {
         Ok(())
     }
 
-    /// Adds the root of an external crate: the file `path`, or `src/lib.rs` in the folder `path`.
-    /// The error is that of the file `path`.
+    /// Adds the root file of an external crate. `path` names that file, or a folder that has it as
+    /// `src/lib.rs`. If neither can be read, the error is the one for the file `path`.
     pub fn add_extern_root<R: Files + AllocGlobal>(
         &mut self,
         rt: &R,

@@ -50,8 +50,8 @@ fn create_temp_file<R: Files + AllocGlobal>(rt: &R, folder: &str) -> io::Result<
     Err(io::Error::from(io::ErrorKind::AlreadyExists))
 }
 
-// Gives the file another name in its folder, which it has beside its own. Where the file system
-// has no such names, the file has the other name alone.
+// Keeps the old file under a second name in its folder, and returns that name. It is a hard link
+// where the file system has them; elsewhere the file is renamed.
 fn keep_old<R: Files + AllocGlobal>(rt: &R, path: &str) -> io::Result<String> {
     let folder = folder_of(path);
     for number in 0..MAX_TEMP_NAMES {

@@ -398,9 +398,9 @@ impl PackagePlan {
         Ok(())
     }
 
-    /// Returns the options of the session of the plan: those that are given, and those that the
-    /// plan sets, which are the root file, the edition, the features, the target and the external
-    /// crates. Also returns notes on what is left out. `None` if the edition isn't known.
+    /// Returns the options of a session for the plan. The root file, the edition, the features,
+    /// the target and the external crates come from the plan, all other options from `given`. Also
+    /// returns notes on what is left out. Returns `None` if the edition isn't known.
     pub fn options<'p>(
         &'p self,
         alloc: Global,

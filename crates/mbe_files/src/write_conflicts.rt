@@ -1,5 +1,6 @@
-// Why nothing can be written into a folder: a file there isn't one that an earlier run wrote, a
-// file would be overwritten that the run reads, or a symbolic link would be followed.
+// Checks that writing into a folder loses nothing. A run is refused if the folder has a file that
+// no earlier run wrote, if a file would be overwritten that the run reads, or if a symbolic link
+// would be followed.
 use crate::file_reader::file_text;
 use crate::output_paths::{is_below, targets};
 use crate::written_files::{LIST_NAME, listed_paths, path_set};
@@ -239,9 +240,11 @@ fn checked_plan<R: Files + AllocGlobal>(
 }
 
 /// Returns where the files of a run are written. The first `root_count` files are the roots of its
-/// own crates. The inner error is the text of a message, on why nothing can be written: what
-/// `targets` says, or that a file can't be overwritten, that a symbolic link is on the way, that
-/// the folder has files that the run reads, or that it can't be read. Nothing is written.
+/// own crates. Nothing is written yet.
+///
+/// The inner error is a message that says why nothing can be written. It is an error of `targets`,
+/// or one of these: a file can't be overwritten, a symbolic link is on the way, the folder has files
+/// that the run reads, or the folder can't be read.
 pub fn output_plan<R: Files + AllocGlobal>(
     rt: &R,
     files: &FileSet,

@@ -464,8 +464,9 @@ impl<'g, A: Allocator + Copy> FileExpander<'g, A> {
             self.note_no_expansion(call, &argument, &error)?;
             return Ok(None);
         }
-        let (written, _rule) = value;
+        let (written, rule) = value;
         let tree = settled_in(self.alloc, self.grammar.dialect, &written)?;
+        self.note_lengths(call, &argument, rule)?;
         self.note_expansion(call, &tree)?;
         self.explain(call, &argument, true)?;
         self.add_contexts(call)?;

@@ -24,7 +24,7 @@
 // - Crates: `session`, `crate_expander`, `dollar_crate`, `file_expansion`, `linted_files`.
 // - Calls: `file_expander`, `scope`, `imports`, `adjustment`, `cfg_front`, `origins`, `settings`.
 // - Diagnostics: `notes`, `call_failure`, `explanation`, `binding_text`, `captures`,
-//   `emitter`, `note_lines`, `call_counts`, `summary`.
+//   `repeat_lengths`, `emitter`, `note_lines`, `call_counts`, `summary`.
 #![tactic(auto)]
 
 mod adjustment;
@@ -50,6 +50,7 @@ mod note_lines;
 pub mod notes;
 mod origins;
 mod recursion_limit;
+mod repeat_lengths;
 pub mod scope;
 pub mod session;
 pub mod session_options;

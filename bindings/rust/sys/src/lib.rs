@@ -6,6 +6,7 @@ use std::os::raw::{c_char, c_void};
 /// Where a token is: `mbe_span`.
 #[repr(C)]
 #[derive(Clone, Copy, Debug, Default, PartialEq, Eq, Hash)]
+#[cfg_attr(feature = "serde", derive(serde::Serialize, serde::Deserialize))]
 pub struct Span {
     /// The file's number, the caller's.
     pub file: u32,
@@ -22,6 +23,7 @@ pub struct Span {
 /// A leaf, an opening or a closing: `mbe_token`, which explains the numbers.
 #[repr(C)]
 #[derive(Clone, Copy, Debug, Default, PartialEq, Eq, Hash)]
+#[cfg_attr(feature = "serde", derive(serde::Serialize, serde::Deserialize))]
 pub struct Token {
     /// 1 an identifier, 2 a punct, 3 a literal, 4 an opening, 5 a closing.
     pub kind: u32,

@@ -1,9 +1,9 @@
-// The pattern of a rule, and the bindings of a rule that matches an argument.
+// The pattern and the template of a rule, and the bindings of a rule that matches an argument.
 ghost use Rattle.std.specs.Prelude.{◌<◌, length, option_map, IfOk};
 ghost use Rattle.mbe_ops.specs.Views.{template_of};
 ghost use Rattle.mbe_bindings.specs.BindingViews.{env_of};
 ghost use Rattle.mbe_semantics.specs.Expansion.Macro.{IsChecked};
-ghost use Rattle.mbe.specs.RuleExplanation.{BindsThere, HasPattern};
+ghost use Rattle.mbe.specs.RuleExplanation.{BindsThere, HasPattern, HasTemplate};
 
 use crate::macros::DeclarativeMacro;
 use mbe_bindings::bindings::Bindings;
@@ -24,6 +24,15 @@ impl<A: Allocator> DeclarativeMacro<A> {
     {
         let found = &self.rules[rule];
         &found.lhs
+    }
+
+    /// Returns the template of the rule with this index, which is less than `num_rules`.
+    pub fn template(&self, rule: usize) -> &MetaTemplate<A>
+        requires rule { rule < length (macro_of self.now).rules }
+        ensures { HasTemplate (macro_of self.now).rules rule (template_of result.now) }
+    {
+        let found = &self.rules[rule];
+        &found.rhs
     }
 }
 

@@ -47,7 +47,7 @@ pub enum Status {
 }
 
 impl Status {
-    /// Returns the status in C.
+    /// Returns the number that the C library returns for the status.
     ///
     /// - 0 `Done`, 1 `Faulted`, 2 `Refused`;
     /// - 3 `Number`, 4 `Utf8`, 5 `TooLong`;

@@ -1,0 +1,32 @@
+// Answers of a language server for macros: what a session found, as values of the protocol.
+//
+// Nothing here reads files or expands calls. `Findings` has what a session found in the crate of a
+// document, as plain data, and the answers are made of it.
+//
+// - `findings`: files, messages, expansions, definitions and calls.
+// - `explained_call`, `bound_calls`: the rule that a call expands by, and what it binds.
+// - `reports`: diagnostics.
+// - `answers`, `variables`: hovers, jumps, symbols.
+// - `tokens`, `rule_variables`, `macro_names`: tokens, and what the names among them are.
+// - `renaming`, `structure`: references and new names; lines that fold, and selections.
+// - `inlining`, `fixes`: code actions.
+// - `completion`, `overviews`: completion, signatures, numbers of calls.
+// - `shapes`: positions, ranges, locations and edits.
+#![tactic(auto)]
+
+pub mod answers;
+pub mod bound_calls;
+mod completion;
+pub mod explained_call;
+pub mod findings;
+mod fixes;
+mod inlining;
+mod macro_names;
+mod overviews;
+pub mod renaming;
+pub mod reports;
+mod rule_variables;
+pub mod shapes;
+mod structure;
+mod tokens;
+mod variables;

@@ -1,0 +1,18 @@
+// A language server for macros, over `mbe_session`.
+//
+// A `Server` answers the content of a message with the messages to send. It knows the texts of open
+// documents, also those that aren't saved, and reads other files of their crates from the disk.
+//
+// - `server`: the state of a server, and its answers; `requests` and `events` are parts of it.
+// - `command`: the server over standard input and output.
+// - `workspace`: the crates of documents.
+// - `analysis`, `sites`: what a session finds in a crate.
+#![tactic(auto)]
+
+mod analysis;
+pub mod command;
+mod events;
+mod requests;
+pub mod server;
+mod sites;
+mod workspace;
