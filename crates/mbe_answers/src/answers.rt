@@ -125,8 +125,8 @@ impl<'a> View<'a> {
         json!(in self.alloc(); {"name": name, "expansion": text})
     }
 
-    /// Answers a request for the expansion that is shown beside a document: that of the call at a
-    /// byte, and the range of the call. `AllocError` if out of memory.
+    /// Answers a request for the expansion that is shown beside a document. It is the expansion of
+    /// the call at a byte, with the range of the call. `AllocError` if out of memory.
     pub fn preview(self, byte: usize) -> Result<Value, AllocError> {
         let alloc = self.alloc();
         let Some(call) = self.found.call_at(byte) else {

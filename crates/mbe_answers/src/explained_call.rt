@@ -11,7 +11,7 @@ pub struct ExplainedCall<'f> {
     pub found: &'f Findings,
     // The name of the macro.
     name: &'f str,
-    // The notes before the explanation, and those of the explanation.
+    // The notes before the explanation.
     before: &'f [Finding],
     /// The notes of the explanation.
     pub notes: &'f [Finding],

@@ -91,9 +91,9 @@ impl View<'_> {
         Ok(())
     }
 
-    /// Adds what can be done with a call: its expansion replaces it, or its expansion by one
-    /// step, if that is another one; or the expansions of all calls of the macro replace them.
-    /// `stepped` has the expansions by one step. `AllocError` if out of memory.
+    /// Adds the actions for a call. The first replaces the call by its expansion. The second
+    /// replaces it by one step, if one step isn't the whole expansion. The third replaces all calls
+    /// of the macro. `stepped` has the expansions by one step. `AllocError` if out of memory.
     pub fn add_inlinings(
         self,
         call: &CallSite,

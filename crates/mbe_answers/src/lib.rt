@@ -1,7 +1,7 @@
 // Answers of a language server for macros: what a session found, as values of the protocol.
 //
 // Nothing here reads files or expands calls. `Findings` has what a session found in the crate of a
-// document, as plain data, and the answers are made of it.
+// document, as plain data, and the answers are made of it. The modules are:
 //
 // - `findings`: files, messages, expansions, definitions and calls.
 // - `explained_call`, `bound_calls`: the rule that a call expands by, and what it binds.

@@ -107,7 +107,7 @@ fn is_own_head(text: &str) -> bool {
     matches!(text, "crate" | "self" | "super")
 }
 
-// Whether a path is that of the file of a module of that name.
+// Whether a module of that name may be in the file of a path.
 fn is_file_of(path: &str, module: &str) -> bool {
     let without_end = match path.strip_suffix("/mod.rs") {
         Some(folder) => folder,

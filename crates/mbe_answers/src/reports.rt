@@ -42,7 +42,7 @@ fn is_unnecessary(finding: &Finding) -> bool {
     text.starts_with("unused macro variable") || text.starts_with("unreachable rule")
 }
 
-/// Whether two messages say the same of the same part.
+/// Whether two messages have the same text and the same place.
 pub(crate) fn is_same(one: &Finding, other: &Finding) -> bool {
     one.file == other.file
         && one.extent.start == other.extent.start
@@ -161,8 +161,8 @@ impl Report<'_> {
         Ok(())
     }
 
-    /// Returns the diagnostics of file `number`: those of lints, and those of the session that no
-    /// lint says too. `AllocError` if out of memory.
+    /// Returns the diagnostics of file `number`. They are the lints, and then the notes of the
+    /// session, except notes that a lint repeats. `AllocError` if out of memory.
     pub fn diagnostics(self, number: usize) -> Result<Value, AllocError> {
         let writer = self.writer;
         let lines = LineTable::of(writer.alloc, self.found.text(number), writer.encoding)?;

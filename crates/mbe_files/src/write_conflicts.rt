@@ -1,6 +1,8 @@
-// Checks that writing into a folder loses nothing. A run is refused if the folder has a file that
-// no earlier run wrote, if a file would be overwritten that the run reads, or if a symbolic link
-// would be followed.
+// Checks that writing into a folder loses nothing. A run is refused in these cases:
+//
+// - The folder has a file that no earlier run wrote.
+// - A file would be overwritten that the run reads.
+// - A symbolic link would be followed.
 use crate::file_reader::file_text;
 use crate::output_paths::{is_below, targets};
 use crate::written_files::{LIST_NAME, listed_paths, path_set};
@@ -242,9 +244,9 @@ fn checked_plan<R: Files + AllocGlobal>(
 /// Returns where the files of a run are written. The first `root_count` files are the roots of its
 /// own crates. Nothing is written yet.
 ///
-/// The inner error is a message that says why nothing can be written. It is an error of `targets`,
-/// or one of these: a file can't be overwritten, a symbolic link is on the way, the folder has files
-/// that the run reads, or the folder can't be read.
+/// The inner error is a message that says why nothing can be written. It may come from `targets`.
+/// Other errors are that a file can't be overwritten, or that a symbolic link is on the way. The
+/// folder may also have files that the run reads, or be unreadable.
 pub fn output_plan<R: Files + AllocGlobal>(
     rt: &R,
     files: &FileSet,

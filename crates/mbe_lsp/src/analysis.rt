@@ -283,8 +283,8 @@ fn asked(
     Ok(found)
 }
 
-// Asks a session on these files. The calls that are explained are those of the last root, so the
-// document's file becomes one more root if it is none.
+// Asks a session on these files. A session explains calls of its last root alone. So the document's
+// file becomes one more root if it isn't a root.
 fn asked_of_file<R: Files + AllocGlobal>(
     rt: &R,
     texts: Texts<'_>,

@@ -164,7 +164,7 @@ impl Server {
     }
 
     // Publishes the diagnostics that changes may have changed, unless the client asks for them.
-    // Those of the document that changed come last, so that its analysis is kept.
+    // The document that changed comes last, so that its analysis is kept.
     pub(crate) fn publish_changes<R: Env + Files + AllocGlobal + Clone + Drop>(
         &mut self,
         rt: &R,

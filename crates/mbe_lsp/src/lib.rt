@@ -1,7 +1,8 @@
 // A language server for macros, over `mbe_session`.
 //
 // A `Server` answers the content of a message with the messages to send. It knows the texts of open
-// documents, also those that aren't saved, and reads other files of their crates from the disk.
+// documents, also if they aren't saved. It reads other files of their crates from the disk. The
+// modules are:
 //
 // - `server`: the state of a server, and its answers; `requests` and `events` are parts of it.
 // - `command`: the server over standard input and output.

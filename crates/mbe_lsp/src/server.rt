@@ -322,8 +322,8 @@ impl Server {
         }
     }
 
-    // Returns the number of the document at that path, if what is kept is found for it too: it is
-    // a file of the same crate of a package.
+    // Returns the number of the document at that path, if the kept analysis is also its own. Then
+    // it is a file of the same crate of a package.
     fn kept_number<R: Files + AllocGlobal>(
         &self,
         rt: &R,
