@@ -1,6 +1,6 @@
 #!/bin/sh
 # library.sh OUT_DIR: makes OUT_DIR/libmbe_c.a over the proved libraries that `rt ci` leaves in crates/*/out/rlib. It proves mbe_c once
-# more. Where there is a cc with its tools, link.sh makes OUT_DIR/libmbe.a and OUT_DIR/libmbe.so.1 of it. KIT is the toolchain's folder, else /opt/rattle.
+# more. If there is a cc with its tools, link.sh makes OUT_DIR/libmbe.a and OUT_DIR/libmbe.so.1 of it. KIT is the toolchain's folder, else /opt/rattle.
 set -eu
 out=$(mkdir -p "$1" && cd "$1" && pwd)
 root=$(cd "$(dirname "$0")/.." && pwd)

@@ -1,7 +1,7 @@
 #!/bin/sh
 # link.sh DIR: makes the library as packages have it from DIR/libmbe_c.a, which is what the compiler and the kit's C make:
 #
-#     DIR/libmbe.a       the static library. Only the exports mbe_c_* are global names, so it can't clash with other libraries.
+#     DIR/libmbe.a       the static library. Only the exports mbe_c_* are global names, so it can't collide with other libraries.
 #     DIR/libmbe.so.1    the shared library, with that SONAME, and with the exports mbe_c_* of the version MBE_1
 #     DIR/libmbe.so      a link to it; so is libmbe_c.so, its earlier name
 #

@@ -4,7 +4,7 @@
 #     ./install.sh [PREFIX]              into PREFIX (/usr/local if none is given)
 #     ./install.sh --uninstall [PREFIX]  removes the files, and the folders that it made
 #
-# DESTDIR, if it is set, goes before PREFIX, as packagers expect. MBE_FILES and MBE_FROM, which
+# DESTDIR, if it is set, is put in front of PREFIX, for packagers. MBE_FILES and MBE_FROM, which
 # tools/install sets, name the list of files and the folder that they are in.
 set -eu
 umask 022
@@ -30,7 +30,7 @@ if [ -n "$remove" ]; then
     folders=$(cat "$made" 2>/dev/null || true)
     list | while read -r _ _ file; do rm -f "$to/$file"; done
     rm -f "$made"
-    # The last folder that was made is removed first. A folder with other files stays.
+    # The last folder that was made is removed first. A folder with other files remains.
     echo "$folders" | sed '1!G;h;$!d' | while read -r folder; do
         [ -z "$folder" ] || rmdir "$to/$folder" 2>/dev/null || true
     done

@@ -10,7 +10,7 @@ from typing import NamedTuple
 
 class Ran(NamedTuple):
     """How a run ended: its status, standard output and standard error, the files that are in its folder afterwards, and
-    how many seconds of a processor it took."""
+    the run's processor time in seconds."""
 
     status: int
     out: str
@@ -37,7 +37,7 @@ class Program:
             return ran._replace(files={path: text_of(folder, path) for path in paths_below(folder)})
 
     def run_in(self, folder, words, stdin="", before=None):
-        """The same in a folder that is there, without a look at its files afterwards."""
+        """Runs the program in an existing folder, without a look at its files afterwards."""
         start = processor_seconds()
         try:
             ran = subprocess.run(
@@ -58,13 +58,13 @@ class Program:
 
 
 def shown(value):
-    """A value as it is printed: of a long one the front and the end."""
+    """A value as it is printed: only the start and the end of a long one."""
     text = repr(value)
     return text if len(text) <= 4000 else f"{text[:2000]} .. {text[-2000:]}"
 
 
 def processor_seconds():
-    """The time of a processor that the ended processes took."""
+    """The processor time of the ended processes, in seconds."""
     used = resource.getrusage(resource.RUSAGE_CHILDREN)
     return used.ru_utime + used.ru_stime
 
@@ -84,7 +84,7 @@ def in_text(output):
 
 
 def write(folder, path, text):
-    """Writes a file, with the folders that it is in; a path that ends with a `/` is a folder alone."""
+    """Writes a file, and makes the folders around it. A path that ends with a `/` is a folder."""
     at = os.path.join(folder, path)
     os.makedirs(os.path.dirname(at), exist_ok=True)
     if path.endswith("/"):

@@ -1,14 +1,18 @@
 #!/usr/bin/env python3
 """Runs the tests of `expandm`, `mbex` and `mbe-lsp` as programs, over what `rt ci` built. From anywhere:
 
-    python3 tests/run.py [--expandm PROGRAM] [--mbex PROGRAM] [--mbe-lsp PROGRAM] [MODULE..]
+    python3 tests/run.py [--expandm PROGRAM] [--mbex PROGRAM] [--mbe-lsp PROGRAM] [--jobs N] [MODULE..]
 
-Each file of tests/expandm, tests/mbex and tests/mbe_lsp is a module: tables of rows, and a function `test` that tries each row on the program. A row
-that isn't as it says is printed, with what was wanted and what was got. The last line is `N passed, M failed`; the exit status is 0 if
-none failed. A program that isn't there is a failure.
+Each file of tests/expandm, tests/mbex and tests/mbe_lsp is a module: tables of rows, and a function `test` that tries each row on the
+program. A row that fails is printed, with the expected and the actual result. The last line is `N passed, M failed`; the exit status is 0
+if
+none failed. A missing program is a failure.
 """
 import argparse
+import concurrent.futures
+import contextlib
 import importlib
+import io
 import os
 import sys
 
@@ -25,20 +29,32 @@ def modules_of(name, words):
     return [module for module in found if not words or f"{name}/{module}" in words]
 
 
-def tried(name, path, words):
-    """How many rows of a program's tests passed and failed."""
-    modules = modules_of(name, words)
-    if words and not modules:
-        return 0, 0
-    if not os.access(path, os.X_OK):
-        print(f"{name}: no program at {path}: run rt ci first")
-        return 0, 1
+def tried(name, path, module):
+    """What a module of a program's tests prints, and how many of its rows passed and failed."""
     program = Program(path)
-    for module in modules:
-        before = program.passed, program.failed
+    with contextlib.redirect_stdout(io.StringIO()) as said:
         importlib.import_module(f"{name}.{module}").test(program)
-        print(f"{name}/{module}: {program.passed - before[0]} passed, {program.failed - before[1]} failed")
-    return program.passed, program.failed
+    return f"{said.getvalue()}{name}/{module}: {program.passed} passed, {program.failed} failed", program.passed, program.failed
+
+
+def tries(name, path, words):
+    """The modules of a program's tests to try: program, path, and module."""
+    modules = modules_of(name, words)
+    if modules and not os.access(path, os.X_OK):
+        print(f"{name}: no program at {path}: run rt ci first")
+        return [None]
+    return [(name, path, module) for module in modules]
+
+
+def counts(given):
+    """How many rows of all modules passed and failed. Modules run side by side; each prints its lines at its end, in order."""
+    programs = (("expandm", given.expandm), ("mbex", given.mbex), ("mbe_lsp", given.mbe_lsp))
+    found = [it for name, path in programs for it in tries(name, path, given.modules)]
+    yield 0, found.count(None)
+    with concurrent.futures.ProcessPoolExecutor(given.jobs) as pool:
+        for text, passed, failed in pool.map(tried, *zip(*filter(None, found))) if any(found) else ():
+            print(text, flush=True)
+            yield passed, failed
 
 
 def main():
@@ -46,11 +62,10 @@ def main():
     words.add_argument("--expandm", default=f"{TOP}/crates/expandm/out/expandm")
     words.add_argument("--mbex", default=f"{TOP}/crates/mbex/out/mbex")
     words.add_argument("--mbe-lsp", default=f"{TOP}/crates/mbe_lsp_main/out/mbe_lsp_main")
+    words.add_argument("--jobs", type=int, default=os.cpu_count(), metavar="N", help="how many modules run side by side")
     words.add_argument("modules", nargs="*", metavar="MODULE", help="such as mbex/lints")
     given = words.parse_args()
-    programs = (("expandm", given.expandm), ("mbex", given.mbex), ("mbe_lsp", given.mbe_lsp))
-    counts = [tried(name, path, given.modules) for name, path in programs]
-    passed, failed = (sum(it) for it in zip(*counts))
+    passed, failed = (sum(it) for it in zip(*counts(given)))
     print(f"{passed} passed, {failed} failed")
     return 0 if failed == 0 and passed > 0 else 1
 

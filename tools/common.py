@@ -24,7 +24,7 @@ TOP = os.path.dirname(TOOLS)
 EDITIONS = ["2015", "2018", "2021", "2024"]
 # The environment in which the stable rustc takes `-Z` options.
 NIGHTLY = {**os.environ, "RUSTC_BOOTSTRAP": "1"}
-# The words for which `rt try` runs a program, in the folder of its crate.
+# The arguments of a program's run by `rt try`, in the folder of its crate.
 SAMPLE_ARGS = {
     "expandm": "data/tour.rs",
     "mbex": "data/first.def data/first.arg",
@@ -54,7 +54,7 @@ def finish(passed, failed):
 
 
 def print_table(head, rows, out=None):
-    """Prints rows of text under a head, in columns as wide as they have to be."""
+    """Prints rows of text under a head. A column is as wide as its longest text."""
     rows = [tuple(map(str, row)) for row in [head, *rows]]
     widths = [max(map(len, column)) for column in zip(*rows)]
     for row in rows:
@@ -66,7 +66,7 @@ def print_table(head, rows, out=None):
 
 @contextlib.contextmanager
 def folder(keep=None):
-    """A temporary folder, or the folder `keep`, which stays."""
+    """Makes a temporary folder, or the folder `keep`, which isn't removed at the end."""
     if keep:
         os.makedirs(keep, exist_ok=True)
         yield os.path.abspath(keep)
@@ -146,7 +146,7 @@ def cargo(*args, **how):
 
 
 def first_error(said):
-    """The first line of an error of rustc, or else the first line of what it said."""
+    """The first line of an error of rustc, or else the first line of its output."""
     lines = said.split("\n")
     return next((line for line in lines if line.startswith("error")), lines[0])
 
@@ -189,7 +189,7 @@ def mbe_lsp(given=None):
 # ---- programs without proof
 
 def sources():
-    """The files that a program without proof is made of: the crates, and what makes the program."""
+    """The files that decide a program without proof: the crates, and the files that build it."""
     bench = f"{TOOLS}/speed/bench"
     found = [f"{TOP}/crates.txt", f"{TOP}/HANDLES", f"{bench}/unproved.sh", f"{bench}/hints.py"]
     for crate in sorted(os.listdir(f"{TOP}/crates")):
@@ -210,8 +210,8 @@ def hash_of(parts):
 def sources_hash():
     """A hash of the sources of a program without proof.
 
-    A file of the cache keeps the hash with the sizes and times of the files that it is of, so the
-    next call doesn't read them.
+    A file in the cache keeps the hash, with the sizes and times of the sources. So the next call
+    doesn't read the sources.
     """
     files = sources()
     states = ((path, os.stat(path)) for path in files)
@@ -266,8 +266,8 @@ def lay_out(room, crate, libraries, with_proved=False):
     """Lays out a repository in `room`: a crate of the tools beside copies of libraries of this one.
 
     `crate` is the folder of that crate. Its sources end in `.in`, since the gate asks that a crate
-    reads each Rattle file. `with_proved` copies what earlier checks proved of the libraries. What
-    an earlier run kept in `room` stays. Returns the crate's folder in `room`.
+    reads each Rattle file. `with_proved` copies what earlier checks proved of the libraries, unless
+    `room` has an `out` of an earlier run. Returns the crate's folder in `room`.
     """
     name = os.path.basename(crate)
     lines = read(f"{TOP}/crates.txt").split("\n")

@@ -75,7 +75,7 @@ def rust_text(trees):
 
 
 def doc_of(text):
-    """The trees that the lexer makes of a doc comment with that text, with one place."""
+    """The trees that the lexer makes of a doc comment with that text, all with one span."""
     trees = mbe.convert('#[doc = r"a"]', "tokens", 2021, "rust")
     for token in trees.tokens:
         token.span = mbe.Span(end=9)

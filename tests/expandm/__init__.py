@@ -39,7 +39,8 @@ def shown(report):
 
 
 def counted(program, words, files, stdin=""):
-    """A run, and how many reports it has, in lines as in JSON, which changes nothing else. Its status is 1 just if one is an error."""
+    """A run, and how many reports it has. With `--json` it has as many, and nothing else differs. Its status is 1 exactly if a report is an
+    error."""
     ran = program.run(words, files, stdin)
     again = program.run(["--json", *words], files, stdin)
     reports = objects(again.err)

@@ -93,7 +93,7 @@ FAULTS = (
     ("#[cfg_attr(yes inline)]", 15, "NoComma"),
 )
 
-# How deep predicates are at most.
+# The greatest depth of nested predicates.
 DEEP = (
     ("#[cfg(«126 not(»yes«126 )»)]", True),
 )

@@ -1,5 +1,5 @@
-"""The limits of calls and of tokens: a call of the file whose expansion goes beyond one is unchanged, with one error at it, and every other
-call is expanded. A token of an expansion counts once; the openings and closings of its groups count too."""
+"""The limits of calls and of tokens. A call of the file whose expansion exceeds a limit is unchanged, and has one error. Every other call
+is expanded. A token of an expansion counts once; the openings and closings of its groups count too."""
 import re
 
 # Macros whose expansions have four tokens, one, nine and then two of the last, and the tokens of the argument.
@@ -8,7 +8,7 @@ MACROS = (
     "macro_rules! pass { ($($t:tt)*) => { $($t)* } }\n"
 )
 
-# Words; calls in brackets; what is printed of them; and the errors: at which call, and which limit.
+# Arguments; calls in brackets; their expansions; and the errors: at which call, and which limit.
 ROWS = (
     ("--max-tokens 4", "four!()", "f(a)", []),
     ("--max-tokens 3", "four!()", "four!()", [(1, "3 tokens")]),
@@ -23,7 +23,7 @@ ROWS = (
     ("--fuel 2", "twice!(), one!(), one!(), one!()", "twice!(), 1, 1, one!()", [(1, "2 calls"), (4, "2 calls")]),
     ("--fuel 0", "one!()", "one!()", [(1, "0 calls")]),
     ("--fuel 2 --max-tokens 3", "four!(), one!(), one!(), one!()", "four!(), 1, 1, one!()", [(1, "3 tokens"), (4, "2 calls")]),
-    # Calls that no step is tried for use nothing.
+    # Calls of unknown macros use nothing of the limits.
     ("--fuel 1", "other!(), other!(), one!()", "other!(), other!(), 1", []),
 )
 

@@ -11,15 +11,15 @@ ODD = "macro_rules! odd { ($a:tt $($t:tt)*) => { even!($($t)*) }; () => { end!()
 FOREVER = "macro_rules! forever { ($x:expr) => { forever!($x) }; }\n"
 THERE = "in this macro invocation"
 
-# A text; where its one error is; where the calls are that led there, from the file's call on.
+# A text; the location of its error; and the locations of the calls that led there, from the file's call on.
 ROWS = (
-    # The error of the file's own call has none.
+    # No call led to an error of the file's own call.
     (PAIR + "fn main() { pair!(1); }", "2:20", ""),
     (PAIR + "macro_rules! outer { () => { pair!() }; }\nfn main() { outer!(); }", "2:30", "3:13"),
     (STEPS + "macro_rules! a2 { ($x:expr) => { end!() }; }\n" + ODD + "fn main() { a0!(1); }", "3:34", "6:13 1:34 2:34"),
     # The error is at a token of the file.
     (PAIR + "macro_rules! outer { ($($x:tt)*) => { pair!($($x)*) }; }\nfn main() { outer!(1; 2); }", "3:21", "3:13"),
-    # A recursion has each place once.
+    # A recursion has one note for each location.
     (PAIR + DOWN + "fn main() { down!(1 2 3 4 5 6 7 8 9 10 11 12 13 14 15 16 17 18 19 +); }", "4:28", "6:13 4:28"),
     (EVEN + ODD + "fn main() { even!(1 2 3 4 5 6 7); }", "2:68", "4:13 2:43 1:44"),
     (FOREVER + "fn main() { forever!(1); }", "1:39", "2:13 1:39"),
@@ -27,23 +27,24 @@ ROWS = (
     (PAIR + "macro_rules! outer { () => { vec![pair!()] }; }\nfn main() { outer!(); }", "2:35", "3:13"),
 )
 
-# Of many calls, the middle ones are counted. Of so many macros each calls the next one, and the last one matches nothing.
+# How many macros there are; the calls that have notes; and the text on the middle calls. Each macro calls the next one, and the last one
+# matches nothing.
 LONG = (
     (8, ["1", "2", "3", "4", "5", "6", "7", "8"], ""),
     (9, ["1", "2", "3", "4", "6", "7", "8", "9"], ", and 1 more that are not shown"),
     (100, ["1", "2", "3", "4", "97", "98", "99", "100"], ", and 92 more that are not shown"),
 )
 
-# Words; a text; its line at the end, which is none without an error or a warning.
+# Arguments; a text; the line that ends the run, or `None` without an error or a warning.
 ENDS = (
     ("", PAIR + "const A: (u8, u8) = pair!(1, 2);", None),
     ("", PAIR + "const A: (u8, u8) = pair!(1);", "1 error; 0 of 1 call expanded"),
     ("", PAIR + "fn f() { pair!(1, 2); pair!(1); pair!(2); }", "2 errors; 1 of 3 calls expanded"),
-    # Calls in expansions count; those of the standard library don't.
+    # Calls in expansions count; calls of the standard library's macros don't.
     ("", PAIR + "macro_rules! two { () => { pair!(1, 2); pair!() } }\nfn f() { two!(); println!(); std::dbg!(); }", "1 error; 2 of 3 calls expanded"),
     ("", PAIR + "fn f() { pair!(1); quote!(a); }", "1 error; 0 of 1 call expanded; 1 call of an unknown macro"),
     ("", PAIR + "fn f() { pair!(1); quote!(a); other::m!(); }", "1 error; 0 of 1 call expanded; 2 calls of unknown macros"),
-    # A call that is out of scope is one that isn't expanded.
+    # A call that is out of scope counts as not expanded.
     ("", "fn f() { pair!(1, 2); }\n" + PAIR + "fn g() { pair!(1); }", "1 error; 0 of 2 calls expanded"),
     ("", "fn f() { quote!(a); }", None),
     ("", "fn f(", "1 error"),
@@ -66,14 +67,14 @@ def place(report):
 
 
 def chain(program, text):
-    """The places of the errors, and each note on a call that led there as its place and its message."""
+    """The locations of the errors, and the location and the message of each note on a call that led there."""
     reports = objects(program.run(["--json", "a.rs"], {"a.rs": text}).err)
     errors = [place(it) for it in reports if it["level"] == "error"]
     return errors, [(place(it), it["message"]) for it in reports if THERE in it["message"]]
 
 
 def numbered(places):
-    """What is said at each of these calls."""
+    """The message at each of these calls."""
     if len(places) == 1:
         return [(places[0], THERE)]
     return [(at, f"{THERE} (#{number})") for number, at in enumerate(places, 1)]
@@ -90,7 +91,7 @@ def check_long(program, row):
 
 
 def check_end(program, row):
-    """The last line of standard error is the one of the row, or one of a report."""
+    """The last line of standard error is the line of the row, or a line of a report."""
     words, text, want = row
     lines = program.run([*words.split(), "a.rs"], {"a.rs": text}).err.splitlines()
     ends = [line for line in lines if "call" in line and "expanded" in line or line[:2] in ("1 ", "2 ") and "|" not in line]

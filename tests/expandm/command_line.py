@@ -65,6 +65,7 @@ ERRORS = (
     ("a.rs --max-tokens 4294967296", "invalid value '4294967296' for '--max-tokens <N>': 4294967296 is not in 0..=4294967295"),
     ("a.rs --fuel x", f"invalid value 'x' for '--fuel <N>': {NOT_A_NUMBER}"),
     ("a.rs --depth 4294967296", "invalid value '4294967296' for '--depth <N>': 4294967296 is not in 0..=4294967295"),
+    ("--html p.html --write out a.rs", "the argument '--html <PATH>' cannot be used with '--write <DIR>'"),
     ("--once --depth 3 a.rs", "the argument '--once' cannot be used with '--depth <N>'"),
     ("--call 3: a.rs", f"invalid value '3:' for '--call <LINE[:COL]>': {POSITION}"),
     ("--call x a.rs", f"invalid value 'x' for '--call <LINE[:COL]>': {POSITION}"),
@@ -102,7 +103,7 @@ def test(program):
     helps = {program.run(words).out for words in (["--help"], ["-h"], ["a.rs", "--help"])}
     (text,) = helps if len(helps) == 1 else ("",)
     names = re.findall(r"^  (?:-\w, |    )--([a-z-]+)", text, re.M)
-    program.check("command_line.help", text, ("Usage: " in text, len(names)), (True, 40))
+    program.check("command_line.help", text, ("Usage: " in text, len(names)), (True, 44))
     for words in (["-V"], ["--version"], ["a.rs", "--version"]):
         ran = program.run(words)
         program.check("command_line.version", words, (ran.status, ran.out, ran.err), (0, "expandm 0.1.0\n", ""))

@@ -2,7 +2,7 @@
 
 In rustc's dialect:
 
-- Most fragments stay whole. `tt` matches such a fragment as one token tree, and no token of a pattern matches it.
+- Most fragments are passed on whole. `tt` matches such a fragment as one token tree, and no token of a pattern matches it.
 - An empty `vis` doesn't match at the end.
 - Raw and plain identifiers differ.
 - No later rule is tried if a fragment has begun, after a local ambiguity, or if a rule's template faults.

@@ -246,7 +246,7 @@ OBJECTS = (
 )
 
 
-# The example of README.md: the file crates/expandm/data/mistake.rs, the explanation of its call, and the text with the missing `:`.
+# The file crates/expandm/data/mistake.rs, the explanation of its call, and the line of the expansion once the missing `:` is there.
 MISTAKE = """\
 macro_rules! pairs {
     ($($key:ident: $value:expr),*) => {
@@ -283,7 +283,7 @@ MENDED_LINE = """\
 
 
 def test_readme(program):
-    """The example of README.md, as it stands and mended. Rust doesn't tell how the tokens of an expansion are spaced."""
+    """The file crates/expandm/data/mistake.rs, unchanged and mended. The white space of an expansion doesn't count."""
     found = program.run(["--explain", "mistake.rs"], {"mistake.rs": MISTAKE})
     row = "crates/expandm/data/mistake.rs"
     program.check("explained.MISTAKE", row, (found.status, found.out, found.err), (1, MISTAKE, MISTAKE_EXPLAINED))
@@ -319,7 +319,7 @@ def test(program):
     for row in STEPS:
         rules, call, want = row
         err = reported(program, "--trace a.rs", defined(rules, call))
-        # How tokens are spaced is no matter of theirs.
+        # The spaces between tokens don't count.
         found = joined(notes_in_lines(err)).replace(" ", "")
         program.check("explained.STEPS", row, found, want.replace(" ", ""))
     for row in REPORTS:

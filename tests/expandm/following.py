@@ -1,17 +1,17 @@
 """Findings in rules alone, by the reports of `expandm --lint`, in edition 2024. A finding is one of these:
 
-- `followed NAME PLACE NEXT;`: a token follows the fragment that mustn't follow it;
-- `twice NAME PLACE LATER;`, `unknown NAME PLACE;`, `unbound NAME PLACE;`, `unused NAME PLACE;`;
-- `repeats NAME PLACE USED;`.
+- `followed NAME START NEXT;`: a token follows the fragment that mustn't follow it;
+- `twice NAME START LATER;`, `unknown NAME START;`, `unbound NAME START;`, `unused NAME START;`;
+- `repeats NAME START USED;`.
 
-PLACE, NEXT, LATER and USED are byte offsets in the text of a definition: of names, and of the token that follows.
+START, NEXT, LATER and USED are byte offsets in the text of a definition: of names, and of the token that follows.
 """
 import re
 
 from expandm import joined, objects
 
-# Tokens that follow a fragment, and names that are bound twice or have an unknown specifier. rustc 1.95 refuses each of these definitions
-# at the last offset of each line, and nowhere else.
+# Tokens that follow a fragment, and names that are bound twice or have an unknown specifier. The errors of rustc 1.95 are at the last
+# offset of each finding, and nowhere else.
 FOLLOWING = (
     ("($_e:expr =>) => {}", ""),
     ("($_e:expr ,) => {}", ""),
@@ -194,7 +194,7 @@ VARIABLES = (
     ("($x:ident) => {}; ($y:ident) => {$x}", "unbound x 34;unused y 20;"),
 )
 
-# Definitions of which something else is reported too, which isn't of a finding.
+# Definitions with other reports too, which are no findings.
 OTHERS = {
     "($($x:ident)*) => {$($($x)*)*}": "attempted to repeat an expression containing no syntax variables matched as repeating at this depth; ",
     "($($($x:ident)*)*) => {$({$x})*}": "macro `m`, rule 1: empty token tree in repetition; ",
@@ -202,7 +202,7 @@ OTHERS = {
     "($x:ident) => {}; ($y:ident) => {$x}": "unreachable rule: rule 1 matches everything it does; ",
 }
 
-# What is reported for each kind of finding: the part of the text and the message, and the message of the note at the variable, if the
+# For each kind of finding, its part of the text and its message, and the message of the note at the variable. There is a note if the
 # variable is elsewhere. The part of an operator of several chars is its first char.
 KINDS = (
     (
@@ -224,7 +224,7 @@ BEFORE = "macro_rules! m { "
 
 
 def part_of(text, report):
-    """The part of a definition that a report is of."""
+    """The part of a definition that a report is on."""
     (at,) = report["spans"]
     return text[at["byte_start"] - len(BEFORE) : at["byte_end"] - len(BEFORE)]
 

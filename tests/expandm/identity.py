@@ -1,5 +1,5 @@
-"""That a file is known by what it is: modules that name one file by several paths, files that are reached from themselves, and the
-folders that `--root` allows."""
+"""How `expandm` knows a file: modules that name one file by several paths, files that contain themselves, and the folders that `--root`
+allows."""
 import os
 import tempfile
 
@@ -7,22 +7,22 @@ from programs import write
 
 M = "macro_rules! m { () => { 1 } } "
 
-# Files, each `PATH: TEXT`, or `PATH -> WHERE` for a symbolic link, a `|` between two; the words; what is printed; and the notes of the run
-# that belong to no line, each without `note: `.
+# Files, with a `|` between them; arguments; the output; and the notes of the run that belong to no line, each without `note: `. A file is
+# `PATH: TEXT`, or `PATH -> WHERE` for a symbolic link.
 ROWS = (
-    # A file in itself, by another path each time.
+    # A file that contains itself, by another path each time.
     ('d/x.rs: #[path = "../d/x.rs"] mod a; x = 1;', "d/x.rs", '#[path = "../d/x.rs"] mod a; x = 1;',
      ["circular: `d/../d/x.rs` is `d/x.rs`, which it is reached from"]),
     ('d/x.rs: #[path = "../d/x.rs"] mod a; #[path = "./x.rs"] mod b;', "d/x.rs", '#[path = "../d/x.rs"] mod a; #[path = "./x.rs"] mod b;',
      ["circular: `d/../d/x.rs` is `d/x.rs`, which it is reached from", "circular: `d/./x.rs` is `d/x.rs`, which it is reached from"]),
     ('d/x.rs: include!("../d/x.rs");', "d/x.rs", 'include!("../d/x.rs");',
      ["circular: `d/../d/x.rs` is `d/x.rs`, which it is reached from"]),
-    # Two files, each in the other.
+    # Two files, each of which contains the other.
     ('x.rs: mod y;|y.rs: #[path = "./x.rs"] mod z;', "x.rs", "mod y;", ["circular: `./x.rs` is `x.rs`, which it is reached from"]),
     # A link to a file that contains it, and to the folder that contains it.
     ("x.rs: mod y;|y.rs -> x.rs", "x.rs", "mod y;", ["circular: `y.rs` is `x.rs`, which it is reached from"]),
     ("x.rs: mod a;|a/mod.rs: mod b;|a/b -> ../a", "x.rs", "mod a;", ["circular: `a/b/mod.rs` is `a/mod.rs`, which it is reached from"]),
-    # One file of two modules isn't in itself, by whatever paths: each module has its definitions.
+    # A file of two modules doesn't contain itself, whatever the paths: each module has its definitions.
     (f'x.rs: #[macro_use] mod a; #[path = "./a.rs"] #[macro_use] mod b; x = m!();|a.rs: {M}', "x.rs",
      '#[macro_use] mod a; #[path = "./a.rs"] #[macro_use] mod b; x = 1;', []),
     (f"x.rs: #[macro_use] mod b; x = m!();|a.rs: {M}|b.rs -> a.rs", "x.rs", "#[macro_use] mod b; x = 1;", []),
@@ -43,10 +43,10 @@ ROWS = (
     (f"s/x.rs: x = d::m!();|d/lib.rs: #[macro_export] {M}", "--root s --extern d=d/lib.rs s/x.rs", "x = 1;", []),
 )
 
-# The error where a folder isn't there.
+# The error if a folder doesn't exist.
 MISSING = "error: couldn't read `no`: No such file or directory (os error 2)\n"
 
-# A chain of files, each of which names the next and, by another path, the first: how long it is.
+# The length of a chain of files. Each file names the next one and, by another path, the first one.
 LENGTH = 300
 
 

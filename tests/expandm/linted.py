@@ -1,9 +1,12 @@
 """Lints of definitions.
 
-rustc 1.95 reports the errors of these rows in these words and at these locations, with two exceptions: a definition without rules is
-reported at its name here, and rustc reports errors of depths at the call's expansion. The warnings on unknown variables are the warnings
-of rustc's lint `meta_variable_misuse`. The similar specifiers are the names that rustc suggests for fields of these names, as
-tools/rustc/lint-rows.py shows. The rest is worked out by hand.
+rustc 1.95 reports the errors of these rows in these words and at these locations, with two exceptions:
+
+- A definition without rules is reported at its name here.
+- An error of a depth is reported at the call's expansion by rustc.
+
+The warnings on unknown variables are the warnings of rustc's lint `meta_variable_misuse`. The similar specifiers are the names that rustc
+suggests for fields of these names, as tools/rustc/lint-rows.py shows. The rest is worked out by hand.
 """
 import re
 

@@ -33,7 +33,7 @@ ROWS = (
     # The end of the call.
     ("(a b) => {}", "a§", "unexpected end of macro invocation"),
     ("($i:ident, $($j:ident),+) => {}", "a,§", "unexpected end of macro invocation"),
-    # More than one way. A later rule doesn't count.
+    # Several readings, also of a later rule.
     ("($(a)? $(a)?) => {}", "§a", "ambiguity: multiple successful parses"),
     ("(a b) => {}; ($(a)? $(a)?) => {}", "§a", "ambiguity: multiple successful parses"),
 )
@@ -56,7 +56,7 @@ CLOSEST = (
     ("(§a) => {}", "", "`a`", 1),
 )
 
-# Rules; an argument; what is expected at the token at fault by more than one way on, of which rustc names one.
+# Rules; an argument; and all that the rule expects at the token at fault. rustc names one of them.
 SEVERAL = (
     ("($($x:expr),*; $y:ty) => {}", "1 u8", "`,` or `;`"),
     ("($(a)? $(b)? c) => {}", "d", "`a`, `b` or `c`"),

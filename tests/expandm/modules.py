@@ -3,8 +3,8 @@ import os
 
 from expandm import counted, files_of
 
-# Arguments, the last of which is a crate's root; the files, the root first, each `PATH: TEXT` with a `|` after it; their expansions, each
-# with a `|` after it; and the number of notes.
+# Arguments, the last of which is a crate's root; the files, the root first; their expansions; and the number of notes. A file is
+# `PATH: TEXT`. Each file and each expansion has a `|` after it.
 ROWS = (
     (
         "src/lib.rs",
@@ -174,7 +174,8 @@ LIST = "out/.expandm"
 
 
 def written(words, path):
-    """The path of a file's expansion. A file that the arguments name keeps its last name. Others keep the path from its folder on."""
+    """The path of a file's expansion. A file that the arguments name is written without its folder. The others keep their path from that
+    folder on."""
     return "out/" + (os.path.basename(path) if path in words else path.removeprefix("src/"))
 
 
@@ -192,7 +193,7 @@ def check_crate(program, row):
 
 
 def here(path):
-    """A path from the folder of the run on, as an absolute one."""
+    """A path in the folder of the run, as an absolute path."""
     return f"{HERE}/{path.lstrip('/')}"
 
 

@@ -38,7 +38,7 @@ def root(rest, text, edition="2021"):
 
 
 def using(how, text, rest="", edition="2021"):
-    """The files of the package `p`, which uses `d` in that way."""
+    """The files of the package `p`, in whose manifest `how` says where the dependency `d` is."""
     return root(f"[dependencies]\nd = {{ {how} }}\n{rest}", text, edition)
 
 
@@ -191,7 +191,7 @@ TWO = {
 MANY = {**root("", ONE), "src/main.rs": "fn main() { p::m!() }", "src/bin/q.rs": "", "src/bin/r/main.rs": "", "examples/e.rs": "",
         "tests/t.rs": "", "tests/u/x.rs": "", "benches/b.rs": ""}
 
-# Words, files, and what is printed for several targets: each root file after its path.
+# Arguments, files, and the output for several targets: each root file after its path.
 SEVERAL = (
     ("--workspace", TWO, f"// a/src/lib.rs\n{ONE}\n// a/src/main.rs\nfn main() {{ 1 }}\n// b/src/lib.rs\nconst A: u8 = 1;"),
     ("--workspace --lib", TWO, f"// a/src/lib.rs\n{ONE}\n// b/src/lib.rs\nconst A: u8 = 1;"),
@@ -214,7 +214,7 @@ SEVERAL = (
      "r 2021 src/bin/r.rs\np 2021 src/lib.rs\n"),
 )
 
-# Files, and what is printed, with the variables CARGO_HOME and RUSTFLAGS set.
+# Files, and the output, with the variables CARGO_HOME and RUSTFLAGS set.
 AT = "0123456789abcdef0123456789abcdef01234567"
 GIT = f'source = "git+https://a.org/Repo.git?branch=x#{AT}"\n'
 CHECKOUT = "home/git/checkouts/repo-0123456789abcdef/0123456"
@@ -244,7 +244,7 @@ IN_HOME = (
      f"{ONE} #[cfg(x)] const A: u8 = m!(); #[cfg(z)] const B: u8 = 1;"),
 )
 
-# Words, files, and the files that `--write out` makes, beside the lists of what was written.
+# Arguments, files, and the files that `--write out` writes, without the lists of written files.
 WRITTEN = (
     ("", MANY, {"out/src/lib.rs": ONE}),
     ("--bin r", {**MANY, "src/bin/r/main.rs": "mod s;", "src/bin/r/s.rs": "const A: u8 = p::m!();"},
@@ -304,6 +304,7 @@ ERRORS = (
      "Cargo.toml:9:1: `q` needs the feature `a`; enable it by `--features a`"),
     ("--test=t a.rs", {"a.rs": ""}, "'--test=<NAME>' is for a package, and a file is named"),
     ("--workspace --bin x", TWO, "Cargo.toml:1:1: there is no target of the kinds and names that are asked for"),
+    ("--workspace --html p.html", TWO, "`--html` shows one target, and several are chosen"),
     ("--workspace --features x", TWO, "Cargo.toml:2:1: no package of the workspace has the feature `x`"),
     # settings and lock files
     ("", {**root("", ""), ".cargo/config.toml": '[build]\ntarget = "x"\n'},

@@ -92,7 +92,7 @@ def found(program, text):
 
 
 def check_refused(program, table, text, rule, message):
-    """The definition is refused for that alone, or isn't where there is no message."""
+    """The definition is refused with this message alone. Without a message, it isn't refused."""
     before, _, after = text.partition("§")
     at = len(before.encode()) + len(after) - len(after.lstrip())
     program.check(table, text, found(program, text.replace("§", "")), [(rule, message, at)] if message else [])

@@ -1,4 +1,4 @@
-"""The definition that a call resolves to, and the notes if that isn't certain. rustc 1.95 expands the calls in this way."""
+"""The definition that a call resolves to, and the notes if that isn't certain. In rustc 1.95 the calls resolve to the same definitions."""
 import re
 
 from expandm import files_of
@@ -17,8 +17,9 @@ USES = "macro_rules! n { ($n:ident, $e:expr) => { macro_rules! $n { () => { $e }
 MODULE = "macro_rules! n { ($n:ident, $e:expr) => { #[macro_use] mod made { macro_rules! $n { () => { $e } } } } }"
 ITEM = "macro_rules! n { ($n:ident, $e:expr) => { pub macro $n() { $e } } }"
 
-# Arguments, the last of which is the first file; files, each `PATH: TEXT` with a `|` between them; the expansion of the first file, in
-# which `..` is its text up to the last line; and the notes. A note has its location, its message, and a name for the message's `{}`.
+# Arguments, the last of which is the first file; files; the expansion of the first file; and the notes. A file is `PATH: TEXT`, with a `|`
+# between files. In an expansion, `..` is the file's text up to the last line. A note has its location, its message, and a name for the
+# message's `{}`.
 ROWS = (
     # A path of two names: the module that it names decides.
     ("a.rs", f"a.rs: {IN_A}\n{IN_B}\nx = [a::m!(), b::m!()];", "..x = [1, 2];", ()),
@@ -47,7 +48,7 @@ ROWS = (
         "a.rs", f"a.rs: {IN_A}\nmod c {{ {IN_A} }}\nx = a::m!();", "..x = a::m!();",
         (("3:8", UNSURE, "m"), ("2:30", HERE, "m"), ("1:22", HERE, "m")),
     ),
-    # The path of another crate is none of these files'.
+    # A path into another crate resolves to no definition of these files.
     ("a.rs", f"a.rs: #[macro_export] {ONE}\nx = log::m!();", "..x = log::m!();", ()),
     ("a.rs", "a.rs: #[macro_export] macro_rules! vec { () => { 1 } }\nx = std::vec![];", "..x = std::vec![];", ()),
     ("a.rs", f"a.rs: {IN_A}\nx = ::a::m!();", "..x = ::a::m!();", (("2:10", UNSURE, "m"), ("1:22", HERE, "m"))),
@@ -163,7 +164,7 @@ ROWS = (
         "..#[macro_use] mod made {\n    macro_rules! m {\n        () => {\n            2\n        }\n    }\n} x = m!();",
         (("2:15", UNSURE, "m"), ("1:127", HERE, "m")),
     ),
-    # A name in the template of a `macro` item is one at its definition.
+    # A name in the template of a `macro` item means what it means at the item.
     (
         "a.rs", f"a.rs: mod a {{ macro m() {{ 1 }} pub macro n() {{ m!() }} }}\n{TWO} x = a::n!();",
         f"..{TWO} x = m!();",

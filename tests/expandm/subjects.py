@@ -71,7 +71,7 @@ EXPANDED = EXAMPLE.replace("#[cfg(unix)]\ntwo! {}", A_AND_B)
 # With `--test`.
 WITH_TESTS = ((ONE, "#[test] fn f() { e!(1) }", "#[test] fn f() { 1 }"),)
 
-# An expansion with attributes that have a fault: each is reported at its location, and stays before its target.
+# An expansion with attributes that have a fault: each is reported at its location, and remains before its target.
 FAULTY = (
     "macro_rules! n { () => { fn a() {} } } macro_rules! m { () => { #[inline] #[cfg(a b)] n!(); #[cfg(a(b))] fn f() {} } }\n"
     "m!();\n",

@@ -23,7 +23,7 @@ ROWS = (
     ("{ macro_rules! n { () => { 2 } } n!() } n!()", "--depth 9 a.rs", "{ macro_rules! n { () => { 2 } } 2 } n!()", 2),
     ("macro_rules! d { () => { d!() } } d!()", "--depth 3 a.rs", "macro_rules! d { () => { d!() } } d!()", 3),
     ('"', "--depth 9 a.rs", '"', 1),
-    # Groups and calls count together: a call in 1,000 of them stays.
+    # Groups and calls count together: a call in 1,000 of them is unchanged.
     (grouped(998, "m!()"), "--depth 9 a.rs", grouped(998, "1"), 0),
     (grouped(999, "m!()"), "--depth 9 a.rs", grouped(999, "m!(1)"), 2),
     (grouped(1_000, "m!()"), "--depth 9 a.rs", grouped(1_000, "m!()"), 1),

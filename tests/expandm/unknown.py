@@ -1,4 +1,5 @@
-"""Calls of macros that are certainly unknown, with the messages and places of rustc 1.95, and calls of macros that may come from elsewhere."""
+"""Calls of macros that are certainly unknown, with the messages and locations of rustc 1.95. Calls of macros that may come from
+elsewhere."""
 from expandm import objects
 
 PAIR = "macro_rules! pair { ($a:expr) => { $a } }\n"
@@ -11,7 +12,7 @@ ROWS = (
         PAIR + MAIN,
         [CANNOT, "2:13 help: a macro with a similar name exists: `pair`", "1:14 note: similarly named macro `pair` defined here"],
     ),
-    # Case counts less than any edit.
+    # A name that differs in case alone is closer than any other name.
     (
         "macro_rules! PAOR { () => {} } macro_rules! pair { () => {} }\nfn main() { PAIR!(); }",
         [
@@ -20,7 +21,7 @@ ROWS = (
             "1:45 note: similarly named macro `pair` defined here",
         ],
     ),
-    # A macro that isn't in scope yet isn't meant.
+    # No help names a macro that isn't in scope yet.
     (MAIN + "\nmacro_rules! pair { () => {} }", ["1:13 error: cannot find macro `paer` in this scope"]),
     ("\nfn main() { hello!(); }", ["2:13 error: cannot find macro `hello` in this scope"]),
     (
@@ -38,7 +39,7 @@ ROWS = (
     ),
 )
 
-# Where a macro of that name may come from, in a program that calls it.
+# Items that may bring a macro of that name into a program that calls it.
 OPEN = (
     "use a::*;",
     "use crate::a::*; mod a {}",

@@ -28,8 +28,8 @@ BECOME = {
 LIST = ".expandm"
 HEADER = "Files that expandm wrote into this folder, which it may overwrite:\n"
 
-# What else is there before the run, a `|` between two: `PATH: TEXT`, `PATH -> WHERE` for a symbolic link, `PATH = FILE` for another name
-# of a file; the words before the crate's root; and the error.
+# Other files before the run, with a `|` between them; the arguments before the crate's root; and the error. A file is `PATH: TEXT`, `PATH
+# -> WHERE` for a symbolic link, or `PATH = FILE` for another name of a file.
 REFUSED = (
     ("", "--write src", "`--write src` would overwrite `src/lib.rs`, which this run reads"),
     ("", "--write ./src/.", "`--write ./src/.` would overwrite `src/lib.rs`, which this run reads"),
@@ -56,9 +56,9 @@ REFUSED = (
     ("out/b/c.rs: old", "--write out", "`out/b/c.rs` is there, and no earlier run wrote it: `--force` overwrites it"),
     (f"out/b/c.rs: old|out/{LIST}: {HEADER}lib.rs\na.rs\nc.rs\nb\n", "--write out",
      "`out/b/c.rs` is there, and no earlier run wrote it: `--force` overwrites it"),
-    (f"out/{LIST}: lib.rs\n", "--write out", f"`out/{LIST}` is there, and doesn't list files of `--write`"),
-    (f"out/{LIST}: lib.rs\n", "--force --write out", f"`out/{LIST}` is there, and doesn't list files of `--write`"),
-    (f"out/{LIST} -> ../other|other: {HEADER}", "--write out", f"`out/{LIST}` is there, and doesn't list files of `--write`"),
+    (f"out/{LIST}: lib.rs\n", "--write out", f"`out/{LIST}` is there, and doesn't list files that expandm wrote"),
+    (f"out/{LIST}: lib.rs\n", "--force --write out", f"`out/{LIST}` is there, and doesn't list files that expandm wrote"),
+    (f"out/{LIST} -> ../other|other: {HEADER}", "--write out", f"`out/{LIST}` is there, and doesn't list files that expandm wrote"),
     ("", "--write .", "`--write .` would write beside `src/lib.rs`, which this run reads"),
     ("", "--force --write src/../", "`--write src/../` would write beside `src/lib.rs`, which this run reads"),
     ("", "--force --extern d=dep/inner/d.rs --write dep", "`--write dep` would write beside `dep/inner/d.rs`, which this run reads"),
@@ -137,7 +137,7 @@ def check_taken(program, row):
 
 
 def full_at(size):
-    """Has writes fail that make a file longer than that."""
+    """Makes each write fail that would make a file longer than that."""
     def limit():
         signal.signal(signal.SIGXFSZ, signal.SIG_IGN)
         resource.setrlimit(resource.RLIMIT_FSIZE, (size, size))
@@ -145,8 +145,8 @@ def full_at(size):
 
 
 def check_full(program):
-    """Where a file can't be written to its end, all files that were there stay, and nothing else is left: of the first file, of the
-    third, and of the list."""
+    """If a file can't be written to its end, all files that existed are unchanged, and no other file is left. In the rows, the limit is
+    exceeded by `lib.rs` or by the list."""
     for name, size, beside in (
         ("lib.rs", 8, "out/lib.rs: old"),
         ("lib.rs", 8, ""),
@@ -158,13 +158,14 @@ def check_full(program):
         program.check("writing.full", (name, beside), (ran.status, ran.out, ran.err, now), (2, "", error, was))
 
 
-# A folder and a file in it that aren't the user's: by their mode no file can be made in the folder, or none in it replaced.
+# Modes of a folder of another user, each with the error. With the first, no file can be made in the folder. With the second, no file in it
+# can be replaced.
 CLOSED = ((0o555, "Permission denied (os error 13)"), (0o1777, "Operation not permitted (os error 1)"))
 NOBODY = 65534
 
 
 def check_closed(program):
-    """Where the last file can't be put in its place, those before it are as they were. Only root can make such a folder."""
+    """If the last file can't be written or renamed, the files before it are unchanged. Only root can make such a folder."""
     if os.getuid() != 0:
         return
     for mode, reason in CLOSED:
@@ -180,7 +181,7 @@ def check_closed(program):
             program.check("writing.CLOSED", mode, (ran.status, ran.out, ran.err, there(folder)), (2, "", error, was))
 
 
-# What is there after a first run: what a run with `--check` finds, and its status. `PATH: TEXT` is written, `-PATH` removed.
+# Changes after a first run; what a run with `--check` reports; and its status. `PATH: TEXT` writes a file, and `-PATH` removes one.
 CHECKED = (
     ("", "", 0),
     ("out/other.rs: x", "", 0),

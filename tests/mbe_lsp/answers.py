@@ -7,7 +7,7 @@ from mbe_lsp import NAME, actions, asked, at, opened, replies, request, results
 
 TWO = "macro_rules! two { () => { 2 }; ($e:expr) => { [$e, $e] }; }\n"
 
-# Where the rule is that a call expands by.
+# The rule by which a call expands.
 DEFINITIONS = (
     "macro_rules! two { () => { 2 }; «($e:expr)» => { [$e, $e] }; }\nfn f() { tw§o!(1); }",
     "macro_rules! two { «()» => { 2 }; ($e:expr) => { [$e, $e] }; }\nfn f() { two!(§); }",
@@ -30,7 +30,7 @@ DEFINITIONS = (
     "fn f() { pri§ntln!(); }",
 )
 
-# Where a macro is called.
+# The calls of a macro.
 REFERENCES = (
     "macro_rules! m§ { () => {}; }\nfn f() { «m»!(); }\nfn g() { «m»!(); n!(); vec![«m»!()]; }",
     "macro_rules! m { () => {}; }\nfn f() { «§m»!(); }",
@@ -74,7 +74,7 @@ ACTIONS = (
     (TWO + "fn f() { let x = two!(§1); }", "Inline this call of `two!`", TWO + "fn f() { let x = [1, 1]; }"),
     (NEST + "fn f() { let x = all!(§); }", "Inline this call of `all!`", NEST + "fn f() { let x = 1; }"),
     (NEST + "fn f() { let x = all!(§); }", "Expand one step of `all!`", NEST + "fn f() { let x = one!(); }"),
-    # A local of the macro and one of the call stay two variables.
+    # A local of the macro and one of the call remain two variables.
     ("macro_rules! m { ($e:expr) => { { let a = 1; a + $e } }; }\nfn f(a: u8) -> u8 { m!(§a) }", "Inline this call of `m!`",
      "macro_rules! m { ($e:expr) => { { let a = 1; a + $e } }; }\nfn f(a: u8) -> u8 { { let a_1 = 1; a_1 + a } }"),
 )
@@ -82,7 +82,7 @@ ACTIONS = (
 # A text, and the text after its calls of one macro are inlined; None if that isn't offered.
 INLINED = (
     (TWO + "fn f() { two!(§1); two!(); vec![two!(2)]; }", TWO + "fn f() { [1, 1]; 2; vec![[2, 2]]; }"),
-    # A call that no rule expands stays.
+    # A call that no rule expands is unchanged.
     (TWO + "fn f() { two!(§1); two!(fn); two!(); }", TWO + "fn f() { [1, 1]; two!(fn); 2; }"),
     (TWO + "fn f() { two!(§1); }", None),
     # The calls are maybe of different macros.
@@ -182,7 +182,7 @@ def test(program):
         plain, cursor, _ = marked(text)
         found, _ = replies(program, [opened(plain), actions(1, *cursor)])
         changes = [it["edit"]["changes"] for it in results(found)[1] if it["title"].startswith("Inline all ")]
-        # The last edit is first, so the places of the others stay.
+        # The last edit is applied first, so the ranges of the others remain right.
         got = [edited(plain, edits[::-1]).split() for change in changes for edits in change.values()]
         program.check("inlined", text, got, [want.split()] if want else [])
     for text, want in SIGNATURES:

@@ -1,4 +1,4 @@
-"""Diagnostics on documents: what rustc says of the definition or the call, at rustc's place, in the columns of editors."""
+"""Diagnostics on documents: what rustc says of the definition or the call, at rustc's location, with columns as editors count them."""
 from mbe_lsp import NAME, changed, initialize, framed, notification, opened, parsed, ending, published, replies, request, short
 
 ERROR, WARNING, INFORMATION = 1, 2, 3

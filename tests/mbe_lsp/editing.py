@@ -8,7 +8,7 @@ from mbe_lsp.answers import answer, edited, in_text, marked
 
 TWO = "macro_rules! two { ($a:expr, $b:expr) => { [$a, $b] }; }\n"
 
-# Where a variable is used in its rule, or a macro in its crate.
+# The uses of a variable in its rule, or of a macro in its crate.
 REFERENCES = (
     "macro_rules! m { ($x§:tt) => { [«$x»] }; ($x:tt) => { $x }; }".replace("«$x»", "$«x»"),
     "macro_rules! m { ($x:tt $xy:tt) => { [$«x», $xy, $«§x»] }; }",

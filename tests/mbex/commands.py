@@ -125,7 +125,7 @@ def make_files(folder):
 
 
 def limit():
-    """In the new process: memory is limited, and root can't read a file that nobody may read."""
+    """In the new process: limits memory, and lets root read no file that nobody may read."""
     if os.geteuid() == 0:
         prctl = ctypes.CDLL(None).prctl
         prctl(PR_CAPBSET_DROP, CAP_DAC_OVERRIDE, 0, 0, 0)
@@ -134,7 +134,7 @@ def limit():
 
 
 def closed(number):
-    """That output is closed."""
+    """Closes that output in the new process."""
     def before():
         os.close(number)
         limit()
@@ -142,7 +142,7 @@ def closed(number):
 
 
 def unread(number):
-    """That output is a pipe that nobody reads."""
+    """Makes that output a pipe that nobody reads."""
     def before():
         reading, writing = os.pipe()
         os.dup2(writing, number)
@@ -152,13 +152,13 @@ def unread(number):
 
 
 def full():
-    """In the new process: standard output is a device that accepts nothing."""
+    """In the new process: makes standard output a device that accepts nothing."""
     os.dup2(os.open("/dev/full", os.O_WRONLY), 1)
     limit()
 
 
 def to_file(room):
-    """Standard output is the file `out`, which accepts this number of bytes."""
+    """Makes standard output the file `out`, which accepts this number of bytes."""
     def before():
         os.dup2(os.open("out", os.O_WRONLY | os.O_CREAT | os.O_TRUNC), 1)
         signal.signal(signal.SIGXFSZ, signal.SIG_IGN)

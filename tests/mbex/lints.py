@@ -9,7 +9,7 @@ LINTS = (
     ("\n($($e:expr),* $(,)?) => {\n    $($e);* ;\n};\n", "\n    _,\n    const { 1 },\n", "rule 0: one reading\n"),
     # No round, and one empty round.
     ("($($v:vis),*) => {}", "", "rule 0: several readings\n"),
-    # A fault of the template is no matter of matching.
+    # A fault of the template doesn't change the verdict.
     ("($x:ident) => {$($x)*}; ($x:ident) => {$x}", "a", "rule 0: one reading\nrule 1: one reading\n"),
     ("($x:ident = $t:tt;) => { pair ($t) $x }", "a = 1", "rule 0: stuck at 3\n"),
     ("($x:foo) => {}; ($($t:tt)*) => {}", "a", "rule 0: stuck at 0\nrule 1: one reading\n"),
@@ -89,7 +89,7 @@ def is_second_closer(program, first, second, argument):
 
 
 def are_left(program):
-    """The rule is closer than one before it that leaves a tree more, and not than one after it that leaves one less."""
+    """The rule is closer than an earlier rule with one more unmatched tree, and not closer than a later rule with one less."""
     for row in LEFT:
         pattern, argument, trees, left = row
         if left < trees:

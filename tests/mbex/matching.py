@@ -211,7 +211,7 @@ LIFETIME_FRAGMENTS_NOT = (
     ("($l:lifetime) => {$l}", "('a)"),
 )
 
-# A hundred groups in one another, and one more.
+# A hundred nested groups, and one more.
 DEEP = (
     ("«101 (»a«101 )» => {}", "«100 (»a«100 )»", "", 0, ""),
 )

@@ -1,4 +1,4 @@
-"""Groups and repetitions in one another: as deep as definitions may have them, one level deeper, a million levels."""
+"""Nested groups and repetitions: as deep as definitions may have them, one level deeper, and a million levels."""
 from mbex import ran
 
 # How many levels docs/DECISIONS.md gives.

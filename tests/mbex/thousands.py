@@ -48,7 +48,7 @@ def names(program):
 
 
 def levels(program):
-    """Repetitions in one another that can be empty are refused at once."""
+    """Nested repetitions that can be empty are refused at once."""
     run = ran(program, "(" + ("$(" + "$v:vis " * 100) * LEVELS + ")*" * LEVELS + ") => {}", "")
     program.check("LEVELS", LEVELS, (run.status, run.out, run.seconds < SECONDS), (2, "", True))
 

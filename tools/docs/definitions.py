@@ -1,11 +1,11 @@
 #!/usr/bin/env python3
 """Prints the definitions that contracts of `mbe` rest on: the specification that you must trust.
 
-The script starts at the clauses of the functions in crates/mbe/src, and follows each word to
-where it is defined: in the crates' specs, or as a type of the code. For a type with an `impl
-Model` it follows the value that clauses see in it, by its view and its invariant, and not its
-fields. It doesn't follow words of the kit's library. It reads words and not types, so it may list
-a definition that only shares its name with a variable.
+The script starts at the clauses of the functions in crates/mbe/src. It follows each word to its
+definition, which is in the crates' specs, or is a type of the code. It doesn't follow words of the
+kit's library. Clauses see a type with an `impl Model` as a value. For such a type the script
+follows its view and its invariant, and not its fields. It reads words and not types, so it may
+list a definition that only shares its name with a variable.
 
 It prints each definition with its file and lines, in reading order: a file comes after the files
 that it names. Then it prints the files, with the number of lines of these definitions. Blank
@@ -244,13 +244,13 @@ def commented_from(lines, at):
 
 
 def model_of(lines, name):
-    """What clauses see of a type, where that isn't its fields."""
+    """What clauses see of a type, if they don't see its fields."""
     begin = next((n for n, it in enumerate(lines) if re.match(rf"impl\b.* Model for {name}\b", it)), None)
     return [] if begin is None else ["", *without_coding(lines[begin : lines.index("}", begin) + 1])]
 
 
 def heading_of(file):
-    """What a file's first comment says of it, up to the end of its first sentence."""
+    """The first sentence of a file's first comment."""
     said = []
     for line in text_of(file):
         comment = re.match(r"(?:--|//) ?(.*)", line)

@@ -106,7 +106,8 @@ def lost_json(text):
 
 
 def lost_files(room, skipped):
-    """What doesn't compile among the files of a page. `skipped` is told what can't be tried."""
+    """The files of a page that don't compile. `skipped` gets a line on each file that can't be
+    tried."""
     for at, folders, names in os.walk(room):
         folders[:] = sorted(it for it in folders if it != "target" and not it.startswith("."))
         for name in sorted(names):

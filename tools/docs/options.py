@@ -22,7 +22,7 @@ ROW = re.compile(
 )
 SHORT = {"package": "p"}
 CHOICES = {"edition": "EDITIONS", "dialect": "DIALECTS", "target": "TARGETS"}
-WITHOUT_WORDS = ("--depth | --fuel | --max-tokens | --call | --cfg | --features | --extern | --package | -p | --bin"
+WITHOUT_WORDS = ("--depth | --fuel | --max-tokens | --call | --step | --cfg | --features | --extern | --package | -p | --bin"
                  " | --example | --bench")
 
 

@@ -1,4 +1,4 @@
-"""Draws pictures as SVG, for tools/docs/pictures: texts, boxes, dots and arrows.
+"""Draws pictures as SVG, for tools/docs/pictures: texts, boxes, circles and arrows.
 
 A picture is readable on a light and on a dark screen, and without colours. Its title and its
 description are for those who don't see it.

@@ -66,7 +66,7 @@ def spoiled(rng, message):
 
 
 def content(rng):
-    """Content that is malformed in one of several ways."""
+    """Returns content with one of several faults."""
     whole = json.dumps(spoiled(rng, valid(rng)), ensure_ascii=rng.random() < 0.5).encode()
     kind = rng.randrange(6)
     if kind == 0:
@@ -82,7 +82,7 @@ def content(rng):
 
 
 def framed(rng):
-    """Content with a header, which may have more lines, or none that is valid before it."""
+    """Content with a header. The header may have more lines, be malformed, or be missing."""
     inner = content(rng)
     head = b"Content-Length: %d\r\n\r\n" % len(inner)
     kind = rng.randrange(8)

@@ -68,7 +68,7 @@ def edit(rng, text, encoding):
 
 
 def answers(client, rng, text, encoding):
-    """The diagnostics of the document, and answers at random places of it."""
+    """The diagnostics of the document, and answers at random positions in it."""
     found = []
     document = {"uri": URI}
     for _ in range(3):

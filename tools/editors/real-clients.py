@@ -3,11 +3,11 @@
 
     tools/editors/real-clients.py [--mbe-lsp PROGRAM] [neovim] [emacs] [vscode]
 
-Each editor opens a file, types a mistake, waits for its diagnostic, takes the mistake back, asks
-for a hover, jumps to the rule of a call, lists symbols, expands the call, and inlines it. It prints
-what it sees, and this script compares that with what is wanted. For `vscode`, Node runs the
-extension with a stand-in for VS Code. An editor that isn't installed counts as a failure. The last
-line is `N passed, M failed`.
+Each editor opens a file, types a mistake, waits for its diagnostic, and takes the mistake back.
+Then it asks for a hover, jumps to the rule of a call, lists symbols, expands the call, and inlines
+it. It prints what it sees, and this script compares the output with the expected one. For
+`vscode`, Node runs the extension with a stand-in for VS Code. An editor that isn't installed counts
+as a failure. The last line is `N passed, M failed`.
 """
 import json
 import os
@@ -45,7 +45,7 @@ def said(command, program, folder):
 
 
 def neovim(program, folder):
-    """What Neovim sees, and what is wanted of it."""
+    """What Neovim shows, and what it should show."""
     command = ["nvim", "--headless", "-u", "NONE", "-c", f"luafile {HERE}/neovim.lua"]
     found, output = said(command, program, folder)
     first = (found.get("diagnostics") or [[None] * 4])[0]
@@ -65,7 +65,7 @@ def neovim(program, folder):
 
 
 def emacs(program, folder):
-    """What Emacs sees, and what is wanted of it."""
+    """What Emacs shows, and what it should show."""
     command = ["emacs", "--batch", "-f", "package-initialize", "-l", f"{HERE}/emacs.el"]
     found, output = said(command, program, folder)
     first = found.get("diagnostics") or [None, None]
@@ -81,7 +81,7 @@ def emacs(program, folder):
 
 
 def vscode(program, folder):
-    """What the extension of VS Code shows, and what is wanted of it."""
+    """What the extension of VS Code shows, and what it should show."""
     found, output = said(["node", f"{HERE}/vscode.js"], program, folder)
     first = (found.get("diagnostics") or [[None] * 6])[0]
     return output, [

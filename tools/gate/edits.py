@@ -112,7 +112,7 @@ def cites_any(file, names):
 
 
 def verdict(status, said, crate, edit):
-    """How an edit ends, and what shows it, from what the check said."""
+    """How an edit ends, and the part of the check's output that shows it."""
     if status == 0:
         return "proved", "every goal is still proved"
     refused = ", ".join(re.findall(r"(?m)^fn \w+::(\S+): (?:not proved|no proof)", said))

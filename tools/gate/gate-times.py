@@ -9,8 +9,9 @@ parts.tsv   A line for each process: crate, part, start, end, CPU seconds, most 
 table.md    The table of docs/GATE.md, in minutes of one processor.
 
 The script writes the last two anew each minute, so a run that is cut off leaves them. A process
-counts with all that it starts. What it used after the last look, half a second at most, is
-missing; the table compares the sum of the parts with the CPU time that the gate itself counted.
+counts with all that it starts. The script looks at processes every half second, so the last part
+of a process is missing. The table compares the sum of the parts with the CPU time that the gate
+itself counted.
 """
 import argparse
 import os

@@ -3,9 +3,9 @@
 them.
 
 A line is broken where it is nested least: before an operator, after a `=` or a comma, or between
-two arguments. What follows is indented by four columns more. Three sorts of lines stay as they
-are, and aren't listed: `use` lines, the types of answers that `rt` writes, and lines with a
-comment at their end.
+two arguments. What follows is indented by four columns more. Three sorts of lines are
+left unchanged, and aren't listed: `use` lines, the types of answers that `rt` writes, and lines
+with a comment at their end.
 """
 import glob
 import os
@@ -47,12 +47,13 @@ def is_left(line):
 
 
 def is_comment(line, lead):
-    """Whether a line goes on with a comment that is indented so."""
+    """Whether a line continues a comment with that indentation."""
     return line.startswith(lead + "-- ") and not line.startswith(lead + "-- ---")
 
 
 def break_comments(lines):
-    """Lines with those comments broken that are too long: what is too much of one begins the next line of the same comment."""
+    """The lines, in which comments that are too long are broken. The rest of such a comment begins the next line of the
+    comment."""
     lines, at = list(lines), 0
     while at < len(lines):
         line = lines[at]

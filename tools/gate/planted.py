@@ -1,6 +1,5 @@
 #!/usr/bin/env python3
-"""Plants wrong bodies that no contract refuses, and compares each with the tests, which must
-refuse it.
+"""Plants mutants that no contract refuses, and runs the tests, which must refuse each of them.
 
 The script applies each file of tools/planted/CRATE to a copy of the repository. Then it runs the
 tests that the file's line `tests:` names:
@@ -9,12 +8,12 @@ tests that the file's line `tests:` names:
   proof.
 - `tests: PROGRAM/MODULE`: that module of tests/PROGRAM, on a program that is built without proof.
 
-The other lines are as in tools/edits. A body takes half a minute to a minute, and ends as one of
+The other lines are as in tools/edits. A mutant takes half a minute to a minute, and ends as one of
 these. Only the first passes:
 
 refused   Tests of that module fail, or don't end within 20 seconds.
 passes    Every test of the module passes: a row is missing.
-bad       The body can't be planted, or doesn't compile.
+bad       The mutant can't be planted, or doesn't compile.
 """
 import os
 import re
@@ -29,12 +28,12 @@ from edits import texts_of, tried  # noqa: E402
 
 
 def tests_of(body):
-    """The crate and the module whose tests refuse the body, with `::` between them; or the program and its module, with `/`."""
+    """The crate and the module whose tests refuse the mutant, with `::` between them; or the program and its module, with `/`."""
     return re.search(r"(?m)^tests: (\w+?)(::|/)([\w:]+)$", common.read(body)).groups()
 
 
 def plant(body, crate):
-    """Writes the wrong body, and returns the right texts by file; or what is wrong with the body."""
+    """Writes the mutant, and returns the original texts by file; or else what is wrong with the mutant."""
     texts, _ = found = texts_of(body, crate)
     if texts is None:
         return found
@@ -53,7 +52,7 @@ def output_of(command, **how):
 
 
 def refusal(crate, module):
-    """How a body that is planted ends, by the tests of a module."""
+    """How a planted mutant ends, by the tests of a module."""
     _, said = output_of(["rt", "try", "--test", "--seconds", "20"], cwd=crate)
     ends = re.findall(r"(?m)^test (\S+) \.\.\. (\w+)$(?:\n    checked: (no-answer))?", said)
     if not ends:
@@ -70,7 +69,7 @@ def error_in(said):
 
 
 def program_refusal(top, program, module):
-    """How a body that is planted ends, by a module of the tests of a program that is built without proof."""
+    """How a planted mutant ends, by a module of the tests of a program that is built without proof."""
     built = f"{top}/{program}"
     env = {**os.environ, "CRATE": program, "ARGS": common.SAMPLE_ARGS[program]}
     status, said = output_of(["sh", f"{TOP}/tools/speed/bench/unproved.sh", top, built], env=env)

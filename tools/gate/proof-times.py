@@ -26,7 +26,7 @@ PAUSE = 200
 
 
 def written(folder):
-    """The files of a folder and when they were written, the first of them first."""
+    """The files of a folder and the times at which they were written, the oldest first."""
     found = []
     for top, _, names in os.walk(folder):
         found += [(os.stat(os.path.join(top, name)).st_mtime_ns, name) for name in names if name.endswith(".oantt")]

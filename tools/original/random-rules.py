@@ -93,7 +93,7 @@ class Maker:
         return " ".join(parts)
 
     def spoiled(self, argument):
-        """Mostly the argument, else with a word more or less."""
+        """The argument, or sometimes the argument with one word more or less."""
         words = argument.split(" ")
         turn = self.random.random()
         if turn < 0.2 and len(words) > 1:
@@ -165,7 +165,7 @@ EMPTY = "empty token tree in repetition"
 
 
 def reasons_of(patterns, templates, ours, theirs):
-    """The differences of docs/DIFFERENCES.md that this one may be."""
+    """The differences of docs/DIFFERENCES.md that may be the reason of this one."""
     found = [what for use, what in EXPLAINED_PATTERNS if any(re.search(use, it) for it in patterns)]
     found += [what for use, what in EXPLAINED_TEMPLATES if any(re.search(use, it) for it in templates)]
     if EMPTY in ours[0] and EMPTY not in theirs[0]:
@@ -184,7 +184,7 @@ def ran(program, folder):
 
 
 def cases(maker, count, is_counted, ran_both):
-    """The first so many cases that count, each with what both programs made of it."""
+    """The first cases that count, up to a number, each with the outputs of both programs."""
     number = 0
     while number < count:
         patterns, templates, argument = maker.case()

@@ -23,8 +23,8 @@ VERSIONS = {
 
 
 class Source(NamedTuple):
-    """Where a release comes from: its version, the time of its files, its maintainer, the folders
-    of its programs and of its library, and a line on who proved them."""
+    """The origin of a release: its version, the time of its files, and its maintainer. It also has the
+    folders of the programs and of the library, and a line on who proved them."""
 
     version: str
     epoch: int
@@ -41,7 +41,7 @@ def git(*words):
 
 
 def newer_source(path):
-    """A source that is newer than what was built of it, or None."""
+    """A source that is newer than the file that was built of it, or None."""
     built = os.stat(path).st_mtime
     for at, folders, names in os.walk(f"{common.TOP}/crates"):
         folders[:] = sorted(it for it in folders if it != "out")

@@ -2,10 +2,10 @@
 """Compares runs of `expandm` that run out of memory or can't write with the whole run, in each of
 its modes.
 
-Each row runs as it is. Then it runs with less memory: `RLIMIT_DATA`, which leaves the stack
-alone, at 64 limits between what the program needs to begin and what the row needs, at least a
-page apart. Then it runs with a standard output and a standard error that are full or closed. No
-run may end by a signal. And:
+Each row runs without a limit. Then it runs with less memory: at 64 limits between what the
+program needs to begin and what the row needs, at least a page apart. The limits are for
+`RLIMIT_DATA`, so not for the stack. Then the row runs with a standard output and a standard error
+that are full or closed. No run may end by a signal. Two more rules hold:
 
 - A run with less memory must equal the whole run, or end in status 2 with `out of memory` as the
   last report. Its output is then the front of the whole output. The file that it writes is the
@@ -32,7 +32,7 @@ fn main() { let x = add!(1, 2); let y = add!(x); let z = add!(1; 2); two!(a); cl
 """ + "".join(f"fn f{n}() {{ add!({n}, add!({n})); add!({n};); }}\n" for n in range(300))
 BROKEN = 'fn main() { let x = "'
 
-# The words of a run, and the text of its one file.
+# The arguments of a run, and the text of its one file.
 ROWS = [
     ([], MACROS),
     (["--once"], MACROS),
@@ -48,6 +48,9 @@ ROWS = [
     (["--explain", "--json"], MACROS),
     (["--trace", "--json"], MACROS),
     (["--lint", "--json"], MACROS),
+    (["--coverage"], MACROS),
+    (["--coverage=json"], MACROS),
+    (["--coverage=lcov"], MACROS),
     (["--write", "written"], MACROS),
     ([], BROKEN),
     (["--lint"], BROKEN),
@@ -83,7 +86,7 @@ def written():
 
 
 def least(program, words, holds):
-    """The least limit, by steps, at which `holds` of the run."""
+    """The least limit at which `holds` is true of the run, found by steps."""
     low, high = 0, 1 << 20
     while high - low > 1:
         middle = (low + high) // 2

@@ -4,10 +4,10 @@
     tools/programs/package-features.py [--program EXPANDM] [FOLDER..]
 
 Each FOLDER has the package of a Cargo.toml. Without a FOLDER the script makes packages in a
-temporary folder: those of the rows of tests/expandm/packages.py, and some whose dependencies,
-DEPENDENCIES, are in Debian's folder /usr/share/cargo/registry (`apt-get install librust-*-dev`).
-Cargo runs offline. Procedural macros and what only they and build scripts use are left out on
-both sides.
+temporary folder. Some are the packages of the rows of tests/expandm/packages.py. Others have the
+dependencies DEPENDENCIES, which are in Debian's folder /usr/share/cargo/registry (`apt-get install
+librust-*-dev`). Cargo runs offline. Procedural macros and what only they and build scripts use are
+left out on both sides.
 """
 import os
 import re
@@ -45,7 +45,7 @@ DEPENDENCIES = (
     'num_cpus = "1"',
     'lazy_static = { version = "1", features = ["spin_no_std"] }',
 )
-# The words that name targets, and those of targets that use the dependencies of tests.
+# The options that name targets, and the options of targets that use the dependencies of tests.
 TARGETS = re.compile(r"--(lib|(bin|example|bench) \w+|test(=\w+)?)(?!\S)")
 OF_TESTS = re.compile(r"--(test|example|bench)\b")
 
@@ -83,7 +83,7 @@ def by_cargo(folder, words):
         manifest = words[words.index("--manifest-path"):][:2] if "--manifest-path" in words else []
         if run(["cargo", "generate-lockfile", "--offline", *manifest], folder).returncode:
             return None
-    # `cargo tree` has no words for targets: tests, examples and benchmarks use more dependencies.
+    # `cargo tree` has no options for targets: tests, examples and benchmarks use more dependencies.
     text = " ".join(words)
     kinds = "normal,dev,no-proc-macro" if OF_TESTS.search(text) else "normal,no-proc-macro"
     ran = run(["cargo", "tree", "--offline", "-e", kinds, "--prefix", "none", "--no-dedupe",

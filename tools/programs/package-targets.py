@@ -4,8 +4,8 @@
     tools/programs/package-targets.py [--program EXPANDM] [FOLDER]
 
 FOLDER has packages, each in a folder of its own: /usr/share/cargo/registry, Debian's, by default.
-Of each package the script takes a copy whose manifest has no dependencies and no features, since
-these need other packages. Build scripts are left out on both sides.
+The script copies each package, and removes the dependencies and the features from the copy's
+manifest, since these need other packages. Build scripts are left out on both sides.
 """
 import json
 import os

@@ -3,7 +3,7 @@
 and what is wrong with the others.
 
 The script compiles each attribute in edition 2021, under the options that the tests give to
-`expandm`. It prints each row on which rustc says something else.
+`expandm`. It prints each row on which rustc differs.
 """
 import os
 import pathlib

@@ -13,10 +13,10 @@ a `macro_rules!`.
    options that the build script sets.
 3. Cargo builds and tests the expanded copy.
 
-The script prints a row of a table for each package: the calls that `expandm` expanded, the errors
-that it reported, whether the package builds before and after, how many tests passed, and what
-differs. A build script runs as the user who runs this script: as root, one of them put a file in
-the place of /dev/null.
+The script prints a row of a table for each package. The row has the calls that `expandm` expanded,
+the errors that it reported, and whether the package builds before and after. It also has how many
+tests passed, and what differs. A build script runs as the user who runs this script. One of them
+replaced /dev/null by a file when it ran as root.
 """
 import glob
 import json
@@ -81,7 +81,8 @@ class Registry:
 
 
 def externs(manifest, registry, is_test):
-    """Words that give the libraries that a package depends on, each the latest version that is admitted."""
+    """Arguments of rustc that name the libraries of a package's dependencies, each in the latest version that is
+    admitted."""
     words = []
     tables = [manifest["dependencies"], *(it.get("dependencies", {}) for it in manifest["target"].values())]
     for name, needs in {name: it for table in tables + [manifest.get("dev-dependencies", {})] * is_test for name, it in table.items()}.items():
@@ -118,7 +119,8 @@ def default_features(table, optional):
 
 
 def reduced(folder, manifest, registry, without):
-    """The manifest without what the build under the default features doesn't use, what isn't there for tests, and those dev-dependencies: all if it is None."""
+    """The manifest without dependencies that the default features don't use, and without dev-dependencies that the
+    registry lacks. It also lacks the dev-dependencies `without`, or all of them if `without` is None."""
     kept = {key: value for key, value in manifest.items() if key not in DROPPED}
     all_needs = [manifest, *manifest.get("target", {}).values()]
     optional = {name for table in all_needs for name, it in table.get("dependencies", {}).items() if isinstance(it, dict) and it.get("optional")}
@@ -164,7 +166,8 @@ def copy(package, to, registry, manifest):
 
 
 class Build:
-    """What cargo made of a copy: whether there is a library, its programs of tests, the options of its build script, and what rustc said."""
+    """What cargo made of a copy: whether there is a library, the programs of its tests, the options of its build
+    script, and rustc's messages."""
     def __init__(self, folder, target):
         env = {**os.environ, "CARGO_TARGET_DIR": target, "RUSTFLAGS": "--cap-lints allow", "CARGO_INCREMENTAL": "0", "CARGO_PROFILE_DEV_DEBUG": "0"}
         jobs = os.environ.get("JOBS", "2")
@@ -241,7 +244,8 @@ def results(folder, build, left_out=()):
 
 
 def expanded(program, folder, after, manifest, options, words):
-    """Writes the library's files, as expanded, over themselves; the calls that were, the errors, and what was reported."""
+    """Overwrites the library's files by their expansions. Returns the number of expanded calls, the number of errors,
+    and the reports."""
     root = os.path.normpath(manifest.get("lib", {}).get("path", "src/lib.rs"))
     command = [program, "--edition", manifest["package"].get("edition", "2015"), "--trace", "--fuel", "10000000", "--max-tokens", "4000000000", *words]
     for option in options:
@@ -265,7 +269,7 @@ def expanded(program, folder, after, manifest, options, words):
 
 
 def first_error(said):
-    """The first error of rustc, with its place, in one line."""
+    """The first error of rustc, with its location, in one line."""
     found = re.search(r"^error.*\n(?: *--> .*)?", said, re.M)
     return " ".join(found[0].split()) if found else said.strip()[-160:].replace("\n", " ")
 
@@ -275,7 +279,7 @@ def passed(tests):
 
 
 def is_alone(folder, manifest):
-    """Whether the library needs no other one on Linux, nor a build script."""
+    """Whether the library needs no other library on Linux, and no build script."""
     elsewhere = re.compile(r"windows|wasm|redox|hermit|macos|fuchsia|wasi")
     needs = [manifest["dependencies"], *(it.get("dependencies") for key, it in manifest["target"].items() if not elsewhere.search(key))]
     return not any(needs) and not os.path.exists(f"{folder}/build.rs")

@@ -1,8 +1,8 @@
 """Forms of Rust by which tools/rustc/programs.py writes programs. A form is text with slots.
 
-`~i~` is an expression of type i32, `~i!~` one in a tight place (an operand), `~n1~` a local that
-the form binds, and `~u1~` its use. `~*ints~` is a list of the shape LISTS["ints"]. A form that
-begins with `low ` needs parentheses as an operand. SLOTS says what each slot is.
+`~i~` is an expression of type i32, and `~i!~` is such an expression as an operand. `~n1~` is a
+local that the form binds, and `~u1~` is its use. `~*ints~` is a list of the shape LISTS["ints"]. A
+form that begins with `low ` needs parentheses as an operand. SLOTS says what each slot is.
 """
 
 SLOTS = {

@@ -3,10 +3,10 @@
 
 Three tables are compared:
 
-- tests/expandm/following.py: each row is a definition and its findings, which are `followed NAME
-  A B`, `twice NAME A B` or `unknown NAME A` with byte offsets. rustc must report each finding at
-  its last offset, and nothing else. rustc counts the `$` of a variable, which is one byte before
-  its name.
+- tests/expandm/following.py: each row is a definition and its findings. A finding is `followed NAME
+  A B`, `twice NAME A B` or `unknown NAME A`, where A and B are byte offsets. In rustc each finding
+  must be an error at its last offset, and there must be no other error. The location of a variable
+  begins at its `$` in rustc, and at its name in the row.
 - DEFINITIONS of tests/expandm/linted.py: line, column and text of each error that rustc has too,
   and of rustc's warnings that a variable is unknown or still repeats.
 - SIMILAR of tests/expandm/linted.py: an unknown specifier and the similar one. rustc must name
@@ -25,7 +25,7 @@ import common  # noqa: E402
 sys.path.insert(0, f"{common.TOP}/tests")
 from expandm import following, linted  # noqa: E402
 
-# What a row says that rustc says too, and what rustc says that a row has to say.
+# The lints of a row that rustc reports too, and the messages of rustc that a row must have.
 OURS = re.compile(
     r"(\d+:\d+ )(?:error|warning): ((?:duplicate|invalid|`|variable|the `\?`|unknown macro).*?); ")
 THEIRS = re.compile(r"duplicate matcher|invalid fragment|followed by|still repeating"
@@ -35,7 +35,7 @@ KINDS = (("followed", "followed"), ("duplicate", "twice"), ("invalid fragment", 
 
 
 def wanted(definition, found):
-    """What rustc is to report: for each, its kind and the byte offset."""
+    """What rustc must report: each error's kind and its byte offset."""
     result = []
     for line in filter(None, found.split(";")):
         kind, _, *places = line.split()

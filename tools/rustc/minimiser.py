@@ -22,7 +22,8 @@ class Tries:
         self.test, self.left, self.seen = test, count, {}
 
     def hold(self, texts):
-        """Of each text whether it still differs. When the count is used up, none is judged."""
+        """For each text, whether it still differs. Once the count of crates is used up, no text is
+        judged."""
         new = list(dict.fromkeys(t for t in texts if t not in self.seen))
         for at in range(0, len(new), CRATE):
             if self.left <= 0:
@@ -70,8 +71,8 @@ def groups(part, path=()):
 
 
 def edits(root):
-    """All edits. An edit is the path of a group, where the parts that go begin and end, what comes
-    instead, and how many tokens go."""
+    """All edits. An edit is the path of a group, the start and the end of the parts that it
+    replaces, the new parts, and how many tokens go."""
     for path, group in groups(root):
         first, last = (1, len(group) - 1) if path else (0, len(group))
         width = last - first
@@ -134,7 +135,7 @@ def apart(one, two):
 
 
 def all_applied(root, chosen):
-    """The tree after edits that are apart from each other, the last ones first."""
+    """The tree after edits of different parts. The last edits are applied first."""
     for edit in sorted(chosen, key=lambda e: (e[0] + (e[1],)), reverse=True):
         root = applied(root, edit)
     return root

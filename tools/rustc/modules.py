@@ -16,7 +16,7 @@ import common  # noqa: E402
 
 M1 = "macro_rules! x1 { () => { 1 } }\n"
 
-# By name: the files of a crate, each of which begins with `// PATH`, and how many calls of its macros stay.
+# By name: the files of a crate, each of which begins with `// PATH`, and how many calls of its macros aren't expanded.
 CRATES = {
     "beside": ("// main.rs\nmod a;\nfn main() { println!(\"{}\", a::f()); }\n// a.rs\nmacro_rules! x1 { ($e:expr) => { $e * 2 } }\npub fn f() -> u8 { x1!(2 + 1) }", 0),
     "nested": ("// main.rs\nmod a;\nfn main() { println!(\"{}\", a::f()); }\n// a/mod.rs\nmacro_rules! x1 { () => { 3 } }\npub fn f() -> u8 { x1!() }", 0),
@@ -54,7 +54,8 @@ CRATES = {
     "doc": (f"// main.rs\n//! A crate.\n{M1}/// Says.\nmod a;\nfn main() {{ println!(\"{{}}\", a::f()); }}\n// a.rs\n//! Says more.\n\n/// One.\npub fn f() -> u8 {{ x1!() }}", 0),
 }
 
-# The files of a crate that are no part of it, or that are included where no item may be: they aren't written, and their calls stay.
+# The files that are no part of their crate, or that are included where no item may be. They aren't written, and their calls aren't
+# expanded.
 NOT_READ = {"cfg": ["w.rs"], "cfg_off": ["a.rs"], "cfg_path": ["w.rs", "a.rs"], "cfg_no_path": ["w.rs"], "include_value": ["b.rs"]}
 
 
@@ -97,7 +98,7 @@ def calls_left(folder):
 
 
 def inside_definitions(text):
-    """Calls that are in the rules of definitions stay there."""
+    """Counts the calls in the rules of definitions, which aren't expanded."""
     return sum(len(re.findall(r"\bx\d!\s*[({[]", line)) for line in text.splitlines() if "macro_rules!" in line)
 
 

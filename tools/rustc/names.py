@@ -4,11 +4,16 @@
     python3 tools/rustc/names.py --seed 1 --count 500 --program EXPANDM --out /tmp/found
 
 Each definition of a crate expands to a number of its own, so the expansion of a call tells which
-macro it found. The crates have nested modules, some in files; macros of equal names; `use` with
-renames, groups, globs and re-exports; `#[macro_use]`, `#[macro_export]`, `macro` items; definitions
-that calls make; and other crates. The script removes what rustc refuses. Then it compares rustc's
-expansion of each call in the crate with that in the text of `expandm`. The same seed gives the same
-crates.
+macro it found. The crates have these:
+
+- nested modules, some in files;
+- macros of equal names, `macro` items, and definitions in expansions;
+- `use` with renames, groups, globs and re-exports;
+- `#[macro_use]` and `#[macro_export]`;
+- other crates.
+
+The script removes what rustc refuses. Then it compares rustc's expansion of each call in the crate
+with the expansion in the text of `expandm`. The same seed gives the same crates.
 
 | Class | Meaning |
 |---|---|
@@ -78,7 +83,7 @@ class Node:
 
 
 def lay_out(node, path, files, places, depth=0):
-    """Adds the lines of what is inside a node to the files, and the place of each node."""
+    """Adds the lines of the nodes inside a node to `files`, and each of these nodes to `places`, by its file and line."""
     lines = files.setdefault(path, [])
     for it in node.inside:
         lines.append("    " * depth + it.head)

@@ -6,14 +6,14 @@ A PATH is a file or a folder of Rust files, such as /usr/src/rustc-1.63.0 of Deb
 rust-src. `lex_dialect` lexes each file in its edition. `RustPrinter` writes the trees, and
 `lex_dialect` lexes the written text again. On the other side a proc macro
 (tools/rustc/rust-files/judge.rs) parses each file by rustc's own lexer to a token stream, and
-prints it. Compared are words, puncts and whether they are joint, literals and groups. The script
+prints it. The script compares words, puncts and whether they are joint, literals and groups. It
 prints a line for each difference.
 
 The edition is the one of the file's line `// edition:YEAR`, else 2015 below a folder `test`, else
-2021. Some things are done to both sides, or for rustc, before they are compared:
+2021. Before it compares, the script changes both sides, or only rustc's side:
 
-- A carriage return before a line feed goes, and names are brought into Unicode's form C.
-- A `#!` line goes.
+- A carriage return before a line feed is removed, and names are brought into Unicode's form C.
+- A `#!` line is removed.
 - The text of a doc comment is compared by its value. A token stream has it in quotes and escaped.
 - If rustc's lexer finds a fault, there must be one here too. tools/rustc/rust-tokens.py compares
   which one, and where.
@@ -77,10 +77,10 @@ def lexed(program, folder, rows):
 
 
 def judged(folder, rows):
-    """Of each text what rustc makes of it."""
+    """The tokens that rustc makes of each text."""
     judge, seen = f"{folder}/libjudge.so", {}
     for edition in common.EDITIONS:
-        # What a macro parses is of the macro's edition.
+        # A macro parses a text in the edition of the macro.
         words = ["--crate-type", "proc-macro", "-O", f"{HERE}/judge.rs", "-o", judge]
         common.rustc(*words, edition=edition, check=True)
         lines = {number: line for line, number in enumerate((n for n, row in enumerate(rows) if row[1] == edition), 1)}
@@ -95,7 +95,7 @@ def judged(folder, rows):
             number = int(os.path.basename(name).removesuffix(".judge"))
             with open(f"{name}.rustc", encoding="utf-8", newline="") as it:
                 seen[number] = it.read()
-            # What rustc reports at its end, of any text, follows the last one.
+            # rustc's reports on any text, which it writes at its end, follow the last text.
             if re.search(rf"^\S*use\.rs:{lines[number]}:\d+: error", said, re.M):
                 seen[number] = "fault\n" + said.split("\n")[0]
     return seen
@@ -108,7 +108,8 @@ def value_of(literal):
 
 
 def plain(tokens):
-    """With each doc comment's text by its value and the `#` of an inner one joint, and names in form C."""
+    """The tokens with each doc comment's text as its value, the `#` of an inner doc comment joint, and names in form
+    C."""
     tokens = tokens.replace("#\x02!\x02[\x02doc\x02=\x02", "#\x01!\x02[\x02doc\x02=\x02")
     return unicodedata.normalize("NFC", re.sub(
         "doc\x02=\x02((?:r#*)?\"[^\x02]*)\x02\\]", lambda m: f"doc\x02=\x02{value_of(m.group(1))}\x02]", tokens, flags=re.S))

@@ -8,14 +8,15 @@ fragment. The script prints a line for each text on which the two differ, with w
 refuses in some edition and of which the table may take a part; docs/DIFFERENCES.md says which
 these are.
 
-rustc: each kind has a macro with one rule, `(($f:kind)) => {}`, and each text is in parentheses
-the argument of a call. If the fragment isn't the whole text, rustc says "no rules expected .." at
-the first token after the fragment, so the place of that error is the fragment's end. Nothing
-stands after `$f` in the rule, so follow sets don't matter. (Without the parentheses rustc would
-try the call once more with a comma added, to give advice, and report what is wrong with that.)
+rustc: each kind has a macro with one rule, `(($f:kind)) => {}`. Each text is the argument of a
+call, in parentheses. If the fragment isn't the whole text, an error "no rules expected .." is at
+the first token after the fragment. So the location of that error is the fragment's end. Nothing
+follows `$f` in the rule, so follow sets don't matter. The parentheses matter: without them, rustc
+tries the call once more with a comma added, and reports what is wrong with that call.
+
 Any other error at the text means that rustc refuses it. An error that the syntax is experimental
-doesn't count, since rustc has read it. The macros are in a crate of edition 2024 (where `pat` has
-alternatives, and `expr` may be `_`), the calls in a crate of each edition.
+doesn't count, since rustc has read the text. The macros are in a crate of edition 2024, where `pat`
+has alternatives and `expr` may be `_`. The calls are in a crate of each edition.
 
 The table: a program (tools/rustc/rust-forms/mbe_rust_forms, run by `rt try`, without proof) lexes
 each text, and prints the `count` of `rust_rules(edition, &[]).parse(kind, ..)`, as the byte at

@@ -3,11 +3,13 @@
 be items to its end.
 
 A PATH is a file or a folder of Rust files, such as /usr/src/rustc-1.63.0 of Debian's package
-rust-src. tools/rustc/rust-src/inside.peg says what groups hold, where crates/mbe_grammar/rust.peg
-has a group only: each block statements, each parameter list parameters, and so on. Nothing looks
-into macro calls and definitions. The script prints each file that the table doesn't read whole.
-With --judge rustc parses these files too (`rustc -Zparse-crate-root-only`). Then a file fails
-only if rustc parses it, and it isn't in `KNOWN`.
+rust-src. The grammar crates/mbe_grammar/rust.peg has a group for a block or a parameter list, and
+doesn't look into it. The grammar tools/rustc/rust-src/inside.peg says what such a group holds:
+statements, parameters and so on. Nothing looks into macro calls and definitions.
+
+The script prints each file that the table doesn't read whole. With --judge rustc parses these files
+too (`rustc -Zparse-crate-root-only`). Then a file fails only if rustc parses it, and it isn't in
+`KNOWN`.
 
 The edition is the one of the file's line `// edition:YEAR`, else 2015 below a folder `test`, else
 2021; `compile-flags` may have it too.
@@ -17,7 +19,7 @@ each text into tokens first, and rewrites those that the sample lexer of `mbe_te
 
 - A literal becomes `0`, or `0.` if it ends with a point.
 - A comment becomes a blank, even one of documentation.
-- A shebang and a byte order mark go.
+- A shebang and a byte order mark are removed.
 
 So the trees keep their shape, and each text is on one line.
 """

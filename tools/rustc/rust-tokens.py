@@ -8,8 +8,8 @@ SEED and COUNT it prints a new file instead:
     python3 tools/rustc/rust-tokens.py SEED COUNT > bindings/python/tests/random_tokens.py
 
 A row is a text and its tokens without white space, or the first fault and its byte: rustc's
-message in the words of `LexFaultKind`. A text that begins with `#!` or has a carriage return
-before a line feed gets no row, since rustc changes such a text before it looks for tokens.
+message in the words of `LexFaultKind`. A text gets no row if it begins with `#!`, or has a carriage
+return before a line feed. For such a text rustc looks for tokens in a changed text.
 """
 import json
 import os

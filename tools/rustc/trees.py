@@ -2,7 +2,7 @@
 
 A program begins as trees of plain Rust. `Lift` takes a part of a tree, such as `a + 1`. It makes a
 `macro_rules!` of that part, with some of its parts as fragments: `($e:expr) => { $e + 1 }`. The
-call `m!(a)` comes in its place. The template is a tree again, so another macro can be made of it.
+call `m!(a)` replaces the part. The template is a tree again, so another macro can be made of it.
 """
 import re
 
@@ -16,7 +16,7 @@ KEYWORDS = {"true", "false", "self", "if", "match", "return", "break", "loop", "
 
 class Node:
     """A part of a program: strings and nodes. A `low` text needs parentheses as an operand, and a
-    `tight` place asks for them. `uses` and `binds` are the locals that the node itself names."""
+    `tight` node is an operand. `uses` and `binds` are the locals that the node itself names."""
 
     def __init__(self, cat, parts, low=False, uses=(), binds=(), var=None):
         self.cat, self.parts, self.low, self.var = cat, list(parts), low, var
@@ -131,7 +131,7 @@ AFTER_ANY = [", ", ", ", "; ", " ", " -> ", " : ", " and "]
 
 
 class Hole:
-    """What a macro takes at one place: how the matcher says it, and what the call gives."""
+    """A part of an argument: its text in the pattern, what the call has there, and the kind of the fragment."""
 
     def __init__(self, matcher, given, kind):
         self.matcher, self.given, self.kind = matcher, given, kind
@@ -149,7 +149,7 @@ class Lift:
         return f"{self.rng.choice('efghk') if self.rng.random() < .8 else 'a'}{self.number}"
 
     def take(self, node, kind=None):
-        """Makes the node an argument, and returns the variable in its place."""
+        """Makes the node an argument, and returns the variable that replaces it."""
         if node.var == "tts" or (kind is None and node.cat in ("expr", "ty", "pat") and not node.var
                                  and self.rng.random() < .05):
             return self.take_tokens(node)

@@ -337,7 +337,7 @@ class Maker:
         return len(node.text()) > (12 if node.cat == "expr" else 2)
 
     def step(self):
-        """Makes one macro, and puts its call in place."""
+        """Makes one macro of a part of the program, and replaces that part by a call."""
         found = list(self.candidates())
         if not found:
             return
@@ -359,7 +359,7 @@ class Maker:
         put(self.call(node.cat, macro, given))
 
     def part_of(self, node):
-        """What of the node becomes the template, and how the call is put in its place."""
+        """The part of the node that becomes the template, and a function that replaces this part by the call."""
         if isinstance(node, Seq):
             start = self.rng.randrange(len(node.parts))
             end = self.rng.randint(start + 1, len(node.parts))

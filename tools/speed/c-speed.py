@@ -72,8 +72,10 @@ def per_call(call, files, times, *each):
 
 
 def count(call, program, files, empty, times):
-    """Instructions beyond those of an empty call, by `mbe_expand` and by mbex; those of the empty call; of one argument more of `mbe_expand_each`,
-    and of one call more of `mbe_macro_expand`."""
+    """Prints how many instructions a call takes by `mbe_expand` and by mbex, both without the instructions of an empty call.
+
+    It also prints the instructions of an empty call, of one more argument of `mbe_expand_each`, and of one more call of
+    `mbe_macro_expand`."""
     nothing, called, each = per_call(call, empty, times), per_call(call, files, times), per_call(call, files, times, "each")
     kept = per_call(call, files, times, "kept")
     ran = common.instructions([program, *files]) - common.instructions([program, *empty])

@@ -6,11 +6,11 @@ REGISTRY is a folder of packages, such as /usr/share/cargo/registry of Debian's 
 NAMEs choose some of them by the names of their folders. A package counts if it has a library with
 a `macro_rules!`. Cargo builds a copy of it once, as for tools/rustc/crates.py, so that its
 dependencies exist. Then both programs expand the library with all its modules, under the same
-features, five times. The script prints the least seconds of the clock and the least of the most
-memory held (for cargo, by the largest process that it starts).
+features, five times. The script prints the least time by the clock, and the least of the peaks of
+memory. For cargo, the peak of the largest process that it starts counts.
 
-At the end come crates of n files that the script makes up: each file has a macro and a hundred
-calls of it, so time and memory should grow as n does.
+At the end come crates of n files that the script makes up. Each file has a macro and a hundred
+calls of it. So time and memory should grow as n does.
 """
 import os
 import shutil
@@ -29,7 +29,7 @@ TIMES = 5
 ENV = {**common.NIGHTLY, "RUSTFLAGS": "--cap-lints allow", "CARGO_INCREMENTAL": "0",
        "CARGO_PROFILE_DEV_DEBUG": "0"}
 MADE_UP = (50, 100, 200, 400, 800)
-# No package reaches these.
+# No package reaches these limits.
 LIMITS = ("--fuel", "10000000", "--max-tokens", "4000000000")
 
 

@@ -3,10 +3,10 @@
 4.6 times as much.
 
 Each row is a dimension of the input, such as the calls of a file or the tokens of a line, with the
-options of the run. valgrind's callgrind counts the instructions of a run. Those of a file without
-macros are subtracted. Work that grows as n does has a ratio of 4, and work that grows as its square
-one of 16. Where a pattern of n parts meets an argument of n parts, the product is the limit, so
-these rows may have 17.6.
+options of the run. The script counts the instructions of a run by valgrind's callgrind, and
+subtracts the instructions of a file without macros. Work that grows as n does has a ratio of 4, and
+work that grows as its square has a ratio of 16. In some rows a pattern of n parts meets an argument
+of n parts. Their work may grow as the product, so their limit is 17.6.
 
 The script prints a table, the greatest ratio last. A row fails if its ratio is above its limit, or
 if a run doesn't end in time.

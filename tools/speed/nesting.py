@@ -1,16 +1,18 @@
 #!/usr/bin/env python3
 """Compares how long `expandm` reads a fragment with one that nests twice as deep: the ratio must
-stay below 2.4.
+be below 2.4.
 
-For each form the script makes a call whose argument nests the form so deep and twice as deep, and
-`expandm` expands both: once within the depth that the parser accepts, and once past it, where the
-parser gives up. valgrind's callgrind counts instructions; those of a file without nesting are
-subtracted. A parser that tries two alternatives at each level, each to the end, takes twice as
-long with each level, and the ratio would be far above 2.4.
+For each form the script makes two calls, and `expandm` expands both. The argument of the second
+call nests the form twice as deep. The script does this within the depth that the parser accepts,
+and once more beyond it, where the parser gives up. It counts instructions by valgrind's callgrind,
+and subtracts the instructions of a file without nesting.
+
+A parser may try two alternatives at each level, each to the end. Then it takes twice as long with
+each level, and the ratio is far above 2.4.
 
 The script prints each form's ratios, the greatest last. Then it prints how long the slowest of
-the faulty arguments took: forms that are cut short or have a token changed, at random places. A
-form fails if a ratio is above the limit.
+the faulty arguments took: forms that end at a random token, or in which a random token is changed.
+A form fails if a ratio is above the limit.
 """
 import os
 import random

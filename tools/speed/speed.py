@@ -1,11 +1,11 @@
 #!/usr/bin/env python3
-"""Compares the speed and memory of `mbex` with those of the original: instructions and bytes, by
-token.
+"""Compares `mbex` with the original in speed and memory: instructions and bytes for each token.
 
 ORIGINAL is a program with the command line of `mbex` over rust-analyzer's crate. For speed, build
 it with the same optimizations. Each run lexes both texts, reads the definition, expands, and
-prints. Both programs must print the same. The script prints a table in Markdown. Its rows are
-cases and sizes. Its columns are:
+prints. Both programs must print the same text.
+
+The script prints a table in Markdown. Its rows are cases and sizes. Its columns are:
 
 - The instructions a token of each program, by valgrind's callgrind, and their ratio. A token is a
   flat token of both texts together. This count is the same on a busy machine.
@@ -16,19 +16,20 @@ cases and sizes. Its columns are:
 
 Other options ask for other tables:
 
---phases    The phases of a run, of these cases at 5,000 and of some more. In "Lexing" no rule has
-            the style of the call, and the run on nothing is subtracted. "Reading" is such a run of
-            the rules with that style, without the lexing; checking and dropping count. "Matching"
-            is what a run with empty templates takes more; bindings count. "Writing" is what a run
-            with the templates takes more; the printed text counts.
---reading   Reading a definition alone, with checking and dropping: a run in which no rule has the
-            style of the call, without a run that only lexes the same text. A token is a flat token
-            of the pattern.
+--phases    The phases of a run, of these cases at 5,000 and of some more. The phase "Lexing" is a
+            run in which no rule has the style of the call, without a run on nothing. The phase
+            "Reading" is a run of the rules with that style, without the lexing; checking and
+            dropping count. The phase "Matching" is what a run with empty templates takes more;
+            bindings count. The phase "Writing" is what a run with the templates takes more; the
+            printed text counts.
+--reading   Reading a definition alone, with checking and dropping. The script runs rules of which
+            none has the style of the call, and subtracts a run that only lexes the same text. A
+            token is a flat token of the pattern.
 --calls     Calls that fail and calls that match: millions of instructions of a whole run, and of
             matching and writing alone. ORIGINAL may be an older `mbex`.
---optional  N times `$(a)?` on N times `a`, and N parts `$(k $x:ident)?`, each with its own `k` and
-            `$x`, on as many times `k v`: the most memory of a run in megabytes, and its seconds. A
-            program that doesn't end with an answer has "none".
+--optional  The most memory of a run in megabytes, and its seconds. The first case is N times
+            `$(a)?` on N times `a`. The second case is N parts `$(k $x:ident)?`, each with its own
+            `k` and `$x`, on N times `k v`. A program that doesn't end with an answer has "none".
 --lexing    Lexing alone: a run whose only rule takes nothing, on a text of about N bytes, without
             one on no text. A token is a flat token of the text, and a literal is one token.
 """
@@ -52,7 +53,8 @@ def words(count, name="a"):
 
 
 def rules(count, pattern, template, last="last"):
-    """Rules that don't fit, of a word that differs from the argument's, before the last one, which has this word."""
+    """Rules that begin with another word than the argument and don't match, and a last rule that begins with the
+    argument's word."""
     return [(pattern.format(word), template) for word in [f"w{i}" for i in range(count - 1)] + [last]]
 
 
@@ -176,7 +178,7 @@ PATTERNS = {
 }
 
 
-# Calls that fail, where three beginnings of a dot meet and where none do, and calls that fit: what meets, the pattern, the argument.
+# Calls that fail, and calls that match: how many threads meet at one state, the pattern, and the argument.
 CALLS = {
     "fails: `$(a)* $(a)* c` on 20,000 `a`": ("three", "$(a)* $(a)* c", "a " * 20_000),
     "fails: `$(a)* $(a)* $(a)* $(a)* c` on 20,000 `a`": ("three", "$(a)* $(a)* $(a)* $(a)* c", "a " * 20_000),
@@ -203,12 +205,12 @@ def definition(pairs, style=""):
 
 
 def flat_tokens(text):
-    """Words, and each other char but spaces; a `$` before a word is one of its own."""
+    """The number of words, and of other chars except spaces. A `$` before a word counts by itself."""
     return len(re.findall(r"\w+|[^\w\s]", text))
 
 
-# Callgrind counts each byte that `rep movsb` copies and `rep stosb` fills, which the C library takes for long copies and fills, as an
-# instruction: by this they are vectors.
+# Callgrind counts each byte that `rep movsb` copies or `rep stosb` fills as an instruction. The C library uses these
+# for long copies and fills. With this setting it uses vectors.
 BY_VECTORS = {
     "GLIBC_TUNABLES": "glibc.cpu.x86_rep_movsb_threshold=1000000000:glibc.cpu.x86_rep_stosb_threshold=1000000000"
 }
@@ -224,8 +226,9 @@ def requests(command):
 
 
 def peak(command):
-    """The most memory of a run, in bytes: the median of nine, since how many pages of the program itself are there differs from run to
-    run. A child of this script would count what the script itself takes, so `time` starts it."""
+    """The most memory of a run, in bytes. It is the median of nine runs, since the number of the program's own pages in
+    memory differs from run to run. A child of this script would also count the script's memory, so `time` starts the
+    program."""
 
     def once():
         it = subprocess.run(["/usr/bin/time", "-f", "%M", *command], stdout=subprocess.DEVNULL, stderr=subprocess.PIPE, check=False)
@@ -277,11 +280,11 @@ def readings(both, sizes, folder):
 
 
 def calls(both, asked, folder):
-    """The table of calls that fail and calls that fit."""
+    """The table of calls that fail and calls that match."""
     def run(program, rule, argument):
         return instructions(command_of(folder, program, rule, argument)) / 1e6
 
-    print("| Call | Beginnings of a dot that meet | Whole run, millions | Original's | Ratio | Matching and writing | Original's | Ratio |")
+    print("| Call | Threads that meet at a state | Whole run, millions | Original's | Ratio | Matching and writing | Original's | Ratio |")
     print("|---|---|---|---|---|---|---|---|")
     for name, (beginnings, pattern, argument) in CALLS.items():
         if asked and not any(word in name for word in asked):
@@ -296,7 +299,7 @@ def calls(both, asked, folder):
 
 
 def optional(both, sizes, folder):
-    """The table of patterns of optional tokens, each of which may take any of the argument's."""
+    """The table of patterns of optional tokens, each of which may match any token of the argument."""
     def run(program, rule, argument):
         command = ["/usr/bin/time", "-f", "%M %U", *command_of(folder, program, rule, argument)]
         it = subprocess.run(command, stdout=subprocess.DEVNULL, stderr=subprocess.PIPE, check=False)
@@ -350,7 +353,8 @@ def lexing(both, sizes, folder):
 
 
 def is_worth_a_ratio(our, other, least):
-    """Less than a hundredth of the run is no more than tokens of the style and the printed error, and less than half a megabyte is pages."""
+    """Whether a ratio of the two numbers means anything. Less than a hundredth of the run is only the tokens of the
+    style and the printed error, and less than half a megabyte is only pages."""
     return min(our, other) > 0 and max(our, other) > least
 
 

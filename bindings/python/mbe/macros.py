@@ -21,8 +21,9 @@ class Fault(NamedTuple):
 
 
 class Verdict(NamedTuple):
-    """How a rule reads an argument: `one` reading, `many`, or the number of tokens before the place
-    where it is `ambiguous` or `stuck`."""
+    """How a rule reads an argument: `one` reading or `many`, or `ambiguous` or `stuck` at an offset.
+
+    `place` is that offset: the number of tokens before it."""
 
     reading: str
     place: int
@@ -169,8 +170,8 @@ class Macro:
                     style: str = "fn") -> list[Union[Expansion, Error]]:
         """Expands a call with each argument, at its span if there are any.
 
-        The rules are read once for them all. An `Error` that `expand` raises for an argument is in
-        its place.
+        The rules are read once for all arguments. If `expand` would raise an `Error` for an
+        argument, the list has this `Error`.
         """
         texts = [it.encode() if isinstance(it, str) else it for it in arguments]
         starts = itertools.accumulate(map(len, texts), initial=0)

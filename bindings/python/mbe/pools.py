@@ -1,4 +1,4 @@
-"""Where the tasks of packages run: in a pool of local processes, or on a Dask cluster."""
+"""Runs the tasks of packages in a pool of local processes, or on a Dask cluster."""
 from __future__ import annotations
 
 import importlib

@@ -37,8 +37,8 @@ ROWS = [
     ("a'b", "a 'b"),
 ]
 
-# Doc comments stay, those of several lines as blocks; an attribute that somebody wrote is one, and a block's text that is of one line is
-# written in one. In 2021, as all that follows.
+# Doc comments are written as doc comments, and doc comments of several lines as blocks. An attribute that somebody wrote remains an
+# attribute. A block whose text has one line is written as `///` or `//!`. The edition is 2021, as in all tables below.
 COMMENTS = [
     ('/// a', '/// a\n'),
     ('///\nb', '///\nb'),
@@ -74,7 +74,7 @@ COMMENTS = [
     ('a~/// b\n', 'a\n/// b\n'),
 ]
 
-# Dots beside numbers and other literals, where a number could go on, and lifetimes beside puncts.
+# A `.` beside numbers and other literals, where a number could continue, and lifetimes beside puncts.
 DOTS = [
     ('1 .a', '1 .a'),
     ('1. a', '1. a'),
@@ -108,8 +108,7 @@ def with_hashes(count):
     return f"/*! {quote}\n*/\n/** a {quote}\n */\n/// {quote}\nb"
 
 
-# Texts of which the lexer makes no doc comment of several lines, but for the first two, each as the text of an attribute that one place
-# wrote.
+# Texts, each as the text of an attribute whose tokens have one span. Only the first two are texts of doc comments of several lines.
 TEXTS = [
     ('a\n', '/**a\n*/\n'),
     ('a\n*', '/**a\n**/\n'),

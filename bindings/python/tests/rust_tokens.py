@@ -1,5 +1,5 @@
-"""Tokens of whole Rust, by edition: a text, and its tokens with a space after each that isn't joint, or rustc's message and the byte
-that it points to."""
+"""Tokens of whole Rust, by edition. A row is a text and its tokens, with a space after each token that isn't joint. If the text has a
+fault, the row has rustc's message and the byte that it points to."""
 
 ROWS = {
     2018: [

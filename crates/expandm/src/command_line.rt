@@ -3,6 +3,8 @@
 // `OPTIONS` has a row for each option. `command` makes a clap command of the rows, which parses the
 // arguments and writes the help. `checked_invocation` then checks the values that clap takes as
 // texts, and collects all values in `RunOptions`.
+use crate::call_output::CallOutput;
+use crate::reporter::CoverageForm;
 use clap::builder::ValueRange;
 use clap::error::ErrorKind;
 use clap::{Arg, ArgAction, ArgMatches, Command, Error, value_parser};
@@ -16,7 +18,8 @@ use mbe_session::session_options::{
 };
 use std::alloc::{AllocError, Global};
 
-const VERSION: &str = "0.1.0";
+/// The version of the program.
+pub const VERSION: &str = "0.1.0";
 
 const ABOUT: &str =
     "Expands the macro calls of Rust files, and prints the last file. Without a file, \
@@ -51,7 +54,7 @@ enum OptionValue {
     Optional(&'static str),
     /// Each use of the option adds a value.
     List(&'static str),
-    /// The same, and a value may be several with commas between them.
+    /// Each use adds a value, or several values with commas between them.
     CommaList(&'static str),
 }
 
@@ -83,7 +86,10 @@ static PACKAGE_OPTIONS: [&str; 16] = [
     "plan",
 ];
 
-static OPTIONS: [OptionRow; 38] = [
+// The options that print or write something else than `--trace=json`.
+static WITHOUT_DATA: [&str; 6] = ["call", "write", "html", "step", "coverage", "lint"];
+
+static OPTIONS: [OptionRow; 42] = [
     OptionRow {
         name: "manifest-path",
         value: OptionValue::Text("PATH"),
@@ -220,6 +226,21 @@ static OPTIONS: [OptionRow; 38] = [
         help: "Compare the files with those of --write, and write nothing",
     },
     OptionRow {
+        name: "html",
+        value: OptionValue::Text("PATH"),
+        help: "Write a page that shows the macros of the last file; into a folder, a page for each file",
+    },
+    OptionRow {
+        name: "step",
+        value: OptionValue::Text("LINE[:COL]"),
+        help: "Print each step of the call there: rule, variables and expansion",
+    },
+    OptionRow {
+        name: "coverage",
+        value: OptionValue::Optional("FORM"),
+        help: "Print how many calls each rule expands; =json and =lcov are for programs",
+    },
+    OptionRow {
         name: "edition",
         value: OptionValue::Choice("YEAR"),
         help: "Set the edition (2021)",
@@ -251,8 +272,8 @@ static OPTIONS: [OptionRow; 38] = [
     },
     OptionRow {
         name: "trace",
-        value: OptionValue::Flag,
-        help: "Report each step",
+        value: OptionValue::Optional("FORM"),
+        help: "Report each step; with =json, print data on each call",
     },
     OptionRow {
         name: "origin",
@@ -273,6 +294,11 @@ static OPTIONS: [OptionRow; 38] = [
         name: "json",
         value: OptionValue::Flag,
         help: "Report in JSON, as rustc does",
+    },
+    OptionRow {
+        name: "sarif",
+        value: OptionValue::Text("FILE"),
+        help: "Write the diagnostics to a SARIF file too, for code hosts",
     },
 ];
 
@@ -298,13 +324,27 @@ pub struct RunOutput<'w> {
     pub is_json: bool,
     /// The folder that each file is written into. `None` prints the last file.
     pub folder: Option<OutputFolder<'w>>,
+    /// What is shown of each call, in place of an expansion.
+    pub calls: CallOutput<'w>,
     /// Whether the files are compared with those in the folder, and nothing is written.
     pub is_check: bool,
+    /// The file that the log of diagnostics is written to. `-` is standard output.
+    pub log: Option<&'w str>,
     /// The folders that files of modules are read from; any if there is none.
     pub roots: Vec<&'w str>,
 }
 
 impl RunOutput<'_> {
+    /// Whether a line with its root file stands before the output of each of several targets.
+    pub fn has_headings(&self) -> bool {
+        let is_log_printed = match self.log {
+            Some(path) => path == "-",
+            None => false,
+        };
+        let is_data = self.calls.is_data || self.calls.coverage.is_some() || is_log_printed;
+        self.folder.is_none() && !is_data
+    }
+
     /// Returns the same output into another folder.
     pub fn with_folder<'v>(
         &'v self,
@@ -317,7 +357,11 @@ impl RunOutput<'_> {
             roots.push(*folder)?;
         }
         Ok(RunOutput {
-            folder: Some(OutputFolder { path, is_forced }),
+            folder: Some(OutputFolder {
+                path,
+                is_forced,
+                option: "--write",
+            }),
             roots,
             ..*self
         })
@@ -374,17 +418,28 @@ fn argument_of<'w>(alloc: Global, row: &'static OptionRow) -> Result<Arg<'w>, Al
     }
 }
 
+// Returns the argument of that option with the options that it needs, and those that it can't be
+// used with.
+fn related<'w>(argument: Arg<'w>, name: &str) -> Result<Arg<'w>, AllocError> {
+    match name {
+        "once" => argument.conflicts_with("depth"),
+        "force" | "check" => argument.requires_arg("write"),
+        "package" => argument.short('p').conflicts_with("workspace"),
+        "html" => argument.conflicts_with_all(&["write", "call", "lint", "check"]),
+        "step" => argument.conflicts_with_all(&["write", "call", "lint", "html"]),
+        "coverage" => argument.conflicts_with_all(&[
+            "write", "call", "lint", "html", "step", "plan",
+        ]),
+        "sarif" => argument.conflicts_with("plan"),
+        _ => Ok(argument),
+    }
+}
+
 // Returns the command, with an argument for each row, and one for files.
 fn command<'w>(alloc: Global) -> Result<Command<'w>, AllocError> {
     let mut command = Command::new(alloc, "expandm").version(VERSION).about(ABOUT);
     for row in &OPTIONS {
-        let argument = argument_of(alloc, row)?;
-        command = command.arg(match row.name {
-            "once" => argument.conflicts_with("depth")?,
-            "force" | "check" => argument.requires_arg("write")?,
-            "package" => argument.short('p').conflicts_with("workspace")?,
-            _ => argument,
-        })?;
+        command = command.arg(related(argument_of(alloc, row)?, row.name)?)?;
     }
     let files = Arg::new(alloc, FILES)
         .num_args(1..)
@@ -440,7 +495,7 @@ fn invalid(
 fn session_options<'w>(alloc: Global, matches: &ArgMatches<'w>) -> SessionOptions<'w> {
     let mut options = SessionOptions::new(alloc);
     options.is_test = matches.contains_id("test") && matches.get_str("test").is_none();
-    options.is_traced = matches.get_flag("trace");
+    options.is_traced = matches.contains_id("trace") && matches.get_str("trace").is_none();
     options.is_origin_noted = matches.get_flag("origin");
     options.with_modules = !matches.get_flag("no-modules");
     options.depth = matches.get_one::<u32>("depth");
@@ -541,25 +596,59 @@ fn package_options<'w>(
     })
 }
 
-// Returns which files are read for modules, and what is written.
-fn run_output<'w>(alloc: Global, matches: &ArgMatches<'w>) -> Result<RunOutput<'w>, AllocError> {
+// Returns the folders that files of modules are read from.
+fn module_folders<'w>(alloc: Global, matches: &ArgMatches<'w>) -> Result<Vec<&'w str>, AllocError> {
     let mut roots = Vec::new(alloc);
     if let Some(folders) = matches.get_strs("root") {
         for folder in folders {
             roots.push(*folder)?;
         }
     }
+    Ok(roots)
+}
+
+// Returns the folder that each file is written into.
+fn output_folder<'w>(matches: &ArgMatches<'w>) -> Option<OutputFolder<'w>> {
+    let path = matches.get_str("write")?;
+    Some(OutputFolder {
+        path,
+        is_forced: matches.get_flag("force"),
+        option: "--write",
+    })
+}
+
+// Returns the form in which coverage is printed. Without a name it is text.
+fn coverage_form(matches: &ArgMatches<'_>) -> Option<CoverageForm> {
+    match matches.get_str("coverage") {
+        Some(name) => CoverageForm::named(name),
+        None if matches.contains_id("coverage") => Some(CoverageForm::Text),
+        None => None,
+    }
+}
+
+// Returns what is shown of each call. Frames are without colours.
+fn call_output<'w>(matches: &ArgMatches<'w>) -> CallOutput<'w> {
+    CallOutput {
+        is_data: matches.get_str("trace").is_some(),
+        step: matches.get_str("step").and_then(CallPosition::read),
+        is_coloured: false,
+        coverage: coverage_form(matches),
+        page: matches.get_str("html"),
+    }
+}
+
+// Returns which files are read for modules, and what is written.
+fn run_output<'w>(alloc: Global, matches: &ArgMatches<'w>) -> Result<RunOutput<'w>, AllocError> {
     Ok(RunOutput {
         is_plan: matches.get_flag("plan"),
         is_release: matches.get_flag("release"),
         is_lint: matches.get_flag("lint"),
         is_json: matches.get_flag("json"),
-        folder: matches.get_str("write").map(|path| OutputFolder {
-            path,
-            is_forced: matches.get_flag("force"),
-        }),
+        folder: output_folder(matches),
+        calls: call_output(matches),
         is_check: matches.get_flag("check"),
-        roots,
+        log: matches.get_str("sarif"),
+        roots: module_folders(alloc, matches)?,
     })
 }
 
@@ -576,12 +665,13 @@ fn is_given(matches: &ArgMatches<'_>, name: &str) -> bool {
         | "all-features"
         | "no-default-features"
         | "release"
-        | "plan" => matches.get_flag(name),
+        | "plan"
+        | "lint" => matches.get_flag(name),
         _ => matches.contains_id(name),
     }
 }
 
-// Returns the message of an option that doesn't go with files, or of `--edition` without one.
+// Returns the message of an option that can't be used with files, or of `--edition` without a file.
 fn misplaced(
     alloc: Global,
     matches: &ArgMatches<'_>,
@@ -608,6 +698,25 @@ fn misplaced(
             alloc,
             "error: '--test=<NAME>' is for a package, and a file is named",
         )?));
+    }
+    Ok(None)
+}
+
+// Returns the message of a form of `--trace` that isn't known, or of an option that prints something
+// else.
+fn trace_fault(alloc: Global, matches: &ArgMatches<'_>) -> Result<Option<String>, AllocError> {
+    let Some(form) = matches.get_str("trace") else {
+        return Ok(None);
+    };
+    if form != "json" {
+        return invalid(alloc, form, "--trace[=<FORM>]", "`json`");
+    }
+    for name in WITHOUT_DATA {
+        if is_given(matches, name) {
+            return Ok(Some(format!(in alloc;
+                "error: '--trace=json' cannot be used with '--{name}'"
+            )?));
+        }
     }
     Ok(None)
 }
@@ -714,11 +823,83 @@ fn set_positions<'w>(
     Ok(None)
 }
 
+// Returns the message if the value of `--step` is no position.
+fn step_fault(alloc: Global, matches: &ArgMatches<'_>) -> Result<Option<String>, AllocError> {
+    let Some(text) = matches.get_str("step") else {
+        return Ok(None);
+    };
+    if CallPosition::read(text).is_some() {
+        return Ok(None);
+    }
+    invalid(
+        alloc,
+        text,
+        "--step <LINE[:COL]>",
+        "a line, or a line and a column",
+    )
+}
+
+// Returns the message of a form of `--coverage` that isn't known.
+fn coverage_fault(alloc: Global, matches: &ArgMatches<'_>) -> Result<Option<String>, AllocError> {
+    match matches.get_str("coverage") {
+        Some(form) if CoverageForm::named(form).is_none() => invalid(
+            alloc,
+            form,
+            "--coverage[=<FORM>]",
+            "`text`, `json` or `lcov`",
+        ),
+        Some(_) | None => Ok(None),
+    }
+}
+
+// Returns the message of a file of `--sarif` whose name doesn't end as the name of a log, or of `-`
+// if something else is printed.
+fn sarif_fault(alloc: Global, matches: &ArgMatches<'_>) -> Result<Option<String>, AllocError> {
+    let Some(path) = matches.get_str("sarif") else {
+        return Ok(None);
+    };
+    if path.ends_with(".sarif") || path.ends_with(".sarif.json") {
+        return Ok(None);
+    }
+    if path != "-" {
+        return invalid(
+            alloc,
+            path,
+            "--sarif <FILE>",
+            "a name that ends in `.sarif` or `.sarif.json`",
+        );
+    }
+    if is_given(matches, "lint") || is_given(matches, "write") {
+        return Ok(None);
+    }
+    Ok(Some(String::from_str(
+        alloc,
+        "error: '--sarif -' needs '--lint' or '--write': other runs print something else",
+    )?))
+}
+
+// Returns the message of an option whose value is invalid, or that can't be used with another one.
+fn option_fault(alloc: Global, matches: &ArgMatches<'_>) -> Result<Option<String>, AllocError> {
+    if let Some(message) = trace_fault(alloc, matches)? {
+        return Ok(Some(message));
+    }
+    if let Some(message) = step_fault(alloc, matches)? {
+        return Ok(Some(message));
+    }
+    if let Some(message) = coverage_fault(alloc, matches)? {
+        return Ok(Some(message));
+    }
+    sarif_fault(alloc, matches)
+}
+
 // Returns a run with what clap matched, or the error of an invalid value.
 fn checked_invocation<'w>(
     alloc: Global,
     matches: &ArgMatches<'w>,
 ) -> Result<Invocation<'w>, AllocError> {
+    if let Some(message) = option_fault(alloc, matches)? {
+        return Ok(Invocation::Refused(message));
+    }
     let mut options = session_options(alloc, matches);
     if let Some(message) = add_cfgs(alloc, matches, &mut options)? {
         return Ok(Invocation::Refused(message));

@@ -140,8 +140,8 @@ impl<'a> View<'a> {
         json!(in alloc; {"name": name, "range": at, "expansion": text})
     }
 
-    /// Answers where the rule is that a call expands by, from what explains the call; or else where
-    /// the only macro of its name is. `AllocError` if out of memory.
+    /// Answers where the rule is that expands a call, from what explains the call. If none is
+    /// known, answers where the only macro of the call's name is. `AllocError` if out of memory.
     pub fn definition(self, call: &CallSite, explains: &Findings) -> Result<Value, AllocError> {
         let explained = explain(self.alloc(), explains, call)?;
         if let Some(rule) = explained.applied_rule() {

@@ -4,7 +4,8 @@ use crate::explained_call::{ExplainedCall, explain, line_and_column};
 use crate::findings::{CallSite, Extent, Findings};
 use std::alloc::{AllocError, Global};
 
-/// How many calls are looked at for what they bind a variable to. A session explains one call.
+/// The limit of calls that are explained for what they bind a variable to. A session explains one
+/// call.
 pub const MOST_EXPLAINED: usize = 4;
 
 /// A variable of a rule of the document.

@@ -61,7 +61,8 @@ enum Context {
     Other,
 }
 
-// Returns what a cursor is after, if a text is before it, and maybe the beginning of a name.
+// Returns what a cursor is after. `front` is the text before it, without the letters of a name that
+// end there. `is_begun` says whether there are such letters.
 fn context_after(front: &str, is_begun: bool) -> Context {
     if front.ends_with("${") {
         return Context::Expression;

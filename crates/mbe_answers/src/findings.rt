@@ -1,7 +1,7 @@
 // What a session finds in the crate of a document: messages, expansions, definitions and calls.
 //
 // Offsets are bytes of the texts that editors have, with their carriage returns. The number of a
-// file is its place in the list of files.
+// file is its index in the list of files.
 
 /// The bytes of a file from `start` up to `end`.
 #[derive(Clone, Copy, Drop)]
@@ -57,7 +57,7 @@ pub struct TokenSite {
     pub kind: TokenKind,
 }
 
-/// How bad it is what a message says.
+/// The severity of a message.
 #[derive(Clone, Copy, Drop)]
 pub enum Severity {
     Error,

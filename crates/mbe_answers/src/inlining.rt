@@ -6,7 +6,7 @@ use mbe_protocol::positions::LineTable;
 use serde_json::{Map, Value, json};
 use std::alloc::{AllocError, Global};
 
-// For how many calls of a macro the action is offered that inlines them all.
+// The limit of calls of a macro for the action that inlines all of them.
 const MOST_INLINED: usize = 1000;
 
 // Returns a code action.

@@ -4,7 +4,7 @@ use crate::findings::{DefinitionSite, Extent, Findings};
 use crate::tokens::{FileTokens, is_name_text};
 use std::alloc::AllocError;
 
-/// What a name is that is equal to the name of a macro.
+/// The role of a name that equals the name of a macro.
 #[derive(Clone, Copy, Drop)]
 pub(crate) enum Role {
     /// The name in the definition.
@@ -21,7 +21,7 @@ pub(crate) enum Role {
     Other,
 }
 
-// What the names are that are equal to a macro's.
+// The roles of the names that equal the name of a macro.
 #[derive(Clone, Copy, Drop)]
 struct RolesSeen {
     is_unsure: bool,
@@ -160,7 +160,7 @@ impl FileTokens<'_> {
             || self.text_before(at, 1) == "!" && self.text_before(at, 2) == "macro_rules"
     }
 
-    // Returns what the name in a call is.
+    // Returns the role of the name in a call.
     fn call_role(self, at: usize) -> Role {
         let start = self.path_start(at);
         if start == at || is_own_head(self.text_at(start)) {
@@ -199,7 +199,7 @@ impl FileTokens<'_> {
         false
     }
 
-    // Returns what the name in a `use` is.
+    // Returns the role of the name in a `use`.
     fn import_role(self, at: usize, start: usize) -> Role {
         let first = start.saturating_add(1);
         let is_own = first == at || is_own_head(self.text_at(first));
@@ -229,7 +229,7 @@ impl Findings {
             .any(|it| it.file == number && it.name_at.start == part.start)
     }
 
-    // Returns what the name at that index of the tokens of file `number` is.
+    // Returns the role of the name at that index of the tokens of file `number`.
     fn role(&self, number: usize, tokens: FileTokens<'_>, at: usize) -> Role {
         let Some(token) = tokens.list.get(at) else {
             return Role::Other;
@@ -280,7 +280,7 @@ impl Findings {
         Ok(())
     }
 
-    // Notes what the names in file `number` are that are equal to a macro's.
+    // Notes the roles of the names in file `number` that equal the name of a macro.
     fn note_roles(&self, number: usize, name: &str, seen: &mut RolesSeen) {
         let tokens = self.tokens_of(number);
         for at in 0..tokens.list.len() {
@@ -290,7 +290,7 @@ impl Findings {
         }
     }
 
-    // Returns what the names in the files of the own crates are that are equal to a macro's.
+    // Returns the roles of the names in the files of the own crates that equal the name of a macro.
     fn roles_seen(&self, name: &str) -> RolesSeen {
         let mut seen = RolesSeen {
             is_unsure: false,

@@ -42,7 +42,7 @@ fn is_unnecessary(finding: &Finding) -> bool {
     text.starts_with("unused macro variable") || text.starts_with("unreachable rule")
 }
 
-/// Whether two messages have the same text and the same place.
+/// Whether two messages have the same text and the same extent.
 pub(crate) fn is_same(one: &Finding, other: &Finding) -> bool {
     one.file == other.file
         && one.extent.start == other.extent.start

@@ -22,7 +22,7 @@ fn larger(parts: &[Extent], part: Extent) -> Option<Extent> {
 }
 
 // Returns the parts that hold a byte, from the smallest one on. Each is the smallest around the
-// one before it. Without any, the byte's place alone is a part.
+// one before it. If no part holds the byte, the empty part at the byte is the only one.
 fn parts_around(alloc: Global, parts: &[Extent], byte: usize) -> Result<Vec<Extent>, AllocError> {
     let mut found = Vec::new(alloc);
     let mut part = Extent {

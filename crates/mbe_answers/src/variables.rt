@@ -8,7 +8,7 @@ use crate::shapes::range;
 use serde_json::{Value, json};
 use std::alloc::{AllocError, Global};
 
-// The place where a rule binds a variable, and the name of the fragment specifier.
+// The extent where a rule binds a variable, and the name of the fragment specifier.
 #[derive(Clone, Copy, Drop)]
 struct Binding<'t> {
     extent: Extent,

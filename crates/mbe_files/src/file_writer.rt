@@ -1,8 +1,8 @@
 // Writes expanded files into a folder: all of them, or none.
 //
 // Each text is written into a file of another name first, beside its target. When all are written,
-// each is renamed. What was at a target is kept under another name up to the end. So if a write or
-// a rename fails, what was there before comes back.
+// each is renamed. Up to the end, the old file of a target is kept under another name. So if a
+// write or a rename fails, the old files come back.
 use crate::file_reader::file_text;
 use crate::write_conflicts::{OutputPlan, found};
 use crate::written_files::{LIST_NAME, list_with};
@@ -142,7 +142,7 @@ impl WrittenTexts {
         Ok(None)
     }
 
-    // Brings back what was there before, as far as that succeeds.
+    // Brings back the old files, as far as that succeeds.
     fn undo<R: Files>(&self, rt: &R) {
         for text in &self.texts {
             text.undo(rt);
@@ -163,7 +163,7 @@ impl WrittenTexts {
 }
 
 impl WrittenText {
-    // Renames the file to its target. What is there has another name first.
+    // Renames the file to its target. The old file gets another name first.
     fn rename<R: Files + AllocGlobal>(&mut self, rt: &R) -> io::Result<()> {
         if found(fs::symlink_metadata(rt, self.target.as_str()))?.is_some() {
             self.old = Some(keep_old(rt, self.target.as_str())?);
@@ -173,7 +173,7 @@ impl WrittenText {
         Ok(())
     }
 
-    // Brings back what was at the target, and removes the temporary file.
+    // Brings back the old file of the target, and removes the temporary file.
     fn undo<R: Files>(&self, rt: &R) {
         if let Some(old) = &self.old {
             let _ = fs::rename(rt, old.as_str(), self.target.as_str());
@@ -190,7 +190,7 @@ impl WrittenText {
 
 /// Writes each text to its target in the folder, and lists the targets in the folder's list. A text
 /// without a target is left out. Missing folders are created. Returns the text of an error; then
-/// the folder is as it was before.
+/// the folder is unchanged.
 pub fn write_texts<R: Files + AllocGlobal>(
     rt: &R,
     folder: &str,

@@ -11,5 +11,6 @@ pub mod file_writer;
 pub mod output_paths;
 pub mod package;
 mod package_reader;
+pub mod page_file;
 pub mod write_conflicts;
 pub mod written_files;

@@ -1,8 +1,11 @@
-// The paths of expanded files, relative to the folder that they are written into.
+// The paths of expanded files and of pages, relative to the folder that they are written into.
 use mbe_cfg::files::paths::folder_of;
 use mbe_session::file_set::FileSet;
 use std::alloc::{AllocError, Global};
 use std::collections::BTreeSet;
+
+// The name of the page that lists the pages of a folder.
+const INDEX: &str = "index.html";
 
 // Returns the path within a folder. `None` if the path isn't in that folder.
 fn after_folder<'p>(folder: &str, path: &'p str) -> Option<&'p str> {
@@ -122,8 +125,52 @@ pub fn targets(
             Ok(target) => found.push(Some(target))?,
         }
     }
-    if let Some(target) = repeated_target(alloc, found.as_slice())? {
-        return Ok(Err(format!(in alloc; "two files would be written as `{folder}/{target}`")?));
+    Ok(match conflict(alloc, folder, found.as_slice())? {
+        Some(message) => Err(message),
+        None => Ok(found),
+    })
+}
+
+// Returns the text of an error if two files have the same target.
+fn conflict(
+    alloc: Global,
+    folder: &str,
+    targets: &[Option<String>],
+) -> Result<Option<String>, AllocError> {
+    match repeated_target(alloc, targets)? {
+        Some(target) => Ok(Some(format!(in alloc;
+            "two files would be written as `{folder}/{target}`"
+        )?)),
+        None => Ok(None),
     }
-    Ok(Ok(found))
+}
+
+// Makes the target of each file the target of its page, and adds the target of the list of pages.
+fn make_page_targets(alloc: Global, targets: &mut Vec<Option<String>>) -> Result<(), AllocError> {
+    for target in targets.iter_mut() {
+        if let Some(target) = target {
+            target.push_str(".html")?;
+        }
+    }
+    targets.push(Some(String::from_str(alloc, INDEX)?))?;
+    Ok(())
+}
+
+/// Returns where the page of each file is written, as `targets` does, and then where the page that
+/// lists them is written.
+pub fn page_targets(
+    alloc: Global,
+    files: &FileSet,
+    folder: &str,
+    root_count: usize,
+) -> Result<Result<Vec<Option<String>>, String>, AllocError> {
+    let mut targets = match targets(alloc, files, folder, root_count)? {
+        Ok(targets) => targets,
+        Err(message) => return Ok(Err(message)),
+    };
+    make_page_targets(alloc, &mut targets)?;
+    Ok(match conflict(alloc, folder, targets.as_slice())? {
+        Some(message) => Err(message),
+        None => Ok(targets),
+    })
 }

@@ -1,10 +1,8 @@
-// Checks that writing into a folder loses nothing. A run is refused in these cases:
-//
-// - The folder has a file that no earlier run wrote.
-// - A file would be overwritten that the run reads.
-// - A symbolic link would be followed.
+// Checks that a run which writes into a folder loses nothing. The run overwrites no file that it
+// reads. Without `--force` it overwrites only files that an earlier run wrote. It follows no
+// symbolic link below the folder.
 use crate::file_reader::file_text;
-use crate::output_paths::{is_below, targets};
+use crate::output_paths::{is_below, page_targets, targets};
 use crate::written_files::{LIST_NAME, listed_paths, path_set};
 use mbe_session::file_set::FileSet;
 use mbe_session::session::NamedText;
@@ -21,6 +19,8 @@ pub struct OutputFolder<'w> {
     pub path: &'w str,
     /// Whether files are overwritten that no earlier run wrote.
     pub is_forced: bool,
+    /// The option that names the folder.
+    pub option: &'static str,
 }
 
 /// Where each file of a run is written.
@@ -58,7 +58,7 @@ fn is_same(one: &Metadata, other: &Metadata) -> bool {
 
 // Returns the metadata of each input file, in order. `None` for standard input, and for a file that
 // is gone.
-fn input_metadata<R: Files + AllocGlobal>(
+pub(crate) fn input_metadata<R: Files + AllocGlobal>(
     rt: &R,
     texts: &[NamedText],
 ) -> io::Result<Vec<Option<Metadata>>> {
@@ -74,7 +74,7 @@ fn input_metadata<R: Files + AllocGlobal>(
 }
 
 // Returns the name of the input that is the same file as the target.
-fn find_input<'t>(
+pub(crate) fn find_input<'t>(
     texts: &'t [NamedText],
     read: &[Option<Metadata>],
     target: &Metadata,
@@ -89,8 +89,8 @@ fn find_input<'t>(
     None
 }
 
-// Returns why a file that is there can't be overwritten, as the text of an error. `path` has the
-// folder before the target.
+// Returns why an existing file can't be overwritten, as the text of an error. `path` has the folder
+// before the target.
 fn file_conflict(
     alloc: Global,
     known: &Existing<'_, '_>,
@@ -102,17 +102,25 @@ fn file_conflict(
         return Ok(Some(format!(in alloc; "`{path}` is there, and isn't a file")?));
     }
     if let Some(name) = find_input(known.texts, known.read, there) {
-        let folder = known.folder.path;
+        let (option, folder) = (known.folder.option, known.folder.path);
         return Ok(Some(format!(in alloc;
-            "`--write {folder}` would overwrite `{name}`, which this run reads"
+            "`{option} {folder}` would overwrite `{name}`, which this run reads"
         )?));
     }
     if known.folder.is_forced || known.listed.contains(target) {
         return Ok(None);
     }
-    Ok(Some(format!(in alloc;
-        "`{path}` is there, and no earlier run wrote it: `--force` overwrites it"
-    )?))
+    let hint = force_hint(known.folder.option);
+    Ok(Some(format!(in alloc; "`{path}` is there, and no earlier run wrote it{hint}")?))
+}
+
+// Returns the end of the error of a file that no earlier run wrote. Only `--write` takes `--force`.
+fn force_hint(option: &str) -> &'static str {
+    if option == "--write" {
+        ": `--force` overwrites it"
+    } else {
+        ""
+    }
 }
 
 // Returns an error text if nothing can be written at the target. Either a symbolic link is on the
@@ -136,8 +144,9 @@ fn target_conflict<R: Files + AllocGlobal>(
         if let Some(there) = &last
             && there.is_symlink()
         {
+            let option = known.folder.option;
             return Ok(Some(format!(in rt.alloc();
-                "`{path}` is a symbolic link, and `--write` follows none"
+                "`{path}` is a symbolic link, and `{option}` follows none"
             )?));
         }
     }
@@ -150,9 +159,10 @@ fn target_conflict<R: Files + AllocGlobal>(
 // Returns an error text if a file that the run reads is in the folder.
 fn folder_conflict<R: Files + AllocGlobal>(
     rt: &R,
-    folder: &str,
+    output: OutputFolder<'_>,
     texts: &[NamedText],
 ) -> io::Result<Option<String>> {
+    let (option, folder) = (output.option, output.path);
     if found(fs::metadata(rt, folder))?.is_none() {
         return Ok(None);
     }
@@ -163,7 +173,7 @@ fn folder_conflict<R: Files + AllocGlobal>(
         {
             let name = named.name.as_str();
             return Ok(Some(format!(in rt.alloc();
-                "`--write {folder}` would write beside `{name}`, which this run reads"
+                "`{option} {folder}` would write beside `{name}`, which this run reads"
             )?));
         }
     }
@@ -185,7 +195,7 @@ fn write_conflict<R: Files + AllocGlobal>(
             return Ok(refused);
         }
     }
-    folder_conflict(rt, known.folder.path, known.texts)
+    folder_conflict(rt, known.folder, known.texts)
 }
 
 // Returns the text of an error if nothing can be written into the folder, where earlier runs wrote
@@ -221,7 +231,7 @@ fn read_list<R: Files + AllocGlobal>(rt: &R, folder: &str) -> io::Result<Result<
             return Ok(Ok(String::from_str(rt.alloc(), paths)?));
         }
     }
-    Ok(Err(format!(in rt.alloc(); "`{path}` is there, and doesn't list files of `--write`")?))
+    Ok(Err(format!(in rt.alloc(); "`{path}` is there, and doesn't list files that expandm wrote")?))
 }
 
 // Returns where the files are written, or the text of an error.
@@ -244,9 +254,9 @@ fn checked_plan<R: Files + AllocGlobal>(
 /// Returns where the files of a run are written. The first `root_count` files are the roots of its
 /// own crates. Nothing is written yet.
 ///
-/// The inner error is a message that says why nothing can be written. It may come from `targets`.
-/// Other errors are that a file can't be overwritten, or that a symbolic link is on the way. The
-/// folder may also have files that the run reads, or be unreadable.
+/// The inner error is a message that says why nothing can be written. `targets` may have failed. A
+/// file may have to remain as it is, or a folder on the way to it may be a symbolic link. The
+/// folder may have files that the run reads, or it can't be read.
 pub fn output_plan<R: Files + AllocGlobal>(
     rt: &R,
     files: &FileSet,
@@ -257,13 +267,39 @@ pub fn output_plan<R: Files + AllocGlobal>(
     if name.is_empty() {
         return Ok(Err(String::from_str(rt.alloc(), "the folder after `--write` is empty")?));
     }
-    let targets = match targets(rt.alloc(), files, name, root_count)? {
-        Ok(targets) => targets,
-        Err(message) => return Ok(Err(message)),
-    };
-    match checked_plan(rt, files.texts.as_slice(), folder, targets) {
+    match targets(rt.alloc(), files, name, root_count)? {
+        Ok(targets) => folder_plan(rt, files.texts.as_slice(), folder, targets),
+        Err(message) => Ok(Err(message)),
+    }
+}
+
+/// Returns where the pages of a run are written: one for each file of its own crates, and the page
+/// that lists them. Nothing is written yet. The inner error is a message, as of `output_plan`.
+pub fn page_plan<R: Files + AllocGlobal>(
+    rt: &R,
+    files: &FileSet,
+    folder: OutputFolder<'_>,
+    root_count: usize,
+) -> io::Result<Result<OutputPlan, String>> {
+    match page_targets(rt.alloc(), files, folder.path, root_count)? {
+        Ok(targets) => folder_plan(rt, files.texts.as_slice(), folder, targets),
+        Err(message) => Ok(Err(message)),
+    }
+}
+
+// Returns where files are written, or the text of an error, also if the folder can't be read.
+fn folder_plan<R: Files + AllocGlobal>(
+    rt: &R,
+    texts: &[NamedText],
+    folder: OutputFolder<'_>,
+    targets: Vec<Option<String>>,
+) -> io::Result<Result<OutputPlan, String>> {
+    match checked_plan(rt, texts, folder, targets) {
         Ok(planned) => Ok(planned),
         Err(error) if error.kind() == io::ErrorKind::OutOfMemory => Err(error),
-        Err(error) => Ok(Err(format!(in rt.alloc(); "couldn't write into `{name}`: {error}")?)),
+        Err(error) => {
+            let name = folder.path;
+            Ok(Err(format!(in rt.alloc(); "couldn't write into `{name}`: {error}")?))
+        }
     }
 }

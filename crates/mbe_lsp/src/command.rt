@@ -9,7 +9,7 @@ use std::rt::{Env, Files};
 // Exit status: the client sent `shutdown` and then `exit`, or help was asked for.
 const EXIT_OK: u8 = 0;
 
-// Exit status: the client left in another way.
+// Exit status: the client sent `exit` alone, or closed the connection.
 const EXIT_LEFT: u8 = 1;
 
 // Exit status: the command line is invalid, the input or the output failed, or memory ran out.

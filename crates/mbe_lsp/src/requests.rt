@@ -293,7 +293,7 @@ impl Server {
         analysed(rt, self.texts(), found.path(call.file), query)
     }
 
-    // Returns what the first calls bind the variable to that a cursor at a byte is on.
+    // Returns what the first calls bind a variable to: the variable at the cursor.
     fn bound_text<R: Env + Files + AllocGlobal + Clone + Drop>(
         &self,
         rt: &R,

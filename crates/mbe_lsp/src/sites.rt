@@ -1,4 +1,4 @@
-// Where the definitions and the calls of macros are in files, and where their tokens are.
+// Finds the definitions and the calls of macros in files, and their tokens.
 //
 // Offsets are bytes of the texts that editors have, with their carriage returns.
 use mbe_answers::findings::{CallSite, DefinitionSite, Extent, RuleSite, TokenKind, TokenSite};

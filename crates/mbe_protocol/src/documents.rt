@@ -98,8 +98,7 @@ impl Documents {
         self.list.iter().find(|it| it.path.as_str() == path)
     }
 
-    /// Opens a document. One of that name that is open already is replaced. `AllocError` if out of
-    /// memory.
+    /// Opens a document. It replaces an open document of that name. `AllocError` if out of memory.
     pub fn open(
         &mut self,
         alloc: Global,
@@ -119,8 +118,8 @@ impl Documents {
         Ok(())
     }
 
-    /// Changes the text of a document. A document that isn't open stays closed. `AllocError` if out
-    /// of memory.
+    /// Changes the text of a document. If the document isn't open, nothing changes. `AllocError` if
+    /// out of memory.
     pub fn change(
         &mut self,
         alloc: Global,

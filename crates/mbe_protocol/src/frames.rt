@@ -1,12 +1,12 @@
 // Messages in a stream of bytes. Each has a header, whose line `Content-Length` says how many bytes
 // of content follow the empty line.
 //
-// A header without a valid length is malformed. Reading goes on with the next line, so a later
-// header is found again.
+// A header without a valid length is malformed. Reading continues with the next line, so a later
+// header is found.
 
 use std::alloc::{AllocError, Global};
 
-// How many bytes of a line of a header are kept. A longer line is no `Content-Length`.
+// The limit of bytes of a header's line that are kept. A longer line is no `Content-Length`.
 const MAX_LINE: usize = 1024;
 
 // The largest content that is read.
@@ -86,7 +86,7 @@ impl FrameReader {
         }
     }
 
-    // Takes a byte of the content, of which so many are missing.
+    // Takes a byte of the content. So many bytes of it are still missing.
     fn accept_content(&mut self, byte: u8, missing: usize) -> Result<Option<Frame>, AllocError> {
         self.content.push(byte)?;
         if missing > 1 {

@@ -34,7 +34,7 @@ pub struct PositionRange {
 pub struct LineTable<'t> {
     text: &'t str,
     encoding: PositionEncoding,
-    // Where each line starts, ascending.
+    // The byte at which each line starts, ascending.
     starts: Vec<usize>,
 }
 

@@ -29,3 +29,4 @@ pub mod ReturnLemmas
 pub mod SessionLemmas
 pub mod WriterLemmas
 pub mod EmitterLemmas
+pub mod LimitLemmas

@@ -30,8 +30,8 @@ pub record Setting : Type 0 where
   pub depth : ℕ
 
 -- What changes: the definitions; how many more calls may be expanded, and how many more tokens these
--- may write; and the contexts of tokens of expansions. For each context of these tokens, from 1 on, it has the context of the macro's token.
--- Tokens of files have context 0.
+-- may write; and the contexts of tokens of expansions. For each context of these tokens, from 1 on,
+-- it has the context of the macro's token. Tokens of files have context 0.
 pub record State : Type 0 where
   pub scope : Scope
   pub fuel : Budget

@@ -18,6 +18,7 @@ pub mod Imports
 pub mod Locations
 pub mod LineEndings
 pub mod Sources
+pub mod RecursionLimit
 pub mod CrateTrees
 pub mod ModuleFiles
 pub mod DollarCrate

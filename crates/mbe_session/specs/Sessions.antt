@@ -14,6 +14,7 @@ use Rattle.mbe_session.specs.Conditions.{Conditions, IsUnder}
 use Rattle.mbe_session.specs.FileExpansion.{CratesParts, DefinesCrates, FilesExpand, LoadsExterns}
 use Rattle.mbe_session.specs.FileExpansion.{RootExpands}
 use Rattle.mbe_session.specs.CrateSettings.{AreFileSettings}
+use Rattle.mbe_session.specs.RecursionLimit.{first_limit}
 use Rattle.mbe_session.specs.SourceSettings.{IsFileTable, in_dialect}
 use Rattle.mbe_session.specs.Sources.{Source, Text, AreSources, source_text}
 
@@ -29,7 +30,7 @@ LEVELS = 1000
 -- are linked. Their roots are the files after the first `root_count`. Then the macros of the
 -- session's own crates are defined, in the order of the crates' trees. Their roots are the first
 -- `root_count` files. No call is expanded yet. The limit of nested expansions is the limit of the
--- options, else the limit of the files, else 128.
+-- options, else the limit of the first root that sets one, else 128.
 pub record IsOpen (language : Language) (c : Conditions)
     (own : ℕ → Option CrateSettings) (depth : Option ℕ) (fuel : Budget)
     (with_modules : Bool) (root_count : ℕ)
@@ -42,8 +43,7 @@ pub record IsOpen (language : Language) (c : Conditions)
   pub grammar : e.grammar ≡ grammar_of (in_dialect language.dialect table)
   pub conditions : IsUnder c e.conditions
   pub language_is : e.language ≡ language
-  pub limit : Option ℕ
-  pub depth_is : e.depth ≡ unwrap_or (option_or depth limit) 128
+  pub depth_is : e.depth ≡ unwrap_or (option_or depth (first_limit root_count 0 files)) 128
   pub known : Scope
   pub outside : LoadsExterns language 1001 with_modules files root_count
       (record { definitions = []; visible = []; crates = []; declared = [] }) extern_names known
@@ -52,8 +52,7 @@ pub record IsOpen (language : Language) (c : Conditions)
   pub contexts_are : s.contexts ≡ []
 
 -- What is printed: the expansion of the last of the first `root_count` files. The other files are
--- those
--- of modules and of external crates.
+-- those of modules and of external crates.
 pub record IsPrinted (language : Language) (c : Conditions)
     (own : ℕ → Option CrateSettings) (depth : Option ℕ) (fuel : Budget)
     (call : Option CallPosition)

@@ -25,8 +25,8 @@ pub(crate) struct ModuleItem<'t, A: Allocator = Global> {
     pub(crate) rest: TokenTreesView<'t, A>,
 }
 
-// Returns the trees after the word, if it is at the front.
-fn after_word<'t, A: Allocator>(
+/// Returns the trees after the word, if it is at the front.
+pub(crate) fn after_word<'t, A: Allocator>(
     word: &str,
     tokens: TokenTreesView<'t, A>,
 ) -> Option<TokenTreesView<'t, A>>

@@ -23,7 +23,7 @@ use crate::file_expander::FileExpander;
 use crate::file_expansion::{PrintRequest, file_text, file_texts, write_last};
 use crate::locations::CallPosition;
 use crate::notes::{Level, Note};
-use crate::recursion_limit::recursion_limit;
+use crate::recursion_limit::first_limit;
 use crate::session_options::SessionOptions;
 use crate::source_files::{SourceFile, source_file};
 use crate::summary::{ReportCounts, summary_line};
@@ -81,18 +81,6 @@ pub fn sources<'f, 'r>(
         files.push(file)?;
     }
     Ok(files)
-}
-
-// Returns the recursion limit of the first file that sets one, among the first `root_count` files.
-fn first_limit(files: &[SourceFile<'_>], root_count: usize) -> Option<u32> {
-    for file in files.iter().take(root_count) {
-        if let Some(tree) = &file.tree
-            && let Some(limit) = recursion_limit(tree.iter().remaining())
-        {
-            return Some(limit);
-        }
-    }
-    None
 }
 
 // Whether one of the notes is an error.

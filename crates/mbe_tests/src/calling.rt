@@ -1,4 +1,4 @@
-// The examples of docs/CALLING.md, word for word, with tests that run them. `logs` has users of the
+// The examples of docs/RATTLE.md, word for word, with tests that run them. `logs` has users of the
 // binding log, who see its contracts alone.
 mod bindings;
 mod definitions;

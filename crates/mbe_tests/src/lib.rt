@@ -7,7 +7,7 @@
 // - Allocation failures at any request, and writers that fail at any call.
 //
 // The tests call `mbe`, `mbe_tt` and `run` of `mbe_program`. `calling` has the examples of
-// docs/CALLING.md. `text` tests the crates of texts and of Rust files. What the programs print is
+// docs/RATTLE.md. `text` tests the crates of texts and of Rust files. What the programs print is
 // tested by tests/mbex and tests/expandm.
 #![tactic(auto)]
 

@@ -38,7 +38,7 @@ for crate in $(for name in $libraries; do echo "crates/$name"; done) "tools/spee
     mkdir -p "$to"
     rm -rf "$to/src" "$to/specs" "$to/proofs"
     for part in src specs proofs out; do
-        # What an earlier run proved here stays.
+        # The proofs of an earlier run remain.
         if [ -e "$top/$crate/$part" ] && [ ! -e "$to/$part" ]; then
             cp -a "$top/$crate/$part" "$to/"
         fi

@@ -1,10 +1,10 @@
 #!/usr/bin/env python3
-"""Prints how many instructions a rule takes that fails at its first token, in a call of the last
-of many rules.
+"""Prints how many instructions a rule takes that fails at its first token, in a call that matches
+the last of many rules.
 
-The script counts the instructions of a call that matches the last rule, subtracts those of a call
-that matches the first, and divides by the number of rules between. MBEX is a program with a
-proof, or one without that unproved.sh makes.
+The script counts the instructions of a call that matches the last rule, and subtracts those of a
+call that matches the first. It divides the difference by the number of rules between. MBEX is a
+proved program, or the program without proof that unproved.sh makes.
 """
 import os
 import sys

@@ -1,6 +1,6 @@
 #!/usr/bin/env python3
-"""Puts hints on inlining into the LLVM text of a program, in place: the module of `rt try` has
-none, the gate's has them.
+"""Adds hints on inlining to the LLVM text of a program, and overwrites it. The module of `rt try`
+has no hints, and the module of the gate has them.
 
 `#[inline(always)]` becomes `alwaysinline`, `#[inline]` `inlinehint`, and `#[inline(never)]`
 `noinline`, at all instances of the function. This script works alone, without tools/common.py,

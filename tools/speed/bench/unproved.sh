@@ -7,9 +7,9 @@
 # program, in the folder of its crate. To run `expandm` alone, take tools/expandm.
 #
 # `rt try` gives clang a module with a check wherever the gate asks for a proof. It compiles this
-# module for a sanitizer that valgrind can't run. So a folder of links to the kit has a script in
-# clang's place, which keeps the module and stops. Then the checks are taken out (with CHECKS=kept
-# they stay), the hints on inlining are put in, and the kit's clang and linker make the program.
+# module for a sanitizer that valgrind can't run. So a folder of links to the kit has a script
+# instead of clang, which keeps the module and stops. Then the checks are removed (with CHECKS=kept
+# they remain), the hints on inlining are added, and the kit's clang and linker make the program.
 #
 # The program is near the gate's program, not equal to it: a function without a hint is inlined
 # otherwise. So compare only programs that this script made.

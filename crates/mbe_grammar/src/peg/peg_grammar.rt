@@ -39,7 +39,7 @@ fn read_tokens<'t, A: Allocator + Copy>(
 }
 
 impl<'t, A: Allocator + Copy> PegGrammar<'t, A> {
-    /// Reads a grammar's text. Each rule is a name, a `=` and a choice; docs/CALLING.md describes
+    /// Reads a grammar's text. Each rule is a name, a `=` and a choice; docs/RATTLE.md describes
     /// the form. An entry point calls the rule of its name (`path`, `expr`, `ty`, `pat`,
     /// `pat_param`, `stmt`, `block`, `meta`, `item`, `vis`), and faults if there is none.
     ///

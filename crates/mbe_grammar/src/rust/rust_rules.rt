@@ -1,9 +1,11 @@
 // Rust's grammar of fragments: the table of rules, the keywords, and the rules of the entry points.
-ghost use Rattle.std.specs.Prelude.{◌≡◌, true, Some};
+ghost use Rattle.std.specs.Prelude.{◌≡◌, true, Some, map};
 ghost use Rattle.mbe_tt.specs.declared.grammar.Dialect.TheVariants.{RustAnalyzer};
+ghost use Rattle.mbe_grammar.specs.Peg.Views.{plain_node};
 ghost use Rattle.mbe_grammar.specs.Rust.Closed.{all_defined};
 ghost use Rattle.mbe_grammar.specs.Rust.Starts.{rust_entry_rules, rust_begin_rules};
 ghost use Rattle.mbe_grammar.specs.Rust.Keywords.{rust_keywords, rows};
+ghost use Rattle.mbe_grammar.specs.Rust.Nodes.{rust_nodes};
 
 use crate::rust::keywords::KEYWORDS;
 use crate::rust::nodes::NODES;
@@ -25,6 +27,7 @@ use mbe_tt::span::Edition;
 /// consumed whole: only the content of `pub (..)` and of a bound's `[const]` is looked at.
 /// `rust.peg` is the same grammar in a readable form.
 pub fn rust_rules(edition: Edition, editions: &[Edition]) -> RuleTable<'_>
+    ensures nodes { map plain_node result.nodes.now ≡ rust_nodes }
     ensures dialect { result.dialect ≡ RustAnalyzer }
     ensures keywords { rows result.keywords.now ≡ rust_keywords }
     ensures starts { result.starts ≡ rust_entry_rules }

@@ -17,7 +17,8 @@ use Rattle.mbe_grammar.specs.Peg.Grammar.{Table, read_text}
 use Rattle.mbe_grammar.specs.Peg.Views.{plain_keyword, plain_node}
 use Rattle.mbe_grammar.specs.Rust.Closed.{all_defined}
 use Rattle.mbe_grammar.specs.Rust.Keywords.{rows, rust_keywords}
-use Rattle.mbe_grammar.specs.Rust.Starts.{rust_entry_rules}
+use Rattle.mbe_grammar.specs.Rust.Nodes.{rust_nodes}
+use Rattle.mbe_grammar.specs.Rust.Starts.{rust_begin_rules, rust_entry_rules}
 use Rattle.mbe_text.specs.RustText.Printer.{text_of}
 use Rattle.mbe_semantics.specs.Syntax.Definition.{Rule}
 use Rattle.mbe_semantics.specs.Syntax.Template.{Fault}
@@ -132,10 +133,13 @@ pub data HasNoTrees (dialect : Dialect) (s : Source) (a : Answer) : Type 0 where
 
 -- ---- the grammar of fragments
 
--- A table of Rust's rules, in that edition and rust-analyzer's dialect.
+-- The table of Rust's rules, whose nodes are those of `rust.peg`, in that edition and
+-- rust-analyzer's dialect.
 pub record IsRustTable (edition : Edition) (t : RuleTable) : Type 0 where
+  pub nodes : map plain_node t.nodes.now ≡ rust_nodes
   pub keywords : rows t.keywords.now ≡ rust_keywords
   pub starts : t.starts ≡ rust_entry_rules
+  pub begins : t.begins ≡ Some rust_begin_rules
   pub closed : all_defined t.nodes.now ≡ true
   pub its_dialect : t.dialect ≡ RustAnalyzer
   pub its_edition : t.edition ≡ edition

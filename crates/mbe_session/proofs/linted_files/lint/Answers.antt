@@ -17,6 +17,7 @@ returns c =
       table = c.rust_rules-grammar.result;
       is_file_table = record {
         is_rust = record {
+          nodes = c.rust_rules-grammar.ensures.nodes;
           keywords = c.rust_rules-grammar.ensures.keywords;
           starts = c.rust_rules-grammar.ensures.starts;
           begins = c.rust_rules-grammar.ensures.begins;

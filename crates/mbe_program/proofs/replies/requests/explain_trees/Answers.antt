@@ -31,8 +31,10 @@ returns-in-Rust-clause-fails g c =
     (answer_of a) c.in-Rust.is (
       t.result,
       record {
+        nodes = t.ensures.nodes;
         keywords = t.ensures.keywords;
         starts = t.ensures.starts;
+        begins = t.ensures.begins;
         closed = t.ensures.closed;
         its_dialect = t.ensures.dialect;
         its_edition = t.ensures.edition;

@@ -6,6 +6,9 @@ use Rattle.mbe_session.specs.Budgets.{full}
 use Rattle.mbe_session.specs.FileViews.{source_of}
 use Rattle.mbe_grammar.specs.Tables.Lawful.{grammar_of}
 use Rattle.mbe_session.specs.OptionViews.{conditions_of, language_of, names_of}
+use Rattle.std.specs.Prelude.{unwrap_or}
+use Rattle.std.specs.Option.{option_or}
+use Rattle.mbe_session.specs.RecursionLimit.{first_limit}
 use Rattle.mbe_session.specs.Sources.{source_text}
 use Rattle.mbe_session.proofs.SessionLemmas.{crates_are, others_are}
 use Rattle.mbe_session.proofs.session.Session.open.Goals as goal
@@ -38,11 +41,16 @@ returns c =
     ≡ language_of options =
     ap (λ d. record { dialect = d; edition = c.settings-settings.result.edition }) dialect
     ∙ ap (λ e. record { dialect = options.dialect; edition = e }) c.settings-settings.ensures.edition in
+    let limit : c.first_limit.result ≡ first_limit (length options.names.items) 0 (map source_of files) =
+    c.first_limit.ensures
+    ∙ ap (λ fs. first_limit c.len-root_count.result 0 (map source_of fs)) c.deref-2.ensures.value
+    ∙ ap (λ m. first_limit m 0 (map source_of files)) n in
     record {
       texts_are = map-map source_text source_of files ∙ c.in_ok-files.ensures.texts;
       table = c.rust_rules-grammar.result;
       is_file_table = record {
         is_rust = record {
+          nodes = c.rust_rules-grammar.ensures.nodes;
           keywords = c.rust_rules-grammar.ensures.keywords;
           starts = c.rust_rules-grammar.ensures.starts;
           begins = c.rust_rules-grammar.ensures.begins;
@@ -56,8 +64,8 @@ returns c =
       grammar = ap (λ e. e.grammar) setting ∙ ap grammar_of c.with_dialect-table.ensures;
       conditions = subst (IsUnder (conditions_of options)) (sym (ap (λ e. e.conditions) setting)) c.conditions.ensures;
       language_is = ap (λ e. e.language) setting ∙ language;
-      limit = c.first_limit.result;
-      depth_is = ap (λ e. e.depth) setting ∙ c.settings-settings.ensures.depth;
+      depth_is = ap (λ e. e.depth) setting ∙ c.settings-settings.ensures.depth
+          ∙ ap (λ l. unwrap_or (option_or options.depth l) 128) limit;
       known = (state_of c.load_externs.new.expander).scope;
       outside = others_are (setting_of c.new-expander.result).language (language_of options) options.with_modules
           (map source_of c.deref-3.result.now) (map source_of files) c.len-root_count.result

@@ -1,0 +1,448 @@
+// Writes how the rules of a macro match a call. First comes the argument, with the token where each
+// rule stops. Then each rule has its verdict, its pattern, and what its variables are bound to.
+ghost use Rattle.mbe_semantics.specs.Expansion.Macro.{IsChecked};
+ghost use Rattle.mbe.specs.MacroViews.{macro_of};
+
+use crate::call_view::CallView;
+use crate::page_data::PageData;
+use crate::token_writer::variable_class;
+use mbe::{Binding, Bindings, DeclarativeMacro, MetaVarKind, Verdict};
+use mbe_diagnostics::outcome::{MatchOutcome, message};
+use mbe_diagnostics::rule_checks::variables::PatternVariable;
+use mbe_diagnostics::rule_part::variable_text;
+use mbe_markup::fragments::fragment_trees;
+use mbe_markup::html::{Html, Part};
+use mbe_markup::railroad::{draw_pattern, write_svg_open};
+use mbe_markup::token_text::{TokenText, token_text};
+use mbe_session::explanation::outcome_of_rule;
+use mbe_session::file_expander::call_steps::{CallState, CallStep};
+use mbe_tt::grammar::FragmentGrammar;
+use mbe_tt::span::Span;
+use mbe_tt::symbol::Symbol;
+use mbe_tt::tt::TokenTreesView;
+use std::alloc::{AllocError, Global};
+
+/// The greatest depth to which nested rounds are shown.
+const LEVELS: u32 = 64;
+
+// Returns the outcome of each of the first `count` rules on a call.
+fn outcomes_of<G: FragmentGrammar>(
+    alloc: Global,
+    grammar: &G,
+    rules: &DeclarativeMacro,
+    step: &CallStep,
+    count: usize,
+) -> Result<Vec<MatchOutcome>, AllocError>
+    requires checked { IsChecked (macro_of rules.now) }
+{
+    let mut outcomes = Vec::new(alloc);
+    for index in 0..rules.num_rules() {
+        if index < count {
+            outcomes.push(outcome_of_rule(alloc, grammar, rules, &step.argument, index)?)?;
+        }
+    }
+    Ok(outcomes)
+}
+
+// Returns the offset of the token where a rule stops, if it stops at one.
+fn stop_of(outcome: &MatchOutcome) -> Option<usize> {
+    match outcome.verdict {
+        Verdict::Stuck(offset) | Verdict::Ambiguous(offset) => Some(offset),
+        Verdict::OneReading | Verdict::ManyReadings => None,
+    }
+}
+
+// Writes the numbers of the rules that stop at an offset.
+fn write_stops(
+    alloc: Global,
+    html: &mut Html,
+    outcomes: &[MatchOutcome],
+    offset: usize,
+) -> Result<(), AllocError> {
+    for (index, outcome) in outcomes.iter().enumerate() {
+        if stop_of(outcome) == Some(offset) {
+            html.write(
+                alloc,
+                &[
+                    Part::Markup(" <sup>rule "),
+                    Part::Number(index.saturating_add(1)),
+                    Part::Markup(" stops here</sup>"),
+                ],
+            )?;
+        }
+    }
+    Ok(())
+}
+
+fn stops_at(outcomes: &[MatchOutcome], offset: usize) -> bool {
+    outcomes.iter().any(|one| stop_of(one) == Some(offset))
+}
+
+// Writes a token where rules stop.
+fn write_mark(
+    alloc: Global,
+    html: &mut Html,
+    outcomes: &[MatchOutcome],
+    offset: usize,
+    token: &str,
+) -> Result<(), AllocError> {
+    html.write(alloc, &[Part::Markup("<mark>"), Part::Text(token)])?;
+    write_stops(alloc, html, outcomes, offset)?;
+    html.write(alloc, &[Part::Markup("</mark>")])
+}
+
+// Writes the tokens of an argument. Those where rules stop are marked.
+fn write_tokens(
+    alloc: Global,
+    html: &mut Html,
+    argument: &TokenText,
+    outcomes: &[MatchOutcome],
+) -> Result<(), AllocError> {
+    let text = argument.text.as_str();
+    let mut at = 0usize;
+    for (offset, token) in argument.tokens.iter().enumerate() {
+        if stops_at(outcomes, offset) {
+            html.write(
+                alloc,
+                &[Part::Text(text.get(at..token.start).unwrap_or(""))],
+            )?;
+            let word = text.get(token.start..token.end).unwrap_or("");
+            write_mark(alloc, html, outcomes, offset, word)?;
+            at = token.end;
+        }
+    }
+    html.write(alloc, &[Part::Text(text.get(at..).unwrap_or(""))])
+}
+
+// Writes the end of an argument, if rules stop there.
+fn write_end(
+    alloc: Global,
+    html: &mut Html,
+    outcomes: &[MatchOutcome],
+    end: usize,
+) -> Result<(), AllocError> {
+    if !stops_at(outcomes, end) {
+        return Ok(());
+    }
+    html.write(alloc, &[Part::Markup(" ")])?;
+    write_mark(alloc, html, outcomes, end, "end")
+}
+
+// Writes the argument of a call as a row of tokens.
+fn write_argument(
+    alloc: Global,
+    html: &mut Html,
+    step: &CallStep,
+    outcomes: &[MatchOutcome],
+) -> Result<(), AllocError> {
+    let argument = token_text(alloc, step.argument.iter().remaining())?;
+    html.write(
+        alloc,
+        &[Part::Markup("<h4>Argument</h4><div class=\"code argument\">")],
+    )?;
+    write_tokens(alloc, html, &argument, outcomes)?;
+    write_end(alloc, html, outcomes, argument.tokens.len())?;
+    html.write(alloc, &[Part::Markup("</div>")])
+}
+
+// Returns the spans of what a rule expected.
+fn expected_spans(alloc: Global, outcome: &MatchOutcome) -> Result<Vec<Span>, AllocError> {
+    let mut spans = Vec::new(alloc);
+    for part in &outcome.expected {
+        if let Some(span) = part.span {
+            spans.push(span)?;
+        }
+    }
+    Ok(spans)
+}
+
+// Writes the pattern of a rule that fails, in which all that it expected is marked.
+fn write_marked_pattern(
+    alloc: Global,
+    html: &mut Html,
+    rules: &DeclarativeMacro,
+    outcome: &MatchOutcome,
+    index: usize,
+) -> Result<(), AllocError> {
+    if index >= rules.num_rules() {
+        return Ok(());
+    }
+    let spans = expected_spans(alloc, outcome)?;
+    let drawing = draw_pattern(alloc, rules.pattern(index), spans.as_slice())?;
+    write_svg_open(alloc, html, &drawing, false)?;
+    html.write(alloc, &[Part::Markup("<g class=\"rail\">")])?;
+    drawing.write_to(html)?;
+    html.write(alloc, &[Part::Markup("</g></svg>")])
+}
+
+// Writes the pattern of a rule by a reference to the list of macros.
+fn write_pattern(
+    alloc: Global,
+    html: &mut Html,
+    view: &CallView<'_>,
+    index: usize,
+) -> Result<(), AllocError> {
+    let Some(called) = view.called else {
+        return Ok(());
+    };
+    let Some(drawing) = called.drawings.get(index) else {
+        return Ok(());
+    };
+    write_svg_open(alloc, html, drawing, true)?;
+    html.write(
+        alloc,
+        &[
+            Part::Markup("<use href=\"#m"),
+            Part::Number(called.number),
+            Part::Markup("r"),
+            Part::Number(index),
+            Part::Markup("\"/></svg>"),
+        ],
+    )
+}
+
+// ---- bindings
+
+// Whether each round is bound to a fragment.
+fn are_fragments(rounds: &[Binding<'_>]) -> bool {
+    for inner in rounds {
+        if !matches!(inner, Binding::Fragment(_)) {
+            return false;
+        }
+    }
+    true
+}
+
+// Writes the rounds of a `tt` in one row, and their number.
+fn write_run(alloc: Global, html: &mut Html, rounds: &[Binding<'_>]) -> Result<(), AllocError> {
+    for inner in rounds {
+        if let Some(trees) = fragment_trees(inner) {
+            write_fragment(alloc, html, trees)?;
+            html.write(alloc, &[Part::Markup(" ")])?;
+        }
+    }
+    html.write(
+        alloc,
+        &[
+            Part::Markup("<em>rounds: "),
+            Part::Number(rounds.len()),
+            Part::Markup("</em>"),
+        ],
+    )
+}
+
+// Writes what a variable is bound to. Rounds are rows.
+fn write_binding(
+    alloc: Global,
+    html: &mut Html,
+    class: &'static str,
+    kind: Option<MetaVarKind>,
+    binding: &Binding<'_>,
+    levels: u32,
+) -> Result<(), AllocError> {
+    if let Some(trees) = fragment_trees(binding) {
+        return write_fragment(alloc, html, trees);
+    }
+    let Binding::Nested(rounds) = binding else {
+        return write_no_fragment(alloc, html, binding);
+    };
+    if kind == Some(MetaVarKind::Tt) && are_fragments(rounds) {
+        return write_run(alloc, html, rounds);
+    }
+    if levels == 0 {
+        return html.write(alloc, &[Part::Text("…")]);
+    }
+    html.write(
+        alloc,
+        &[
+            Part::Markup("<ol class="),
+            Part::Markup(class),
+            Part::Markup(">"),
+        ],
+    )?;
+    for inner in rounds {
+        html.write(alloc, &[Part::Markup("<li>")])?;
+        write_binding(alloc, html, class, kind, inner, levels - 1)?;
+        html.write(alloc, &[Part::Markup("</li>")])?;
+    }
+    html.write(alloc, &[Part::Markup("</ol>")])
+}
+
+// Writes what a variable without a fragment is bound to.
+fn write_no_fragment(
+    alloc: Global,
+    html: &mut Html,
+    binding: &Binding<'_>,
+) -> Result<(), AllocError> {
+    match binding {
+        Binding::Empty => html.write(alloc, &[Part::Markup("<em>no round</em>")]),
+        Binding::Fragment(_) | Binding::Nested(_) | Binding::Missing(_) => {
+            html.write(alloc, &[Part::Markup("<em>nothing</em>")])
+        }
+    }
+}
+
+// Writes the text of a fragment.
+fn write_fragment(
+    alloc: Global,
+    html: &mut Html,
+    trees: TokenTreesView<'_>,
+) -> Result<(), AllocError> {
+    let TokenText { text, .. } = token_text(alloc, trees)?;
+    if text.is_empty() {
+        return html.write(alloc, &[Part::Markup("<em>nothing</em>")]);
+    }
+    html.write(alloc, &[Part::Text(text.as_str())])
+}
+
+// Writes a variable and what it is bound to.
+fn write_variable(
+    alloc: Global,
+    html: &mut Html,
+    index: usize,
+    variable: PatternVariable<'_>,
+    bindings: &Bindings<'_>,
+) -> Result<(), AllocError> {
+    let class = variable_class(index);
+    let quoted = variable_text(alloc, variable.name, variable.kind)?;
+    let name = quoted.as_str().trim_matches('`');
+    html.write(
+        alloc,
+        &[
+            Part::Markup("<li><span class=\"chip "),
+            Part::Markup(class),
+            Part::Markup("\">"),
+            Part::Text(name),
+            Part::Markup("</span> <div class=\"value "),
+            Part::Markup(class),
+            Part::Markup("\">"),
+        ],
+    )?;
+    write_value(alloc, html, class, variable, bindings)?;
+    html.write(alloc, &[Part::Markup("</div></li>")])
+}
+
+// Writes what the variable is bound to.
+fn write_value(
+    alloc: Global,
+    html: &mut Html,
+    class: &'static str,
+    variable: PatternVariable<'_>,
+    bindings: &Bindings<'_>,
+) -> Result<(), AllocError> {
+    let symbol = Symbol::intern(alloc, variable.name)?;
+    match bindings.get(&symbol) {
+        Some(binding) => write_binding(alloc, html, class, variable.kind, binding, LEVELS),
+        None => html.write(alloc, &[Part::Markup("<em>nothing</em>")]),
+    }
+}
+
+// Writes what the variables of the rule that applies are bound to.
+fn write_bindings(alloc: Global, html: &mut Html, view: &CallView<'_>) -> Result<(), AllocError> {
+    let Some(bindings) = &view.bindings else {
+        return Ok(());
+    };
+    if view.variables.is_empty() {
+        return Ok(());
+    }
+    html.write(alloc, &[Part::Markup("<ul class=\"bindings\">")])?;
+    for (index, variable) in view.variables.iter().enumerate() {
+        write_variable(alloc, html, index, *variable, bindings)?;
+    }
+    html.write(alloc, &[Part::Markup("</ul>")])
+}
+
+// ---- rules
+
+// Writes the verdict of a rule.
+fn write_verdict(
+    alloc: Global,
+    html: &mut Html,
+    outcome: &MatchOutcome,
+    index: usize,
+) -> Result<(), AllocError> {
+    let number = index.saturating_add(1);
+    let rule = format!(in alloc; "rule {number}")?;
+    let text = message(alloc, rule.as_str(), outcome)?;
+    let opening = match outcome.verdict {
+        Verdict::OneReading => "<div class=\"rule yes\"><h4>",
+        Verdict::ManyReadings | Verdict::Ambiguous(_) | Verdict::Stuck(_) => {
+            "<div class=\"rule no\"><h4>"
+        }
+    };
+    html.write(
+        alloc,
+        &[
+            Part::Markup(opening),
+            Part::Text(text.as_str()),
+            Part::Markup("</h4>"),
+        ],
+    )
+}
+
+// Writes a rule: its verdict, its pattern, and what its variables are bound to if it applies.
+fn write_rule(
+    alloc: Global,
+    html: &mut Html,
+    view: &CallView<'_>,
+    rules: &DeclarativeMacro,
+    outcome: &MatchOutcome,
+    index: usize,
+) -> Result<(), AllocError> {
+    write_verdict(alloc, html, outcome, index)?;
+    html.write(alloc, &[Part::Markup("<div class=\"track\">")])?;
+    match view.rule {
+        Some(_) => write_pattern(alloc, html, view, index)?,
+        None => write_marked_pattern(alloc, html, rules, outcome, index)?,
+    }
+    html.write(alloc, &[Part::Markup("</div>")])?;
+    if view.rule == Some(index) {
+        write_bindings(alloc, html, view)?;
+    }
+    html.write(alloc, &[Part::Markup("</div>")])
+}
+
+fn write_rules(
+    alloc: Global,
+    html: &mut Html,
+    step: &CallStep,
+    view: &CallView<'_>,
+    rules: &DeclarativeMacro,
+    outcomes: &[MatchOutcome],
+) -> Result<(), AllocError> {
+    let opening = match step.state {
+        CallState::Failed => "<details class=\"match\" open><summary>Match</summary>",
+        CallState::Expanded | CallState::Unknown => {
+            "<details class=\"match\"><summary>Match</summary>"
+        }
+    };
+    html.write(alloc, &[Part::Markup(opening)])?;
+    write_argument(alloc, html, step, outcomes)?;
+    for (index, outcome) in outcomes.iter().enumerate() {
+        write_rule(alloc, html, view, rules, outcome, index)?;
+    }
+    html.write(alloc, &[Part::Markup("</details>")])
+}
+
+/// Writes how the rules of the macro match a call, up to the rule that applies. `AllocError` if out
+/// of memory.
+pub fn write_match(
+    alloc: Global,
+    html: &mut Html,
+    shown: &PageData<'_>,
+    step: &CallStep,
+    view: &CallView<'_>,
+) -> Result<(), AllocError> {
+    let Some(rules) = view.rules else {
+        return Ok(());
+    };
+    if rules.err().is_some() {
+        return Ok(());
+    }
+    let count = match view.rule {
+        Some(rule) => rule.saturating_add(1),
+        None => rules.num_rules(),
+    };
+    let outcomes = outcomes_of(alloc, &shown.grammar, rules, step, count)?;
+    write_rules(alloc, html, step, view, rules, outcomes.as_slice())
+}
