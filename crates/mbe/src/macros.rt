@@ -92,9 +92,9 @@ impl<A: Allocator + Copy> DeclarativeMacro<A> {
     /// `AllocError` if out of memory, and if more than `NESTING_LIMIT` groups and repetitions are
     /// nested.
     ///
-    /// The grammar is that of the Rust Reference ("Macros By Example") as rust-analyzer parses it.
-    /// Two choices are this project's own: a stray token after a rule is always reported, and every
-    /// repetition without a separator that can match no token is refused.
+    /// The function follows the grammar in the Rust Reference ("Macros By Example") as
+    /// rust-analyzer does. Two choices are this project's own: a stray token after a rule is always
+    /// reported, and every repetition without a separator that can match no token is refused.
     pub fn parse_macro_rules<E: Copy + Fn(SyntaxContext) -> Edition>(
         alloc: A,
         tt: &TopSubtree<A>,

@@ -225,8 +225,8 @@ impl<'a, A: Allocator + Copy> Bindings<'a, A> {
         self.grow(alloc, number, name, value)
     }
 
-    // Adds a value to the name's list. A name that isn't bound gets a list. A value that is no list
-    // stays.
+    // Adds a value to the name's list. A name that isn't bound gets a list. A binding that is no
+    // list is unchanged.
     pub(crate) fn grow(
         &mut self,
         alloc: A,
@@ -252,7 +252,7 @@ impl<'a, A: Allocator + Copy> Bindings<'a, A> {
     }
 }
 
-// Adds a value to a list. A binding that is no list stays.
+// Adds a value to a list. A binding that is no list is unchanged.
 fn grow_value<'a, A: Allocator + Copy>(
     alloc: A,
     binding: &mut Binding<'a, A>,

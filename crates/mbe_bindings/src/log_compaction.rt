@@ -1,7 +1,7 @@
 // Compaction of logs: makes a log with the entries that some handles need. It is a garbage
 // collection by copying.
 //
-// A match follows several threads, and most of them fail. What they wrote stays in the log, since a
+// A match follows several threads, and most of them fail. Their entries remain in the log, since a
 // log only grows. With n optional parts in a pattern, n threads write n lists at each of n offsets,
 // and n of those lists are needed at the next offset. So a match makes a compacted log from time to
 // time and drops the old one.
@@ -15,8 +15,8 @@
 //     0: x y   1: ->0,1 z w   2: v  1,2      1 2 -   0,1 1,2 -     0: x   1: ->0,1 z     1,2
 //
 // Nothing is proved of the search. Its result is checked before it is used. Everything that a kept
-// entry refers to must be kept (`are_kept`). The lists of the extent must stay as they are
-// (`are_unmoved`).
+// entry refers to must be kept (`are_kept`). The lists of the extent must be unchanged, with their
+// numbers (`are_unmoved`).
 ghost use Rattle.std.specs.Prelude.{◌≡◌, IfOk, IfSome, IsTrue, option_map, slice_get};
 ghost use Rattle.mbe_semantics.specs.Bindings.Account.{Handle as HandleSpec, Log};
 ghost use Rattle.mbe_log.specs.HandleChanges.{KeepsHandles};
@@ -534,7 +534,7 @@ fn find_live<A: Allocator + Copy>(
 }
 
 // Returns whether the result may be used: everything that a kept entry stands for is kept, and the
-// lists of the extent stay as they are.
+// lists of the extent are unchanged.
 fn is_sound<A: Allocator + Copy>(
     commands: &[ChainList<Command<'_, A>, A>],
     rounds: &[ChainList<ListPrefix, A>],

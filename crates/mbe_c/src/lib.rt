@@ -44,7 +44,7 @@ pub struct Reply {
     pub span: FlatSpan,
     /// The column of the fault, for `NoGrammar`. A column above 2^32 - 1 is given as 2^32 - 1.
     pub column: u32,
-    /// The place of the fault: the byte for `NoTokens`, the token for `NoTrees`, the line for
+    /// The location of the fault: the byte for `NoTokens`, the token for `NoTrees`, the line for
     /// `NoGrammar`. For `mbe_c_define`, this is the number of rules.
     pub place: usize,
     /// The number of tokens or verdicts, which may be more than the buffer has room for.

@@ -35,8 +35,8 @@ pub fn first_two()
     ensures { FirstTwo }
 {}
 
-/// At each offset the walk by a stack takes at most six iterations for each state, and one more. So
-/// the iterations of a match are linear in the length of the argument.
+/// At each offset, the loop of the walk by a stack runs at most six times for each state, and once
+/// more. So the number of runs in a match is linear in the length of the argument.
 pub fn linear_iterations()
     ensures { LinearIterations }
 {}
@@ -114,7 +114,7 @@ pub fn reversed_law()
     ensures { ReversedLaw }
 {}
 
-/// In that order the same bound holds for the iterations of the walk.
+/// In that order, the loop of the walk has the same bound.
 pub fn reversed_iterations()
     ensures { ReversedIterations }
 {}

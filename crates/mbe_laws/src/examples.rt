@@ -213,7 +213,7 @@ pub fn marked_example()
     ensures { MarkedExample }
 {}
 
-/// Which kind a specifier means, and with which entry point the grammar is called.
+/// The kind that each specifier means, and its entry point in the grammar.
 pub fn specifier_examples()
     ensures { SpecifierExamples }
 {}

@@ -75,7 +75,7 @@ struct StepWidth {
     by_fragment: bool,
 }
 
-// How a thread goes on: what it expects next, and its step over tokens if that is there.
+// How a thread continues: what it expects next, and its step over tokens, if it has one.
 #[derive(Drop)]
 struct NextStep<'a, A: Allocator = Global> {
     next: Option<Expected<'a, A>>,

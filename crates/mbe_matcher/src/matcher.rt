@@ -28,10 +28,12 @@
 // once (`step_alone`). Most threads do.
 //
 // The future of a thread depends on its state alone. So at each offset the matcher follows two
-// threads of a state, and drops any more: the first shows that the state is reached, the second
-// that there are two readings. The work at an offset is bounded by the number of states, so a match
-// is linear in the argument. The report of a match that fails is about all threads. If the first
-// pass dropped a thread, a second pass makes the report (`report_up_to`).
+// threads of a state, and drops any more. The first thread shows that the state is reached. The
+// second shows that there are two readings. The number of states bounds the work at an offset, so a
+// match is linear in the argument.
+//
+// The report of a match that fails is about all threads. If the first pass dropped a thread, a
+// second pass makes the report (`report_up_to`).
 //
 // In `$($x:ident),* ;` the states are 5 before the repetition, 4 before `$x`, 3 after it, 2 before
 // `;` and 1 at the end. A match of `p, q ;` follows these threads:

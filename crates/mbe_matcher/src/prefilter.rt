@@ -1,8 +1,8 @@
 // A prefilter: a look at the pattern's first op before a match.
 //
 // If the first op doesn't fit the argument's first trees, the match is stuck at offset 0, whatever
-// follows that op. Most rules of a large macro fail this way. The prefilter finds this out before
-// any thread is set up.
+// follows that op. Most rules of a large macro fail on their first op. The prefilter finds such a
+// rule before any thread is set up.
 ghost use Rattle.std.specs.Prelude.{◌≡◌, IfOk, IfSome, OnOk, Some, None, true};
 ghost use Rattle.mbe_tt.specs.Grammars.Grammar.{Grammar, IsLawful};
 ghost use Rattle.mbe_tt.specs.Views.View.{trees};

@@ -1,5 +1,5 @@
-// Types for the fields of an op. They keep rare and large values on the heap, so that an op stays
-// small: at most 56 bytes if the allocator takes none.
+// Types for the fields of an op. They keep rare and large values on the heap, so that an op is
+// small: at most 56 bytes with an allocator of size 0.
 ghost use Rattle.std.specs.Prelude.{◌≡◌, [], ◌∷◌, IfOk, is_some, option_copied};
 ghost use Rattle.mbe_ops.specs.OpFields.{delimiter_of};
 ghost use Rattle.mbe_ops.specs.OpFields as spec;

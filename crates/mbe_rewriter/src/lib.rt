@@ -1,9 +1,9 @@
 // Finds calls and definitions of macros in token trees, and prepares expansions to replace calls in
 // a text.
 //
-// The crate looks at the front of trees for a call or a definition, also with attributes on the
-// call. It keeps operators of different texts apart, renames locals for hygiene, and puts
-// parentheses around fragments that must stay whole. It also replaces parts of a text.
+// The crate finds a call or a definition at the front of trees, also a call with attributes. It
+// keeps operators of different texts apart, and renames locals for hygiene. It puts parentheses
+// around fragments that the parser must not split. It also replaces parts of a text.
 #![tactic(auto)]
 
 pub mod attributed_calls;

@@ -2,7 +2,7 @@
 //
 // A template that has `:$t` joins its `:` to the `$`. If `$t` is `::a`, three `:` follow each other
 // in the expansion. They are still `:` and `::`, as in rustc, which keeps tokens apart. So a punct
-// stays joint to the next one only if the two are adjacent in one text.
+// remains joint to the next one only if the two are adjacent in one text.
 ghost use Rattle.std.specs.Prelude.{◌≡◌, ◌<◌, length, IfOk, OnOk};
 ghost use Rattle.mbe_tt.specs.Buffers.GroupStack.{put};
 ghost use Rattle.mbe_tt.specs.Trees.Tree.{front_punct};

@@ -7,7 +7,8 @@ pub struct CallCounts {
     pub calls: usize,
     /// Those of these calls that are expanded.
     pub expanded: usize,
-    /// The calls of macros that no file defines, without those of the standard library.
+    /// The calls of macros that no file defines. Calls of the standard library's macros don't
+    /// count.
     pub unknown: usize,
 }
 

@@ -1,10 +1,15 @@
-// Whether every macro that a plain name of a file can mean is known: one that the file defines, or
-// one of the standard library.
+// Decides whether every macro that a plain name of a file can mean is known. The file or the
+// standard library defines a known macro.
 //
-// A file gets other macros by a glob import, by paths into other crates, by `#[macro_use]`, by
-// `include!`, by modules in other files, and by a template that defines a macro of any name. Each
-// of these words ends the search, also where it is harmless. A file without `fn main` may itself be
-// a module, so that it has macros of its crate.
+// A file can get other macros from:
+//
+// - a glob import, or a path into another crate;
+// - `#[macro_use]` or `include!`;
+// - a module in another file;
+// - a template that defines a macro of any name.
+//
+// If the file has one of these, the answer is no, even if no macro comes from there. The answer is
+// also no without `fn main`. Such a file may be a module, which can use the macros of its crate.
 use crate::source_files::SourceFile;
 use mbe_tt::tt::{Leaf, TokenTreesView, TtElement};
 
@@ -131,8 +136,8 @@ fn is_closed(tokens: TokenTreesView<'_>) -> bool {
     before.has_main
 }
 
-/// Whether the files are the single file of a program, and every macro that a plain name of it can
-/// mean is one that it defines or one of the standard library.
+/// Whether there is a single file, which is a program, and every macro that its plain names can
+/// mean is known.
 pub(crate) fn is_closed_text(files: &[SourceFile<'_>]) -> bool {
     let [file] = files else {
         return false;

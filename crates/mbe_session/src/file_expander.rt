@@ -489,7 +489,7 @@ impl<'g, A: Allocator + Copy> FileExpander<'g, A> {
         self.explain(call, argument, false)
     }
 
-    // Notes an expansion in the ways that the settings ask for.
+    // Adds the notes on an expansion that the settings ask for.
     fn note_expansion(
         &mut self,
         call: MacroCall<'_, A>,

@@ -1,8 +1,8 @@
 // Lines of a text, and the mapping from the text without carriage returns back to the original.
 //
 // Before it lexes, rustc reads a carriage return and a line feed as one line feed. `Lines` does the
-// same. It keeps the text with each `\r\n` as `\n`, and the places of the carriage returns. Spans
-// are bytes of that text. A replacement is mapped back to the original before it is spliced.
+// same. It keeps the text with each `\r\n` as `\n`, and the offsets of the carriage returns. Spans
+// count the bytes of that text. A replacement is mapped back to the original before it is spliced.
 ghost use Rattle.std.specs.Prelude.{◌≡◌, ◌≤◌, ◌<◌, ◌+◌, IfOk, drop, length, count_by, map, min};
 ghost use Rattle.std.specs.List.{slice_index};
 ghost use Rattle.std.specs.String.{string_bytes};

@@ -72,7 +72,7 @@ pub struct Location<'t> {
     pub text: &'t str,
 }
 
-/// The place of a diagnostic that belongs to no file.
+/// The location of a diagnostic that belongs to no file.
 pub const NOWHERE: Location<'static> = Location {
     line: 1,
     column: 1,

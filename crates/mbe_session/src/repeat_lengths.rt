@@ -368,8 +368,8 @@ fn unequal_in_op<'b, A: Allocator + Copy>(
     }
 }
 
-// Compares the variables that a repetition uses, and then those of the repetitions in it, in each
-// round.
+// Compares the variables that a repetition uses. Then it compares, in each round, the variables of
+// the repetitions inside.
 #[cycle(unequal)]
 fn unequal_in_repetition<'b, A: Allocator + Copy>(
     alloc: A,

@@ -170,9 +170,11 @@ impl<'w, A: Allocator + Copy> SessionOptions<'w, A> {
         }
     }
 
-    /// Returns the settings of the expander. `limit` is the limit of nested expansions that the
-    /// files set; `explain` is the calls to explain; `is_closed` says whether every macro that a
-    /// plain name can mean is known.
+    /// Returns the settings of the expander:
+    ///
+    /// - `limit` is the limit of nested expansions that the files set.
+    /// - `explain` is the calls to explain.
+    /// - `is_closed` says whether every macro that a plain name can mean is known.
     pub fn settings(
         &self,
         limit: Option<u32>,

@@ -5,9 +5,9 @@ use mbe::DeclarativeMacro;
 use std::alloc::{AllocError, Global};
 use test_rows::{nth, rows};
 
-// Definitions. The macros of the first thirteen differ from each other and from all later ones; all
-// but two of the thirteen are at the same places. Then come pairs that are equal, whose separators
-// are at different places.
+// Definitions. The macros of the first thirteen differ from each other and from all later macros.
+// Equal tokens have equal spans in all but two of the thirteen. The pairs at the end are equal. The
+// separators of a pair have different spans.
 pub const ROWS: &str = rows![
     ("($($x:ident),*) => {}"),
     ("($($x:ident);*) => {}"),

@@ -66,7 +66,7 @@ pub fn passes(
 // 1. How many flat tokens the grammar counts, and how it ends.
 // 2. An entry point and a text.
 // 3. The numbers of trees and of flat tokens of the fragment.
-// 4. The position of the next tree.
+// 4. The bytes of the next tree.
 // 5. The error with its file and its bytes.
 pub const ROWS: &str = rows![
     // Whole trees.

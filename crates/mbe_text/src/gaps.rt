@@ -232,7 +232,7 @@ impl LastToken {
         }
     }
 
-    // Returns whether a punct may stay next to the token that it is adjacent to in a file.
+    // Returns whether a punct may directly follow the last token. The two are adjacent in a file.
     //
     // - After a word, `#` and `'` may not. The word would become a prefix.
     // - After a literal, `.` may only if the token after it is adjacent too. `1.` alone is another

@@ -42,8 +42,9 @@ pub fn trees_round_trip()
     ensures { TreesRoundTrip }
 {}
 
-/// A string, byte string or C string that the lexer reads whole by itself is also read whole before
-/// text that doesn't continue its suffix, such as a `.`. So it is a literal of `IsRust`.
+/// Let the lexer read a string, byte string or C string whole by itself. Then it also reads the
+/// string whole before text that doesn't continue its suffix, such as a `.`. So the string is a
+/// literal of `IsRust`.
 pub fn strings_are_read()
     ensures { StringsAreRead }
 {}

@@ -2,9 +2,9 @@
 //
 // It puts each statement on a line of its own, indented by four spaces for each brace around it.
 //
-// Two tokens that are adjacent in one file stay adjacent, unless they would run together. Between
+// Two tokens that are adjacent in one file remain adjacent, unless they would run together. Between
 // any other two tokens there is a space if they would run together, or if people write one there.
-// Puncts that are taken together as one operator stay together. Doc comments are written as such.
+// The puncts of one operator remain together. Doc comments are written as such.
 ghost use Rattle.std.specs.Prelude.{◌≡◌, ◌++◌, option_map, OnOk, Some};
 ghost use Rattle.std.specs.String.{string_bytes};
 ghost use Rattle.mbe_tt.specs.Views.LeafViews.{ident_of, literal_of, leaf_of};

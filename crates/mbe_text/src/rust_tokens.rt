@@ -661,8 +661,8 @@ pub(crate) fn begins_doc(text: &str) -> bool
         || begins_with(text, "/*!")
 }
 
-// Returns the text from the first carriage return on. Few texts have one, and a look at the bytes
-// is the fastest way to exclude it.
+// Returns the text from the first carriage return on. Few texts have a carriage return, and a
+// search of the bytes is the fastest test for one.
 fn from_carriage_return(text: &str) -> Option<&str>
     ensures exact { maybe_seen result ≡ spec.from_carriage_return (chars text.now) }
     ensures end { IfSome result (λ at. IsEnd text.now at.now) }

@@ -8,9 +8,9 @@ use mbe_tt::symbol::Symbol;
 use std::alloc::{AllocError, Allocator, Global};
 use std::hash::{FoldHasher, Hasher};
 
-// The number of slots in which a text is looked for. An input may choose its texts so that they
-// all begin at one slot. Then the table keeps some of them more than once, and the work for each
-// text stays bounded.
+// The number of slots in which a text is looked for. An input may choose its texts so that they all
+// begin at one slot. Then the table keeps some of them more than once, so that the work for each
+// text is bounded.
 const MAX_PROBES: usize = 32;
 
 // The number that marks a free slot. No symbol has it.
@@ -53,7 +53,7 @@ impl<A: Allocator + Copy> SymbolTable<A> {
     }
 
     /// Returns the symbol of that text, whatever the table was asked for before. Returns
-    /// `AllocError` if out of memory; the table stays usable.
+    /// `AllocError` if out of memory. Then the table is still usable.
     #[inline]
     pub fn intern(&mut self, text: &str) -> Result<Symbol<A>, AllocError>
         ensures { IfOk result (λ s. s ≡ text.now) }

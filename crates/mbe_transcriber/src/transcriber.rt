@@ -49,7 +49,7 @@ use mbe_variables::variable_lookup::{
 };
 use std::alloc::{AllocError, Allocator};
 
-/// The context of a transcription: what stays the same for all ops.
+/// The context of a transcription: what is the same for all ops.
 #[derive_where(Clone, Copy; A, M)]
 pub(crate) struct ExpandCtx<'t, 'a, A: Allocator, G, M> {
     alloc: A,

@@ -92,8 +92,8 @@ impl<'a, A: Allocator> Cursor<'a, A> {
         first_tree(left)
     }
 
-    /// Returns the trees from the view's beginning to the cursor. The cursor must be in no group
-    /// of the view.
+    /// Returns the trees from the view's start to the cursor. The cursor must be in no group of the
+    /// view.
     pub fn crossed(&self) -> TokenTreesView<'a, A>
         requires { IsAtRoot self.now }
         ensures all { append (trees result) (rest_at_cursor self.now) ≡ cursor_trees self.now }

@@ -46,9 +46,9 @@ pub struct Front {
 /// - It counts at most as many flat tokens as there are.
 /// - It counts none without a fault only for `Vis`.
 ///
-/// In rustc's dialect, a call ends where a fragment begins and has a fault. A grammar for rustc's
-/// dialect counts zero flat tokens where the fragment doesn't begin. Where the fragment begins and
-/// has a fault, it counts at least one.
+/// In rustc's dialect, a fragment that begins and has a fault ends the call. A grammar for rustc's
+/// dialect counts zero flat tokens if the fragment doesn't begin. It counts at least one flat token
+/// if the fragment begins and has a fault.
 pub trait FragmentGrammar {
     ghost use Rattle.mbe_tt.specs.Trees.Tree.{flat};
     ghost use Rattle.mbe_tt.specs.Views.View.{trees};

@@ -18,13 +18,16 @@ impl<A: Allocator + Copy> DeclarativeMacro<A> {
     /// Returns what the rule with this index expects at the offset of its verdict on an argument,
     /// whatever the rule's style and template.
     ///
-    /// It requires what `explain` requires, and returns the verdict of `explain`. `expected` lists
-    /// what comes next in the pattern after each partial reading that ends at the offset of the
-    /// verdict. That offset is the argument's end if there are readings and no ambiguity. An
-    /// element is a token, a variable or a group of the pattern, a separator, the end of a group,
-    /// or the end of the argument. The list is complete and has nothing else, but an element may be
-    /// in it twice. If the verdict is `Ambiguous`, `ambiguity` has the two elements of two partial
-    /// readings that can both continue there in different ways. Else it is `None`.
+    /// It requires what `explain` requires, and returns the verdict of `explain`.
+    ///
+    /// `expected` lists what comes next in the pattern after each partial reading that ends at the
+    /// offset of the verdict. That offset is the argument's end if there are readings and no
+    /// ambiguity. An element is a token, a variable or a group of the pattern, a separator, the end
+    /// of a group, or the end of the argument. The list is complete and has nothing else, but an
+    /// element may be in it twice.
+    ///
+    /// If the verdict is `Ambiguous`, `ambiguity` has the two elements of the local ambiguity: a
+    /// partial reading can continue with each of them. Else it is `None`.
     ///
     /// The only failure is `AllocError`, if out of memory here or in the grammar.
     pub fn expectations<'a, G: FragmentGrammar>(

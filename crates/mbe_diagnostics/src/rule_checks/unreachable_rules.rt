@@ -151,11 +151,15 @@ fn push_if_covered<A: Allocator>(
     Ok(())
 }
 
-/// Returns the rules that no call reaches, each with the first earlier rule that matches every
-/// argument that it matches. Both are indices, from 0. The earlier rule has the same style. Its
-/// pattern is `$($t:tt)*`, or differs from the later one at most in the names of variables. Its
-/// template fails under no match, since after a fault the search for a rule goes on. Other rules
-/// may be unreachable too. `AllocError` if out of memory, or if 2^64 repetitions are nested.
+/// Returns rules that no call reaches, each with the first earlier rule that covers it. Both are
+/// indices, from 0. Other rules may be unreachable too. `AllocError` if out of memory, or if 2^64
+/// repetitions are nested.
+///
+/// An earlier rule covers a later rule of the same style under two conditions:
+///
+/// - Its pattern is `$($t:tt)*`, or differs from the later pattern at most in the names of
+///   variables.
+/// - Its template fails under no match. After a fault, the search for a rule would continue.
 pub fn unreachable_rules<A: Allocator + Copy>(
     alloc: A,
     rules: &[Rule<A>],

@@ -52,7 +52,7 @@ impl<T, E> ValueResult<T, E> {
         }
     }
 
-    /// Pairs the value with `other`. The error stays the same.
+    /// Pairs the value with `other`. The error is unchanged.
     pub fn zip_val<U>(self, other: U) -> ValueResult<(T, U), E>
         ensures { result ≡ record { value = (self.value, other); err = self.err } }
     {
@@ -62,7 +62,7 @@ impl<T, E> ValueResult<T, E> {
         }
     }
 
-    /// Applies `f` to the value. The error stays the same.
+    /// Applies `f` to the value. The error is unchanged.
     pub fn map<U, F: FnOnce(T) -> U>(self, f: F) -> ValueResult<U, E>
         requires { F.pre f self.value }
         ensures value { F.post f self.value result.value }
@@ -75,7 +75,7 @@ impl<T, E> ValueResult<T, E> {
         }
     }
 
-    /// Applies `f` to the error, if there is one. The value stays the same.
+    /// Applies `f` to the error, if there is one. The value is unchanged.
     pub fn map_err<D, F: FnOnce(E) -> D>(self, f: F) -> ValueResult<T, D>
     where
         F: Drop,

@@ -106,7 +106,7 @@ pub struct Answer<A: Allocator> {
     pub status: Status,
     /// The input at fault.
     pub part: RequestPart,
-    /// The position of the fault: the byte for `NoTokens`, the token for `NoTrees`, the line for
+    /// The location of the fault: the byte for `NoTokens`, the token for `NoTrees`, the line for
     /// `NoGrammar`.
     pub place: usize,
     /// The column of the fault, for `NoGrammar`.

@@ -23,7 +23,7 @@ use mbe_tt::tt::{Leaf, Literal};
 use std::alloc::{AllocError, Allocator};
 
 /// A word of the trees, or another token that matters to locals. Such a token is a name that a
-/// string mentions, the end of a value or of an arm, or the beginning or the end of a group.
+/// string mentions, the end of a value or of an arm, or the start or the end of a group.
 #[derive(Clone, Copy, Drop)]
 pub(crate) struct Word<'t> {
     pub(crate) text: &'t str,

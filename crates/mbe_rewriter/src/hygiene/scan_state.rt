@@ -532,7 +532,7 @@ fn late_inside(scan: ScanState) -> bool
     }
 }
 
-/// Returns the state at the beginning of a group, by the state before the group.
+/// Returns the state at the start of a group, from the state before the group.
 pub(crate) fn inside_group<A: Allocator>(
     scan: ScanState,
     kind: DelimiterKind,

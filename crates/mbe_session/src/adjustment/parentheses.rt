@@ -239,8 +239,9 @@ fn begins_with_postfix<A: Allocator>(rest: TokenTreesView<'_, A>) -> bool {
 }
 
 // Returns the delimiters that keep an expression, a pattern or a type whole after `last`, before
-// `rest`. An attribute may be on the value of a block, but not on an expression in parentheses.
-// Where a statement or a value begins, braces would be all of it, except before a `.` or a `?`.
+// `rest`. An attribute may be on the value of a block, but not on an expression in parentheses. A
+// block at the start of a statement or of a value is all of it, unless a `.` or a `?` follows the
+// block.
 fn delimiters_around<A: Allocator>(
     tokens: TokenTreesView<'_, A>,
     last: Preceding,

@@ -73,8 +73,8 @@ fn pattern_text<'t>(
     None
 }
 
-// Whether a name that a call binds in a pattern meets another one: the pattern or its scope has the
-// name, or the pattern has another call of that macro.
+// Whether a name that a call binds in a pattern meets an equal name. Then the pattern or its scope
+// has the name, or the pattern has another call of that macro.
 fn is_met(text: PatternText<'_>, called: &str, name: &str) -> bool {
     word_count(text.scope, name) > 0
         || word_count(text.pattern, name) > 0

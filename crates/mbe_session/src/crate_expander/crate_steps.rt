@@ -34,9 +34,9 @@ fn add_steps(
 }
 
 impl Session<'_> {
-    /// Expands the calls of the session's own crates, and returns each call that is met, in the
-    /// order in which they are expanded. What is wrong is noted. `options` are those that the
-    /// session was opened with. The files stay as they are. `AllocError` if out of memory.
+    /// Expands the calls of the session's own crates. Returns each call that is met, in the order
+    /// of their expansion. Notes what is wrong. `options` must be the options that the session was
+    /// opened with. The files are unchanged. `AllocError` if out of memory.
     pub fn call_steps(
         &mut self,
         alloc: Global,

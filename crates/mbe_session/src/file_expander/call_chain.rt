@@ -1,5 +1,6 @@
-// Notes the calls that led to a place in an expansion, in the words and with the numbers of rustc's
-// `-Z macro-backtrace`: first the call in the file, then the calls that the expansions wrote.
+// Notes the calls that led to a call in an expansion. The first note is on the call in the file.
+// The next notes are on the calls that the expansions wrote. The texts and the numbers are the same
+// as for rustc's `-Z macro-backtrace`.
 ghost use Rattle.std.specs.Prelude.{◌≡◌, OnOk};
 ghost use Rattle.mbe_session.specs.SessionViews.{setting_of, state_of};
 
@@ -63,8 +64,8 @@ impl<A: Allocator + Copy> FileExpander<'_, A> {
     }
 }
 
-// Returns the span of a call, from its path to its closing delimiter. It is that of the name, if
-// the parts of the call are from different places.
+// Returns the span of a call, from its path to its closing delimiter. If the two are in different
+// files or in the wrong order, it returns the span of the name.
 fn whole_span<A: Allocator>(call: MacroCall<'_, A>) -> Span {
     let (start, close) = (call.start, call.group.delimiter.close);
     if start.file != close.file || close.end < start.end {
@@ -81,8 +82,8 @@ fn is_same_part(one: Span, other: Span) -> bool {
     one.file == other.file && one.start == other.start && one.end == other.end
 }
 
-// Returns the first `count` calls, the last one first. As in rustc, a call at the place of one of
-// the two that follow it isn't repeated: a recursion has it again and again.
+// Returns the first `count` calls, the last one first. As in rustc, the list omits a call with the
+// span of one of the two calls before it in the list. A recursive macro repeats such spans.
 fn without_repeats<A: Allocator + Copy>(
     alloc: A,
     calls: &[Span],

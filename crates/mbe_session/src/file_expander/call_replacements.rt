@@ -227,8 +227,8 @@ impl<A: Allocator + Copy> FileExpander<'_, A> {
         self.replace_in(replacements, texts, tokens, place, levels - 1)
     }
 
-    // Adds the replacement for a call, and returns the trees after it. A call stays if its expansion
-    // asks for more than the limits allow; it then uses nothing of them.
+    // Adds the replacement for a call, and returns the trees after it. A call whose expansion asks
+    // for more than the limits allow is unchanged, and uses nothing of the limits.
     #[cycle(replacing)]
     fn replace_call<'t>(
         &mut self,
@@ -355,7 +355,8 @@ impl<A: Allocator + Copy> FileExpander<'_, A> {
         self.scope.is_unclaimed(name)
     }
 
-    // Returns what calls of built-in macros expand to, in the expansion of a call at that place.
+    // Returns what calls of built-in macros expand to, in the expansion of a call at that line and
+    // column.
     fn builtins(&self, place: LineColumn) -> Builtins
         ensures { result ≡ spec.builtins (state_of self.now) place.line place.column }
     {
@@ -367,8 +368,8 @@ impl<A: Allocator + Copy> FileExpander<'_, A> {
         }
     }
 
-    // Returns the text of an expansion that replaces a call at that place, in a line with that
-    // indentation.
+    // Returns the text of an expansion that replaces a call at that line and column. The line has
+    // that indentation.
     fn text_at(
         &self,
         tree: &TopSubtree<A>,

@@ -1,4 +1,4 @@
-// Expands the calls of trees, and records each call that is met: its place, its argument, the
+// Expands the calls of trees, and records each call that is met: where it is, its argument, the
 // definition that it resolves to, and its expansion.
 //
 // A call of a file and the calls in its expansion are steps, in the order in which they are
@@ -62,8 +62,8 @@ pub struct CallStep<A: Allocator = Global> {
     /// The syntax contexts of the tokens that the template gave to the expansion: from the first
     /// number on, and before the second.
     pub contexts: (u32, u32),
-    /// The notes on the call among those of the expander: from the first number on, and before the
-    /// second. They are about the call alone, and not about the calls in its expansion.
+    /// The notes on the call, as indices of the expander's notes: from the first number on, and
+    /// before the second. They are about the call alone, and not about the calls in its expansion.
     pub notes: (usize, usize),
 }
 
@@ -120,7 +120,7 @@ fn passed<A: Allocator>(tokens: TokenTreesView<'_, A>, rest: TokenTreesView<'_, 
 }
 
 impl StepPlace {
-    // Returns the place of `count` tokens, so many tokens after this one begins.
+    // Returns where `count` tokens are that begin `offset` tokens after the start of `self`.
     fn at(self, offset: usize, count: usize) -> StepPlace {
         StepPlace {
             first: self.first.saturating_add(offset),

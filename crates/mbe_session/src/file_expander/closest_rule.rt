@@ -55,7 +55,7 @@ fn is_variable(text: &str) -> bool {
     text.starts_with("`$") && text.contains(":")
 }
 
-// Appends the text of a part to a list. Of so many parts, it is the one with this index.
+// Appends the text of a part to a list. The part has that index among `count` parts.
 fn push_part<A: Allocator>(
     text: &mut String<A>,
     part: &RulePart<A>,
@@ -96,7 +96,7 @@ fn span_of_part<A: Allocator>(part: &RulePart<A>) -> Option<Span> {
     })
 }
 
-// Returns where a note on these parts is: at the first one that has a place.
+// Returns the span of a note on these parts: the span of the first part that has one.
 fn first_place<A: Allocator>(parts: &[&RulePart<A>]) -> Option<Span> {
     parts.iter().find_map(|part| span_of_part(*part))
 }

@@ -132,7 +132,8 @@ impl MacroAttributes {
         self.is_exported && !self.is_builtin && !defined.is_item()
     }
 
-    // Returns by what a definition with these attributes at that place is found.
+    // Returns which names and paths find a definition with these attributes. `place` says where the
+    // definition is.
     fn visibility<A: Allocator>(
         self,
         place: TreePlace<'_>,
@@ -186,7 +187,7 @@ pub(crate) struct TreePlace<'n> {
 }
 
 impl<'n> TreePlace<'n> {
-    // Returns the place of the trees of a root.
+    // Returns the `TreePlace` of the trees of a root.
     fn root() -> TreePlace<'static>
         ensures { place_of result ≡ root_place true }
     {
@@ -198,7 +199,7 @@ impl<'n> TreePlace<'n> {
         }
     }
 
-    // Returns the place of what is in a group other than a module's.
+    // Returns the `TreePlace` of the trees in a group other than a module's.
     fn in_group(self) -> TreePlace<'n>
         ensures { place_of result ≡ in_group (place_of self.entry) }
     {
@@ -210,7 +211,7 @@ impl<'n> TreePlace<'n> {
         }
     }
 
-    // Returns the place of what is in a module of that name.
+    // Returns the `TreePlace` of the trees in a module of that name.
     fn in_module(self, name: &'n str, is_used: bool) -> TreePlace<'n>
         ensures { place_of result ≡ in_module name.now is_used (place_of self.entry) }
     {
@@ -309,7 +310,7 @@ impl<A: Allocator + Copy> FileExpander<'_, A> {
         self.define_in(tokens, TreePlace::root(), LEVELS)
     }
 
-    // Reads the definitions among trees at that place.
+    // Reads the definitions among trees. `place` says where the trees are.
     #[cycle(defining)]
     fn define_in(
         &mut self,

@@ -76,7 +76,7 @@ struct SimilarMacro<A: Allocator = Global> {
     help: String<A>,
     // The message at its definition.
     there: String<A>,
-    // Where it is defined, if a file defines it.
+    // The span of its definition, if a file defines it.
     place: Option<Span>,
 }
 

@@ -22,7 +22,7 @@ pub fn bind_rounds<'a, A: Allocator + Copy>(
     Ok(bindings)
 }
 
-/// Two positions that go on from one: what the one pushes then, the other doesn't see.
+/// The bindings of a handle and of its copy. The copy doesn't see what the handle pushes later.
 pub fn part_ways<'a, A: Allocator + Copy>(
     alloc: A,
     name: &Symbol<A>,
@@ -36,7 +36,8 @@ pub fn part_ways<'a, A: Allocator + Copy>(
     Ok((with_name, without))
 }
 
-/// A position whose match fails: its variable is missing. What the handle has is counted.
+/// Pushes a missing variable, as a thread does when its match fails. Returns the numbers of the
+/// handle's entries.
 pub fn bind_missing<A: Allocator + Copy>(
     log: &mut BindingLog<'_, A>,
     name: &Symbol<A>,

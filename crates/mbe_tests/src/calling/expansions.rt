@@ -121,7 +121,7 @@ pub mod tests {
         expand_call(alloc, &defined, &argument).ok()?
     }
 
-    // Whether the tree prints as `tree`. An empty text means an error in its place.
+    // Whether the expansion prints as `tree`. An empty text stands for an error.
     fn is_tree(alloc: Global, expansion: Expansion<Global>, tree: &str) -> bool {
         match tree_or_error(alloc, expansion) {
             Ok(printed) => printed.as_str() == tree,

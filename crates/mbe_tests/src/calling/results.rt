@@ -19,7 +19,7 @@ pub fn paired(first: ValueResult<usize, Span>, second: usize) -> ValueResult<(us
     first.zip_val(second)
 }
 
-/// The count, or 0 beside the place of the error.
+/// The count, or 0 beside the span of the error.
 pub fn or_nothing(counted: Result<usize, Span>) -> ValueResult<usize, Span> {
     ValueResult::from(counted)
 }

@@ -8,7 +8,7 @@ use mbe_tt::grammar::{Dialect, FragmentGrammar, PrefixEntryPoint};
 use mbe_tt::span::Edition;
 use std::alloc::Global;
 
-// A position without a node: a fragment that begins there faults.
+// An index without a node. A fragment whose rule begins there has a fault.
 const NOWHERE: usize = 6;
 
 /// What `$e:expr` takes is a sum of names, as `a + b`.

@@ -33,7 +33,7 @@ pub fn written(alloc: Global, ident: &Ident) -> Result<String, AllocError> {
     format!(in alloc; "{copy}")
 }
 
-/// Whether no tree is left, seen on a second iterator at the same position.
+/// Whether no tree is left, seen on a copy of the iterator.
 pub fn is_done(iter: &TtIter<'_>) -> Result<bool, AllocError> {
     let same = iter.clone()?;
     Ok(same.is_empty())

@@ -65,7 +65,7 @@ fn is_debug(alloc: Global, nodes: &[Node<'_>], want: &str) -> Result<bool, Alloc
     Ok(text.as_str() == want)
 }
 
-// Each row: a text that is no grammar, with the place and the reason of its fault.
+// Each row: a text that is no grammar, and its fault with the line and the column.
 pub const FAULTS: &str = rows![
     ("a = NAME\n\nb = type", "3:5: no rule is named \"type\""),
     ("a = (é | type)", "1:6: no word of a grammar begins here"),

@@ -57,7 +57,7 @@ pub const KEYWORDS: &str = rows![
     ("yield"),
 ];
 
-// Words that are keywords in some places only, and other texts.
+// Words that are keywords in some contexts only, and other texts.
 pub const OTHER_WORDS: &str = rows![
     ("union"),
     ("auto"),

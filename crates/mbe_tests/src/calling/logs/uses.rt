@@ -11,8 +11,8 @@ use mbe_log::log::BindingLog;
 use mbe_tt::symbol::Symbol;
 use std::alloc::{AllocError, Allocator};
 
-/// What the third position binds: neither what the first position binds nor what is pushed later.
-/// Other handles' accounts stay.
+/// What the third handle binds. It doesn't see what the first handle pushes after the copy, nor
+/// what the second pushes later. The accounts of other handles are unchanged.
 pub fn split<'a, A: Allocator + Copy>(
     log: &mut BindingLog<'a, A>,
     name: &Symbol<A>,

@@ -70,7 +70,7 @@ fn is_one(one: &Fragment<'_>, other: &Fragment<'_>) -> Result<bool, AllocError> 
     Ok(copy == *one && copy != *other)
 }
 
-/// Whether fragments are equal if their trees and the way they are written are.
+/// Whether a fragment equals its copy, and differs from a fragment of another origin or kind.
 pub fn are_fragments(alloc: Global) -> Result<bool, AllocError> {
     let tree = TopSubtree::empty(alloc, DelimSpan::from_single(Span::default()))?;
     let (raw, found) = (TokensOrigin::Raw, TokensOrigin::Ast);
