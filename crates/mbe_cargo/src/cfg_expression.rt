@@ -1,4 +1,4 @@
-// The conditions `cfg(..)` of target-specific dependencies.
+// Evaluates the conditions `cfg(..)` of target-specific dependencies.
 use std::alloc::{AllocError, Global};
 
 /// An option for `cfg`: a name, or a name and a value.

@@ -1,4 +1,5 @@
-// Packages of git repositories, in the checkouts that Cargo keeps, and packages of `[patch]`.
+// Finds the packages of git repositories in the checkouts that Cargo keeps, and the packages that
+// `[patch]` names.
 use crate::documents::{Document, Lookup, is_text, text_at};
 use crate::lockfile::Locked;
 use crate::packages::package_table;

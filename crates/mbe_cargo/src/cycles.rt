@@ -1,4 +1,4 @@
-// Cycles among the dependencies of packages.
+// Finds a cycle among the dependencies of packages.
 use crate::features::Edge;
 use std::alloc::{AllocError, Global};
 

@@ -2,7 +2,7 @@
 //
 // This module writes the rules of Cargo's resolver 2 as rules over numbered facts. `least_set`
 // returns the least set of facts that obeys them. A fact says that a package has a feature, or that
-// it uses the dependency of a name.
+// it uses a dependency.
 use crate::dependencies::Dependency;
 use crate::documents::member;
 use crate::least_set::Rule;

@@ -1,4 +1,4 @@
-// The position of a key in the text of a manifest.
+// Finds the position of a key in the text of a manifest.
 
 // Whether the line begins with the key, and `=` or `.` after it.
 fn is_key_line(line: &str, key: &str) -> bool {

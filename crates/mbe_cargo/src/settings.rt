@@ -1,4 +1,4 @@
-// Cargo's settings: the files `.cargo/config.toml`, and what they say of a build.
+// Cargo's settings: the files `.cargo/config.toml`, and what they say about a build.
 use crate::cfg_expression::{Cfg, evaluate};
 use crate::documents::{Document, Lookup, add_parts, add_texts, member, text_at};
 use crate::paths::ancestors;

@@ -1,4 +1,5 @@
-// Finds the packages of a registry: in a folder that Cargo's settings name, or in Cargo's own.
+// Finds the packages of a registry, in a folder that Cargo's settings name or in Cargo's own
+// folders.
 use crate::checkouts::{Entries, add_entries, commit_of};
 use crate::dependencies::{Dependency, refused};
 use crate::documents::{Document, Lookup, is_text};

@@ -1,4 +1,5 @@
-// Files among those that were read, and the workspaces of packages.
+// Looks up files among the files that were read, and finds the workspace of a package and its
+// members.
 use crate::dependencies::refused;
 use crate::documents::{Document, Lookup, Need, is_text, member, text_at, texts_of};
 use crate::packages::package_table;

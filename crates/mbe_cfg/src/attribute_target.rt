@@ -1,4 +1,5 @@
-// Finds the end of the target of attributes: an item, a statement, an arm, a field and so on.
+// Finds the end of the code that attributes apply to: an item, a statement, an arm, a field and so
+// on.
 ghost use Rattle.std.specs.Prelude.{◌≡◌, IfOk, option_map};
 ghost use Rattle.mbe_tt.specs.Views.View.{trees};
 ghost use Rattle.mbe_cfg.specs.AttributeTarget as spec;

@@ -1,4 +1,5 @@
-// Evaluates attributes: whether every `cfg` of an item holds, also those that a `cfg_attr` adds.
+// Evaluates attributes: whether every `cfg` of an item holds, including each `cfg` that a
+// `cfg_attr` adds.
 ghost use Rattle.std.specs.Prelude.{◌≡◌, ◌&&◌, true};
 ghost use Rattle.mbe_tt.specs.Trees.Tree.{flat_len};
 ghost use Rattle.mbe_tt.specs.Views.View.{trees};

@@ -1,4 +1,4 @@
-// The options under which predicates hold.
+// The options under which the predicates of `cfg` are evaluated.
 ghost use Rattle.std.specs.Prelude.{◌≡◌, Some, None};
 ghost use Rattle.std.specs.List.{list_any};
 ghost use Rattle.std.specs.Str.{bytes_eq};

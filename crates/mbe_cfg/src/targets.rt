@@ -1,4 +1,5 @@
-// The options of targets. `tools/cfg-tables` compares them with the options that rustc prints.
+// The `cfg` options of targets. `tools/rustc/cfg-tables.py` compares them with the options that
+// rustc prints.
 ghost use Rattle.std.specs.Prelude.{◌≡◌};
 ghost use Rattle.mbe_cfg.specs.Targets.{rows, options};
 

@@ -1,4 +1,4 @@
-// Looks at the front of trees: puncts, and groups of a kind.
+// Reads the front of trees: a punct, a group of a kind, or an attribute.
 ghost use Rattle.std.specs.Prelude.{◌≡◌, option_map};
 ghost use Rattle.mbe_tt.specs.Trees.Tree.{is_same_kind};
 ghost use Rattle.mbe_tt.specs.Views.Element.{element_tree};

@@ -1,9 +1,9 @@
-// Finds the call that attributes belong to.
+// Finds the call that the attributes at the front of trees belong to.
 //
 // Before rustc expands a call, it evaluates each `#[cfg(..)]` on it, and ignores every other
 // attribute that it knows. So these attributes belong to the call: an expansion replaces them too,
 // and a call that isn't expanded keeps them. An attribute of another name may be a procedural
-// macro, which takes the call as it is. So it belongs to no call here.
+// macro, whose input is the unexpanded call. So this module gives such an attribute no call.
 ghost use Rattle.std.specs.Prelude.{◌≡◌, option_map};
 ghost use Rattle.mbe_tt.specs.Trees.Tree.{front_char};
 ghost use Rattle.mbe_tt.specs.Views.LeafViews.{ident_of};

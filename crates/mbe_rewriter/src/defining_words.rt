@@ -1,7 +1,7 @@
-// Finds out whether a macro may define other macros, by the words of its rules.
+// Decides whether a macro may define other macros, by the words of its rules.
 //
-// A call of such a macro may bring a definition into the scope of later names. Its rules aren't
-// expanded here: a word counts wherever it stands in them.
+// A call of such a macro may bring a definition into the scope of later names. No rule is matched
+// or expanded here. A word such as `macro_rules` counts anywhere in the rules.
 ghost use Rattle.std.specs.Prelude.{◌≡◌, IfOk, map};
 ghost use Rattle.mbe_tt.specs.Views.LeafViews.{leaf_of};
 ghost use Rattle.mbe_tt.specs.Views.View.{trees};

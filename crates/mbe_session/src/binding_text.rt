@@ -1,4 +1,4 @@
-// Describes what the variables of a rule that matches are bound to.
+// Describes, as text, what each variable of a matching rule is bound to.
 ghost use Rattle.std.specs.Prelude.{◌≡◌, ◌++◌, ◌<◌, IfOk, OnOk, length, map, option_map};
 ghost use Rattle.std.specs.String.{string_bytes};
 ghost use Rattle.mbe_semantics.specs.Expansion.Macro.{IsChecked};

@@ -1,9 +1,14 @@
 // Finds why no rule of a macro expands a call, and notes it as rustc does.
 //
-// The rules are tried in order. The error is at the furthest token that a rule reaches. Take the
-// rules `(a b c)` and `(a d)` on `a b e`. Rule 1 stops at `e` and rule 2 at `b`, so the error is
-// "no rules expected `e`". A rule that is ambiguous ends the search. So does a rule that matches,
-// since then its template is at fault, and a rule that rustc's dialect commits to.
+// The rules are tried in order. If none matches, the error is at the furthest token that a rule
+// reaches. Take the rules `(a b c)` and `(a d)`, and the argument `a b e`. Rule 1 stops at `e` and
+// rule 2 at `b`, so the error is "no rules expected `e`".
+//
+// Each of these rules ends the search, and is the reason for the failure:
+//
+// - An ambiguous rule.
+// - A rule that matches. Then its template is at fault.
+// - In rustc's dialect, a rule with a fragment that begins and has a fault inside.
 ghost use Rattle.std.specs.Prelude.{◌≡◌, IfOk, OnOk, map, max, option_map};
 ghost use Rattle.std.specs.String.{string_bytes};
 ghost use Rattle.mbe_semantics.specs.Expansion.Macro.{IsChecked};

@@ -1,9 +1,12 @@
-// Notes captures: names that hygiene keeps apart, but that the text of an expansion would bring
-// together.
+// Notes captures: names of a template that mean a local of the argument in the text of an
+// expansion.
 //
-// The call's argument binds one of the two, and the macro uses the other one in its scope. A name
-// that the macro binds is renamed instead. The span of a token tells its origin, because the tokens
-// of the argument keep their spans. A word is left out if it may be neither a binding nor a use.
+// Take the template `{ let $x = 1; size }` and the call `m!(size)`. In rustc, the template's `size`
+// isn't the local that the argument binds. In the text of the expansion, `{ let size = 1; size }`,
+// it is. A local that the template binds needs no note, since it gets a new name.
+//
+// The tokens of the argument keep their spans, so the span of a token tells its origin. A word that
+// may be neither a binding nor a use is ignored.
 ghost use Rattle.std.specs.Prelude.{◌≡◌, OnOk};
 ghost use Rattle.mbe_session.specs.SessionViews.{setting_of, state_of};
 

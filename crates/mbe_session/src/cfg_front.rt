@@ -1,8 +1,9 @@
-// Finds the call or the definition that the trees of an expansion begin with.
+// Finds what is at the front of an expansion's trees: disabled code, a definition, a call, or
+// another tree.
 //
-// A file loses its disabled code before its calls are looked for. An expansion exists only later,
-// so its disabled code is found here, at each front. It is copied unchanged: calls in it are not
-// expanded, and its definitions are ignored.
+// A file loses its disabled code before its calls are looked for. An expansion still has its
+// disabled code, so this module looks for it at each front. Disabled code is copied unchanged:
+// calls in it are not expanded, and its definitions are ignored.
 ghost use Rattle.std.specs.Prelude.{◌≡◌, IfOk, option_map};
 ghost use Rattle.mbe_rewriter.specs.MacroItemViews.{front_item_shown};
 ghost use Rattle.mbe_grammar.specs.Tables.Lawful.{grammar_of};

@@ -1,8 +1,9 @@
 // Builds the trees of crates, defines their macros in the expander, and collects the replacements
 // for their calls.
 //
-// A crate is given by the number of its root among the files. The files of its modules are found
-// among the same files. External crates are defined after `$crate` is replaced by their names.
+// All files are in one list. The index of its root identifies a crate, and the files of its modules
+// are in the same list. Before the macros of an external crate are defined, the crate's name
+// replaces `$crate` in its trees.
 ghost use Rattle.std.specs.Prelude.{◌≡◌, ◌+◌, ◌++◌, ◌<◌, ◌^◌, [], None, IfOk, IfSome, OnOk, length};
 ghost use Rattle.std.specs.Prelude.{map, suc, true};
 ghost use Rattle.std.specs.List.{All};

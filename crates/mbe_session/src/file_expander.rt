@@ -1,8 +1,9 @@
 // Expands the calls of files and of expansions.
 //
-// The trees are walked from the front. A definition is parsed, and names resolve to it up to the
-// end of the group around it. A call is replaced by its expansion if its macro is found. The calls
-// in the expansion are expanded too, up to the limits of the settings. Any other tree is unchanged.
+// The expander walks the trees from the front. It parses a definition, which is then in scope up to
+// the end of the group around it. It replaces a call by its expansion if the call resolves to a
+// definition. It expands the calls in the expansion too, up to the limits of the settings. Any
+// other tree is unchanged.
 //
 // Three sorts of calls are unchanged: no file defines the macro, no rule matches, or the call is
 // beyond the limits. The last two are errors, and each is noted.

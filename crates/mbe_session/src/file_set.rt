@@ -1,7 +1,7 @@
-// The files of a session: their texts in memory, and the crates that they are of.
+// The files of a session: their texts in memory, and the crate of each file.
 //
 // A caller adds the root of each crate, and then the files of its modules. `modules` lists the
-// paths that the content of a module may be at. The caller takes the texts from a disk, or from an
+// paths that the file of a module may have. The caller takes the texts from a disk, or from an
 // editor.
 ghost use Rattle.std.specs.Prelude.{◌≡◌, ◌++◌, ◌∷◌, [], length, map, OnOk};
 ghost use Rattle.std.specs.List.{slice_get};

@@ -1,5 +1,9 @@
-// Finds the macros that a `use` imports, so that paths find them; modules, what `use`s declare, and
-// which macros may define others.
+// Reads what the resolution of names needs from trees:
+//
+// - whether a `use` imports a macro, so that paths resolve to it;
+// - the modules and their content;
+// - the names that a `use` or an `extern crate` declares;
+// - whether a macro may define other macros.
 ghost use Rattle.std.specs.Prelude.{◌≡◌, ◌++◌, IfOk, OnOk, Some, codes, map, option_map};
 ghost use Rattle.mbe_tt.specs.Views.LeafViews.{ident_of, leaf_of};
 ghost use Rattle.mbe_tt.specs.Views.View.{trees};

@@ -17,7 +17,7 @@
 // caller who follows modules adds the files that `FileSet::modules` names; the crate `mbe_files`
 // reads them from a disk. `lint` checks the definitions of the same texts, and expands nothing.
 //
-// The modules by what they treat:
+// The modules, by subject:
 //
 // - Files: `file_set`, `source_files`, `module_files`, `lines`, `locations`.
 // - Options: `session_options`, `source_settings`, `recursion_limit`.

@@ -1,4 +1,4 @@
-// Lints: checks of the definitions of files, without a call.
+// Lints files: checks their definitions, and expands no call.
 ghost use Rattle.std.specs.Prelude.{◌≡◌, IfOk, OnOk, map};
 ghost use Rattle.std.specs.String.{string_bytes};
 ghost use Rattle.mbe_session.specs.EmittedNotes.{EmittedWithLints};

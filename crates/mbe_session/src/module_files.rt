@@ -1,7 +1,7 @@
 // Out-of-line modules and `include!`s. Their content is in other files.
 //
-// `modules_in` lists the ones of a text, so that their files can be read. `note_missing_files`
-// reports each one whose file is missing, ambiguous or circular.
+// `modules_in` lists the modules and `include!`s of a text, so that their files can be read.
+// `note_missing_files` reports each one whose file is missing, ambiguous or circular.
 ghost use Rattle.std.specs.Prelude.{IfOk, map};
 ghost use Rattle.mbe_session.specs.ModuleFiles.{AreModules};
 ghost use Rattle.mbe_session.specs.LineEndings.{normalized};

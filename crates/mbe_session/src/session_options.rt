@@ -1,6 +1,6 @@
 // The options of a session, and the texts that name their values.
 //
-// The settings of the expander, of `cfg` and of reading files are made of them.
+// They give the settings of the expander, of `cfg`, and of reading files.
 ghost use Rattle.std.specs.Prelude.{◌≡◌, option_map, unwrap_or};
 ghost use Rattle.std.specs.Option.{option_or};
 ghost use Rattle.mbe_session.specs.Conditions.{IsUnder};

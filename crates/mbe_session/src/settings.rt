@@ -1,4 +1,4 @@
-// The settings of an expander: how far calls are expanded, and what is noted of them.
+// The settings of an expander: the limits of expansion, and which notes calls get.
 ghost use Rattle.std.specs.Prelude.{◌≡◌};
 ghost use Rattle.mbe_session.specs.Budgets as budgets;
 ghost use Rattle.mbe_session.specs.Explanation.{selects};

@@ -1,4 +1,4 @@
-// The settings by which source files are read.
+// The settings for reading source files.
 use mbe_cfg::cfg_options::CfgOptions;
 use mbe_grammar::tables::peg_table::RuleTable;
 use mbe_tt::span::Edition;

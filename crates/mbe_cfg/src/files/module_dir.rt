@@ -1,4 +1,4 @@
-// Computes where the files of modules are looked for.
+// Computes the folder and the paths where the file of a module is looked for.
 ghost use Rattle.std.specs.Prelude.{◌≡◌, IfOk, option_map};
 ghost use Rattle.std.specs.String.{string_bytes};
 ghost use Rattle.mbe_cfg.specs.Files.ModuleDirs as spec;

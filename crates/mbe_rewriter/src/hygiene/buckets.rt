@@ -1,4 +1,5 @@
-// Buckets of words by context. A question about a local then needs no look at all words.
+// Sorts words into buckets by their syntax context. A search for the words that matter to a local
+// visits one bucket, and not all words.
 ghost use Rattle.std.specs.Prelude.{◌≡◌, ◌++◌, IfOk, OnOk, map};
 ghost use Rattle.mbe_rewriter.specs.Hygiene.EventViews.{word_of};
 ghost use Rattle.mbe_rewriter.specs.Hygiene.Buckets as spec;

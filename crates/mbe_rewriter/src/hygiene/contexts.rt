@@ -1,7 +1,8 @@
 // Syntax contexts of the tokens of a step.
 //
 // `contexts_in` lists the contexts of a macro's tokens, and `step_span` gives a token its context
-// in a step. `apply_hygiene` renames the locals of an expansion, also apart from names after it.
+// in a step. `apply_hygiene` renames the locals of an expansion that would meet equal names in the
+// expansion or after it.
 ghost use Rattle.std.specs.Prelude.{◌≡◌, ◌++◌, [], IfOk, OnOk, map};
 ghost use Rattle.mbe_tt.specs.Trees.Leaf as tree;
 ghost use Rattle.mbe_tt.specs.Views.LeafViews.{leaf_of, literal_of};

@@ -1,5 +1,5 @@
 // Finds the names that a format string mentions: in braces, as `{name}` and `{name:?}`, or as a
-// number of characters, as `{:name$}`.
+// width or a precision, as `{:name$}` and `{:.name$}`.
 ghost use Rattle.std.specs.Prelude.{◌≡◌, IfOk, OnOk, drop, map, option_map, take};
 ghost use Rattle.mbe_rewriter.specs.Hygiene.FormatNames as spec;
 

@@ -1,4 +1,5 @@
-// The laws of renaming: what it keeps, and what it keeps apart. These functions do nothing.
+// The laws of renaming: what renaming leaves unchanged, and which names it keeps apart. The
+// functions are empty: each contract states a law.
 ghost use Rattle.mbe_rewriter.specs.Hygiene.Laws.{KeepsShapes, RenamesEach, OneNameEach};
 ghost use Rattle.mbe_rewriter.specs.Hygiene.Laws.{NoNameAround, EachIsSettled};
 

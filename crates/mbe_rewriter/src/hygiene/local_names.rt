@@ -1,8 +1,8 @@
 // Decides which locals and labels may be renamed.
 //
 // `words_of` lists the words of an expansion, and `locals` the ones that its steps bind.
-// `undecided` lists the uses that keep a local from being renamed. `new_names` has the names of the
-// others.
+// `undecided` lists the uses that keep a local from being renamed. `new_names` chooses the new
+// names of the other locals.
 ghost use Rattle.std.specs.Prelude.{◌≡◌, ◌≤◌, ◌++◌, ◌∷◌, [], IfOk, OnOk, length, map};
 ghost use Rattle.mbe_tt.specs.Trees.Leaf as tree;
 ghost use Rattle.mbe_tt.specs.Views.LeafViews.{leaf_of, literal_of};

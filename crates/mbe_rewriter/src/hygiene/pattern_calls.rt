@@ -1,9 +1,9 @@
-// Calls that may be patterns.
+// Finds uses of names that a call may bind as a pattern.
 //
-// A call may be a pattern, as in `let m!() = 1;`. The names that the macro's template binds are
-// then locals of the call alone. Which calls are patterns isn't known here, but the trees after a
-// call tell which may be. Such a name keeps its text, and each such name that the trees after the
-// call use is a doubt.
+// A call may be a pattern, as in `let m!() = 1;`. Then the names that the macro's template binds
+// are locals of the call alone. This module doesn't know which calls are patterns, but the trees
+// after a call tell which may be. A name that such a call binds is unchanged. If the trees after
+// the call use the name, the first use is listed as undecided.
 ghost use Rattle.std.specs.Prelude.{◌≡◌, ◌++◌, [], IfOk, OnOk, map};
 ghost use Rattle.mbe_tt.specs.Views.LeafViews.{leaf_of};
 ghost use Rattle.mbe_tt.specs.Views.View.{trees};

@@ -1,4 +1,5 @@
-// Computes what a group holds, and which part of a statement or closure comes next, after a token.
+// Computes the state of a scan after a token: what the group holds there, and which part of a
+// statement or closure comes next.
 ghost use Rattle.std.specs.Prelude.{◌≡◌};
 ghost use Rattle.mbe_tt.specs.Views.View.{trees};
 ghost use Rattle.mbe_rewriter.specs.Hygiene.ScanState as spec;

@@ -1,4 +1,4 @@
-// Renames the locals of an expansion, where hygiene keeps them apart from others of their names.
+// Renames the locals and labels of an expansion that hygiene keeps apart from equal names.
 ghost use Rattle.std.specs.Prelude.{◌≡◌, ◌<◌, IfOk, OnOk, length, map};
 ghost use Rattle.mbe_tt.specs.Buffers.GroupStack.{put};
 ghost use Rattle.mbe_tt.specs.Views.LeafViews.{leaf_of};

@@ -1,10 +1,13 @@
-// Writes the groups of fragments, which rustc's dialect keeps whole, as text can.
+// Opens the groups of fragments in an expansion of rustc's dialect, so that it can be written as
+// text.
 //
-// An expansion of rustc's dialect has each fragment in an invisible group that knows its kind. Text
-// has no such groups. A group becomes parentheses where its trees would be parsed differently
-// without it, and is removed elsewhere. The rules are the rules of `parenthesize_receivers`, and
-// two rules of the expander in rust-analyzer's dialect. An expression of several trees gets
-// parentheses. A path gets a `::` before its generic arguments.
+// In rustc's dialect, each fragment of an expansion is in an invisible group, which knows the
+// fragment's kind. Text has no such groups. If the trees of a group would be parsed differently
+// without it, the group becomes parentheses. Else the group is removed.
+//
+// The rules for this are the rules of `parenthesize_receivers`, and two rules of the expander in
+// rust-analyzer's dialect. An expression of several trees gets parentheses. A path gets a `::`
+// before its generic arguments.
 //
 // The argument of a macro call keeps its groups: the macro may pass them on, and matches them
 // whole. They are opened when no call is left to expand.

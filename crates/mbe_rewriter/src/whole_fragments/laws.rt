@@ -1,5 +1,5 @@
-// The laws of opening the groups of fragments: what it leaves, and what it keeps. These functions do
-// nothing.
+// The laws of opening the groups of fragments: no group remains, and other trees are unchanged. The
+// functions are empty: each contract states a law.
 ghost use Rattle.mbe_rewriter.specs.WholeFragments.GroupLaws.{ChangesGroupsAlone, LeavesNoGroup};
 
 /// The trees that `open_all_fragments` makes have no group of a fragment, if at most 1,000 groups

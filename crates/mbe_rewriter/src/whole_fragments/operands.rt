@@ -1,4 +1,4 @@
-// Decides whether trees are a single operand: a path, a text, a group or a macro call, with its
+// Decides whether trees are a single operand: a path, a literal, a group or a macro call, with its
 // fields, calls, indexes and `?`. No operator beside such an operand takes a part of it.
 //
 // Each tree leads from one state to the next. In `a::b(1).c`, `a` gives `Path`, each `:` gives

@@ -6,7 +6,8 @@
 // expanded, that group becomes parentheses where they are needed. Elsewhere it is removed.
 //
 // In `$s - 1`, the statement `$s` ends before the `-`. So a template has each statement in a group
-// of its own too. It is removed, and a `;` is written where the statement needs one.
+// of its own too. After the expansion the group is removed, and a `;` is written where the
+// statement needs one.
 ghost use Rattle.std.specs.Prelude.{◌≡◌, ◌<◌, IfOk, OnOk, length};
 ghost use Rattle.mbe_tt.specs.Buffers.GroupStack.{put};
 ghost use Rattle.mbe_tt.specs.Views.Element.{element_tree};

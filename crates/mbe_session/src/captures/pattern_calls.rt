@@ -1,7 +1,8 @@
 // Notes calls in patterns whose template binds a name that the pattern or its scope has too.
 //
-// In rustc such a name is a local of the call alone, as `a` in `let Some(m!()) = b;` where `m!()`
-// becomes `a`. In the text it is a local for the whole scope of the pattern.
+// Take the call in `let Some(m!()) = b;`, whose expansion is `a`. In rustc, this `a` is a local of
+// the call alone. In the text, `let Some(a) = b;`, it is a local for the whole scope of the
+// pattern. There, another `a` may mean this local.
 ghost use Rattle.std.specs.Prelude.{◌≡◌, OnOk};
 ghost use Rattle.mbe_session.specs.SessionViews.{setting_of, state_of};
 

@@ -1,4 +1,5 @@
-// Finds patterns that bind names, and where the names are in scope, by the tokens around them.
+// Finds the patterns among tokens, and the tokens where the names of a pattern are in scope. A
+// `let`, a `for`, the `|` of a closure, or the `=>` of an arm announces a pattern.
 use crate::captures::Token;
 use mbe_tt::tt::DelimiterKind;
 use std::alloc::{AllocError, Allocator};

@@ -1,8 +1,13 @@
-// Notes names of templates that mean a local of the file at the call.
+// Notes names of templates that mean a local of the file in the text of an expansion.
 //
-// In rustc a name of a template means what it means where the macro is defined: an item, or a local
-// that is in scope there. If the file binds a local of that name for the call alone, the text of
-// the expansion means that local.
+// In rustc, a name of a template means what it means at the definition: an item, or a local that is
+// in scope there. In the text of the expansion, it may mean a local that is in scope only at the
+// call. Let a file have a function `size`, and a macro `m` with the template `size()`. Then the
+// text of the expansion means the parameter `size` in this function:
+//
+//     fn f(size: fn() -> u8) -> u8 { m!() }
+//
+// In rustc, it means the function `size`.
 ghost use Rattle.std.specs.Prelude.{◌≡◌, OnOk};
 ghost use Rattle.mbe_session.specs.SessionViews.{setting_of, state_of};
 

@@ -1,6 +1,7 @@
-// Notes what the closest rule of a macro was to match where it stops, in the words of rustc.
+// Notes what the closest rule of a macro expects where its match stops. The words are rustc's:
+// "while trying to match `;` in rule 2 of `m!`".
 //
-// The closest rule is the first of those that stop at the furthest token.
+// The closest rule is the first rule that stops at the furthest token that any rule reaches.
 ghost use Rattle.std.specs.Prelude.{◌≡◌, OnOk};
 ghost use Rattle.mbe_semantics.specs.Expansion.Macro.{IsChecked};
 ghost use Rattle.mbe.specs.MacroViews.{macro_of};

@@ -1,5 +1,5 @@
-// Collects the definitions of files, and decides what each one is found by. This is a name in its
-// group, a name in any file, a path, or a path from another crate.
+// Collects the definitions of files, and decides which names resolve to each definition: names in
+// its group, names in any file, paths, or paths from another crate.
 ghost use Rattle.std.specs.Prelude.{◌≡◌, ◌&&◌, ◌++◌, suc, true, OnOk, length, map, drop};
 ghost use Rattle.mbe_tt.specs.Views.Element.{element_tree};
 ghost use Rattle.mbe_tt.specs.Views.LeafViews.{leaf_of};

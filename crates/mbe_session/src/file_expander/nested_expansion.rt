@@ -1,4 +1,4 @@
-// Trees with their calls expanded.
+// Writes trees with each call replaced by its expansion, recursively.
 ghost use Rattle.std.specs.Prelude.{◌≡◌, ◌<◌, length, IfOk, IfSome, OnOk, suc, if◌then◌else◌};
 ghost use Rattle.mbe_tt.specs.Buffers.GroupStack.{put};
 ghost use Rattle.mbe_tt.specs.Trees.Tree.{Forest, append, flat_len, one_leaf};

@@ -1,4 +1,5 @@
-// Errors of calls whose macro is certainly none, in rustc's words.
+// Reports calls of macros that certainly don't exist, and names the macro with the most similar
+// name. The words are rustc's: "cannot find macro `name` in this scope".
 ghost use Rattle.std.specs.Prelude.{◌≡◌, OnOk};
 ghost use Rattle.mbe_session.specs.SessionViews.{setting_of, state_of};
 

@@ -1,4 +1,5 @@
-// Notes at calls that resolve to no definition, though some definition has their name.
+// Notes why a call resolves to no definition, although a definition has its name. Either no
+// definition of that name is in scope, or the call may mean several.
 ghost use Rattle.std.specs.Prelude.{◌≡◌, OnOk};
 ghost use Rattle.mbe_session.specs.SessionViews.{setting_of, state_of};
 

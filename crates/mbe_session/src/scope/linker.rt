@@ -1,4 +1,4 @@
-// Re-exports: gives crates the macros of other crates that they export.
+// Links re-exports: a crate that exports a macro of another crate offers the macro, too.
 ghost use Rattle.std.specs.Prelude.{◌≡◌, IfOk, OnOk, map, option_map};
 ghost use Rattle.std.specs.String.{string_bytes};
 ghost use Rattle.mbe_cfg.specs.CrateExports.ExportViews.{export_of, exported_macros_of};
