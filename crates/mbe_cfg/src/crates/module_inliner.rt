@@ -1,8 +1,8 @@
 // Puts the trees of a crate together.
 //
-// Each `mod name;` gets the trees of the file that holds the module. The trees of a file follow
-// each `include!("..");` that names it. The walk goes through the trees from the front, and enters
-// no groups but the braces of modules.
+// Each `mod name;` gets the trees of the file that holds the module. After each `include!("..");`
+// come the trees of the file that it names. The walk goes through the trees from the front, and
+// enters no groups but the braces of modules.
 ghost use Rattle.std.specs.Prelude.{◌≡◌, ◌<◌, ◌++◌, ◌∷◌, [], IfOk, OnOk, length, map, suc};
 ghost use Rattle.mbe_cfg.specs.Files.ModuleDirViews.{candidates_shown, module_dir_shown};
 ghost use Rattle.mbe_tt.specs.Buffers.GroupStack.{put};

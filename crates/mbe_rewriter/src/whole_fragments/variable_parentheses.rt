@@ -1,5 +1,5 @@
-// Puts parentheses around variables of templates that rustc keeps whole. Without them, the text of
-// an expansion would be parsed differently:
+// Puts parentheses around variables of templates, since rustc keeps each fragment whole. Without
+// the parentheses, the text of an expansion would be parsed differently:
 //
 // - In `$x as $t << 1`, the `<` would begin generic arguments of the type. So `parenthesize_rules`
 //   writes `($t)` there.
