@@ -50,14 +50,14 @@ LINES = (
     ("a.b a", 3, "cannot read a.b"),
 )
 
-# The arguments, and the status. The program's own file isn't UTF-8.
+# The arguments, and the status. The file `empty` is empty. The program's own file isn't UTF-8.
 FILES = (
-    ("/no/such/file /dev/null", 3),
-    ("/dev/null /no/such/file", 3),
-    ("/proc/self/exe /dev/null", 3),
-    ("/dev/null /dev/null", 1),
-    ("--lint /dev/null", 3),
-    ("--lint /dev/null /dev/null", 0),
+    ("/no/such/file empty", 3),
+    ("empty /no/such/file", 3),
+    ("/proc/self/exe empty", 3),
+    ("empty empty", 1),
+    ("--lint empty", 3),
+    ("--lint empty empty", 0),
 )
 
 # A definition and an argument. Each prefix of one, with the whole of the other, is run.
@@ -114,7 +114,7 @@ def lines(program):
 def files(program):
     for row in FILES:
         text, status = row
-        program.check("FILES", row, program.run(text.split()).status, status)
+        program.check("FILES", row, program.run(text.split(), {"empty": ""}).status, status)
 
 
 def fault(err, texts):
