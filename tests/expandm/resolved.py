@@ -30,6 +30,21 @@ ROWS = (
         f"src/lib.rs: mod a; mod b;\nx = [a::m!(), b::m!()];|src/a.rs: {ONE} pub(crate) use m;|src/b.rs: {TWO} pub(crate) use m;",
         "..x = [1, 2];", (),
     ),
+    # `$crate` in a template is the root of the crate that defines the macro.
+    (
+        "a.rs", f"a.rs: #[macro_export] {TWO}\n{IN_A}\nmacro_rules! n {{ () => {{ $crate::m!() }} }}\nx = n!();",
+        "..x = 2;", (),
+    ),
+    (
+        "a.rs",
+        "a.rs: #[macro_export] macro_rules! area { ($s:expr) => { $crate::area!($s, $s) }; ($w:expr, $h:expr) => { $w * $h }; }\n"
+        "x = area!(2);",
+        "..x = 2 * 2;", (),
+    ),
+    (
+        "a.rs", f"a.rs: {IN_A}\nmacro_rules! n {{ () => {{ $crate::a::m!() }} }}\nx = n!();",
+        "..x = 1;", (),
+    ),
     # A path of more names, or by `self` or `super`: it must be the only definition of its name.
     (
         "a.rs", f"a.rs: {IN_A}\nx = [crate::a::m!(), self::a::m!(), a :: m!()]; mod b {{ x = super::a::m!(); }}",

@@ -7,7 +7,6 @@ use Rattle.std.specs.Option.{option_or}
 use Rattle.std.specs.List.{All, slice_get}
 use Rattle.std.specs.Str.{bytes_eq}
 use Rattle.std.proofs.lemmas.List.Elements.{All-nil, All-cons, All-append}
-use Rattle.mbe_tt.specs.Trees.Leaf.{is_text}
 use Rattle.mbe_tt.specs.Trees.Top.{Top}
 use Rattle.mbe_tt.specs.Trees.Tree.{Forest, Tree, Leaf_tree, Group_tree, none, leaf, group, tree, rest_of}
 use Rattle.mbe_tt.specs.declared.tt.DelimiterKind.{DelimiterKind}
@@ -25,7 +24,7 @@ use Rattle.mbe_session.specs.Scopes.{definition_at, is_admitted, is_found, last_
 use Rattle.mbe_session.specs.Scopes.{last_visible, unique_extern, unless_rival, placed}
 use Rattle.mbe_session.specs.Scopes.{OwnExcept, Module, ModuleExcept, OtherFile}
 use Rattle.mbe_session.specs.Resolution.{has_module, has_own, is_claimed, is_doubtful, is_foreign, is_global}
-use Rattle.mbe_session.specs.Resolution.{is_offered_name, is_own_name, is_pair, is_prelude_macro, may_define}
+use Rattle.mbe_session.specs.Resolution.{is_offered_name, is_own_name, is_pair, is_prelude_macro, is_root_name, may_define}
 use Rattle.mbe_session.specs.Resolution.{may_reach, name_to, path_to, resolve_elsewhere, resolve_extern}
 use Rattle.mbe_session.specs.Resolution.{resolve_import, resolve_in, resolve_name, resolve_own, resolve_path}
 use Rattle.mbe_session.specs.Resolution.{resolve_sole, sole_in, sole_own, unless_other}
@@ -253,7 +252,7 @@ elsewhere_missing s file name h =
 
 near_in_missing : (s : Scope) (first name : List ℕ) → NoneHas name s.definitions → resolve_in s first name ≡ None
 near_in_missing s first name h =
-    either_missing (is_text first (codes "crate")) _ _ (in_missing s (codes "") name h)
+    either_missing (is_root_name first) _ _ (in_missing s (codes "") name h)
     (either_missing (has_module s.declared first && not (is_foreign s.declared first)) _ _
     (in_missing s first name h) refl)
 

@@ -49,8 +49,13 @@ has_module ds name = list_any (is_module_name name) ds
 abbrev pub is_relative : List ℕ → Bool
 is_relative first = is_text first (codes "self") || is_text first (codes "super")
 
+-- A path begins at the root of its own crate. A template of the crate may name the root `$crate`;
+-- templates of external crates have the crate's name in its place.
+abbrev pub is_root_name : List ℕ → Bool
+is_root_name first = is_text first (codes "crate") || is_text first (codes "$crate")
+
 abbrev pub is_path_keyword : List ℕ → Bool
-is_path_keyword first = is_text first (codes "crate") || is_relative first
+is_path_keyword first = is_root_name first || is_relative first
 
 -- A path that begins with that name is one of the files' own crate.
 abbrev pub is_own_name : List ℕ → List DeclaredName → Bool
@@ -204,7 +209,7 @@ is_pair c =
 -- of that name.
 abbrev pub resolve_in : Scope → List ℕ → List ℕ → Option ℕ
 resolve_in s first name =
-    if is_text first (codes "crate") then sole_in s (codes "") name
+    if is_root_name first then sole_in s (codes "") name
     else if has_module s.declared first && not (is_foreign s.declared first) then sole_in s first
     name
     else None

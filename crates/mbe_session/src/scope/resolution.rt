@@ -1,7 +1,7 @@
 // Resolution: which definition a call means.
 //
-// Modules aren't resolved in full. A call resolves to a definition only where no other one of that
-// name can be meant; `doubt` says what else can be.
+// Modules aren't resolved in full. A call resolves to a definition only if the call can mean no
+// other definition of that name. `doubt` says which other one it may mean.
 ghost use Rattle.std.specs.Prelude.{◌≡◌, ◌++◌, IfOk, OnOk, length, map, option_map};
 ghost use Rattle.std.specs.List.{list_any};
 ghost use Rattle.std.specs.Str.{bytes_eq};
@@ -148,11 +148,19 @@ fn is_relative(first: &str) -> bool
     first == "self" || first == "super"
 }
 
+// Whether a path begins at the root of its own crate by that name. A template of the crate may name
+// the root `$crate`.
+fn is_root_name(first: &str) -> bool
+    ensures { result ≡ spec.is_root_name first.now }
+{
+    first == "crate" || first == "$crate"
+}
+
 // Whether a path begins at a module of its own crate by that name.
 fn is_path_keyword(first: &str) -> bool
     ensures { result ≡ spec.is_path_keyword first.now }
 {
-    first == "crate" || is_relative(first)
+    is_root_name(first) || is_relative(first)
 }
 
 // Whether that `use` declares the name as something that may not be one of these files'.
@@ -387,7 +395,7 @@ impl<A: Allocator + Copy> Scope<A> {
     fn resolve_in(&self, first: &str, name: &str) -> Option<usize>
         ensures { result ≡ spec.resolve_in (scope_of self.now) first.now name.now }
     {
-        if first == "crate" {
+        if is_root_name(first) {
             return self.sole_in("", name);
         }
         if has_module(self.declared.as_slice(), first) && !self.is_foreign(first) {
