@@ -163,6 +163,8 @@ ROWS = [
     Row("calls in arguments of println", lambda n: ONE + joined('fn f@() { println!("{}", m!()); }', n)),
     Row("calls of an expansion", lambda n: ONE + "macro_rules! o { () => {{ " + "m!(); " * n + "}} }\nfn f() { o!(); }"),
     Row("locals of one name", locals_of),
+    Row("locals of functions with calls", lambda n: "macro_rules! m { ($x:expr) => { a + $x } }\n"
+        + joined("fn f@(b@: u8) { let c@ = 1; let a@ = m!(b@); }", n)),
     Row("locals of an expansion", lambda n: "macro_rules! m { ($x:expr) => {{ " + joined("let a@ = $x;", n, " ")
         + " }} }\nfn f(a0: u8) { m!(a0); }"),
     Row("labels", lambda n: "macro_rules! m { ($($t:tt)*) => { 'a: loop { break 'a; $($t)* } } }\nfn f() {\n" + joined("m!(break 'a);", n) + "}"),

@@ -1,4 +1,4 @@
--- The options of targets. `tools/cfg-tables` compares them with those that rustc prints.
+-- The options of targets. `tools/rustc/cfg-tables.py` compares them with rustc.
 use Prim.Native.String.{String}
 use Rattle.std.specs.Prelude.{ℕ, List, [], ◌∷◌, ◌++◌, codes, map, Option, Some, None}
 

@@ -213,8 +213,8 @@ stuck_or_not g pattern argument w checked q r judged xs inv =
           judged = judged;
           ends = (
             f.0,
-            held-sound (input_of g argument) pattern (flat_len argument) (lawful_input g argument w) checked q xs inv f.0
-                f.1,
+            held-sound (input_of g argument) pattern (flat_len argument) (lawful_input g argument w) checked q xs inv
+                f.0 f.1,
             from_test g (rest_at argument q) f.0 f.2,
           );
         })

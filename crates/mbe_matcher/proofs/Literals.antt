@@ -36,7 +36,8 @@ no_literal (Err x) h f left v l t = (sym v, l)
 
 -- a group that was consumed, of a literal or not
 pub group_passes : (d : Dialect) (f left : Forest) (k : Delimiter) (inside : Forest) (b : Bool)
-    → b ≡ is_literal_in d k → Some (k, inside) ≡ front_group f → left ≡ rest_of f → HasPassed b (unsigned_front d f) left
+    → b ≡ is_literal_in d k → Some (k, inside) ≡ front_group f → left ≡ rest_of f
+    → HasPassed b (unsigned_front d f) left
 group_passes d none left k inside b e g l = absurd (none-some _ (sym g))
 group_passes d (leaf m rest) left k inside b e g l = absurd (none-some _ (sym g))
 group_passes d (group j more rest) left k inside b e g l =

@@ -10,10 +10,12 @@
 ghost use Rattle.std.specs.Prelude.{◌≡◌, OnOk};
 ghost use Rattle.mbe_session.specs.SessionViews.{setting_of, state_of};
 
-pub(crate) mod local_scopes;
+pub(crate) mod file_locals;
+mod local_scopes;
 pub(crate) mod pattern_calls;
 mod pattern_scope;
 pub(crate) mod shadowed;
+mod span_index;
 
 use crate::file_expander::FileExpander;
 use crate::notes::{Level, Note};
@@ -21,6 +23,7 @@ use mbe_rewriter::macro_items::MacroCall;
 use mbe_tt::span::Span;
 use mbe_tt::tt::{DelimiterKind, Ident, Leaf, TokenTreesView, TopSubtree, TtElement};
 use pattern_scope::{PatternScope, is_bound, is_rebound, is_used, scope_at, scope_end};
+use span_index::span_key;
 use std::alloc::{AllocError, Allocator};
 
 // A token of an expansion or of a file. A group is two tokens, an opening and a closing delimiter.
@@ -62,11 +65,6 @@ fn tokens_of<'t, A: Allocator + Copy>(
         cursor.bump_or_end();
     }
     Ok(tokens)
-}
-
-// Returns a number for where a token begins: its file and its byte.
-fn span_key(span: Span) -> u64 {
-    (span.file as u64) << 32 | span.start as u64
 }
 
 // Returns the numbers of the names of an argument, sorted.

@@ -37,7 +37,7 @@ mod unknown_macros;
 mod unresolved_calls;
 
 use crate::call_counts::CallCounts;
-use crate::captures::local_scopes::{LocalScope, PatternPart};
+use crate::captures::file_locals::FileLocals;
 use crate::notes::{Level, Note};
 use crate::scope::{Scope, Visibility};
 use crate::settings::{Budget, ExpansionSettings};
@@ -72,10 +72,8 @@ pub struct FileExpander<'g, A: Allocator + Copy = Global> {
     fuel: Budget,
     // The context of the macro's token, for each context of a step's tokens. These begin with 1.
     contexts: Vec<u32, A>,
-    // The locals of the file, and those that expansions bind in it.
-    pub(crate) locals: Vec<LocalScope<A>, A>,
-    // The patterns of the file.
-    pub(crate) patterns: Vec<PatternPart, A>,
+    // The locals and the patterns of the file, and the locals that expansions bind in it.
+    pub(crate) locals: FileLocals<A>,
     // The calls whose expansions are in one another, from the file's call on. Those of expansions
     // that are complete may be left at the end.
     callers: Vec<Span, A>,
@@ -114,8 +112,7 @@ impl<'g, A: Allocator + Copy> FileExpander<'g, A> {
             scope: Scope::new(alloc, settings.edition),
             fuel: Budget::new(settings.fuel, settings.max_tokens),
             contexts: Vec::new(alloc),
-            locals: Vec::new(alloc),
-            patterns: Vec::new(alloc),
+            locals: FileLocals::empty(alloc),
             callers: Vec::new(alloc),
             counts: CallCounts::new(),
             notes: Vec::new(alloc),

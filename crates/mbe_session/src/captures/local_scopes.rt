@@ -2,6 +2,7 @@
 use crate::captures::pattern_scope::{
     PatternScope, bound_tokens, function_scope, is_closing, scope_at,
 };
+use crate::captures::span_index::{Entry, SpanIndex, entry};
 use crate::captures::{Token, tokens_of};
 use mbe_tt::span::Span;
 use mbe_tt::symbol::Symbol;
@@ -42,26 +43,9 @@ pub(crate) struct PatternPart {
     pub(crate) scope: Span,
 }
 
-// The locals of a file, and its patterns.
-#[derive(Drop)]
-pub(crate) struct FileLocals<A: Allocator> {
-    pub(crate) locals: Vec<LocalScope<A>, A>,
-    pub(crate) patterns: Vec<PatternPart, A>,
-}
-
 // Whether a span begins in another one.
 pub(crate) fn begins_in(inner: Span, outer: Span) -> bool {
     inner.file == outer.file && outer.start <= inner.start && inner.start < outer.end
-}
-
-// Whether a call is in one of these patterns.
-pub(crate) fn is_in_pattern(patterns: &[PatternPart], call: Span) -> bool {
-    for part in patterns {
-        if begins_in(call, part.pattern) {
-            return true;
-        }
-    }
-    false
 }
 
 // Returns the spans of the tokens of trees.
@@ -198,27 +182,68 @@ fn span_between<A: Allocator>(texts: &SpannedTokens<'_, A>, from: usize, to: usi
     Span { end, ..first }
 }
 
-// Returns the locals and the patterns of a file, in the order of its text.
-pub(crate) fn file_locals<A: Allocator + Copy>(
+// Returns the locals of a file, in the order of its text.
+pub(crate) fn local_scopes<A: Allocator + Copy>(
     alloc: A,
-    trees: TokenTreesView<'_, A>,
-) -> Result<FileLocals<A>, AllocError> {
-    let texts = spanned_tokens(alloc, trees)?;
+    texts: &SpannedTokens<'_, A>,
+) -> Result<Vec<LocalScope<A>, A>, AllocError> {
     let mut locals = Vec::new(alloc);
-    for local in &token_scopes(alloc, &texts)? {
+    for local in &token_scopes(alloc, texts)? {
         locals.push(LocalScope {
             name: local.name.sym.clone()?,
             bound: local.name.span,
-            scope: span_between(&texts, local.from, local.to),
+            scope: span_between(texts, local.from, local.to),
         })?;
     }
+    Ok(locals)
+}
+
+// Returns the patterns of a file, in the order of its text.
+pub(crate) fn pattern_parts<A: Allocator + Copy>(
+    alloc: A,
+    texts: &SpannedTokens<'_, A>,
+) -> Result<Vec<PatternPart, A>, AllocError> {
     let mut patterns = Vec::new(alloc);
-    for pattern in &pattern_scopes(alloc, &texts)? {
-        let to = end_of_scope(&texts, *pattern);
+    for pattern in &pattern_scopes(alloc, texts)? {
+        let to = end_of_scope(texts, *pattern);
         patterns.push(PatternPart {
-            pattern: span_between(&texts, pattern.from, pattern.to),
-            scope: span_between(&texts, pattern.scope_from, to),
+            pattern: span_between(texts, pattern.from, pattern.to),
+            scope: span_between(texts, pattern.scope_from, to),
         })?;
     }
-    Ok(FileLocals { locals, patterns })
+    Ok(patterns)
+}
+
+// Returns the part of a file from the opening of a group up to its closing. `inside` is the number
+// of tokens between them. `None` if the two are in different files.
+fn group_span<A: Allocator>(
+    texts: &SpannedTokens<'_, A>,
+    at: usize,
+    inside: usize,
+) -> Option<Span> {
+    let closing = at.saturating_add(inside).saturating_add(1);
+    let (first, last) = (texts.spans.get(at)?, texts.spans.get(closing)?);
+    if first.file != last.file {
+        return None;
+    }
+    Some(Span {
+        end: last.start,
+        ..*first
+    })
+}
+
+// Returns the index of the groups of a file. The item of a group is where its closing begins.
+pub(crate) fn group_index<A: Allocator + Copy>(
+    alloc: A,
+    texts: &SpannedTokens<'_, A>,
+) -> Result<SpanIndex<A>, AllocError> {
+    let mut entries: Vec<Entry, A> = Vec::new(alloc);
+    for (at, token) in texts.tokens.iter().enumerate() {
+        if let Token::Open(_, inside) = token
+            && let Some(group) = group_span(texts, at, *inside)
+        {
+            entries.push(entry(0, group, group.end as usize))?;
+        }
+    }
+    SpanIndex::new(alloc, entries)
 }

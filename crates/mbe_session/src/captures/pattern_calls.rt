@@ -6,7 +6,7 @@
 ghost use Rattle.std.specs.Prelude.{◌≡◌, OnOk};
 ghost use Rattle.mbe_session.specs.SessionViews.{setting_of, state_of};
 
-use crate::captures::local_scopes::{PatternPart, begins_in};
+use crate::captures::local_scopes::PatternPart;
 use crate::captures::pattern_scope::is_bound;
 use crate::captures::{Token, tokens_of};
 use crate::file_expander::FileExpander;
@@ -57,21 +57,12 @@ fn text_in<'t>(texts: &[&'t str], part: Span) -> &'t str {
     text.get(part.start as usize..end).unwrap_or("")
 }
 
-// Returns the texts of the pattern that a call is in. `None` if it is in no pattern.
-fn pattern_text<'t>(
-    parts: &[PatternPart],
-    texts: &[&'t str],
-    call: Span,
-) -> Option<PatternText<'t>> {
-    for part in parts {
-        if begins_in(call, part.pattern) {
-            return Some(PatternText {
-                pattern: text_in(texts, part.pattern),
-                scope: text_in(texts, part.scope),
-            });
-        }
+// Returns the texts of a pattern.
+fn pattern_text<'t>(texts: &[&'t str], part: &PatternPart) -> PatternText<'t> {
+    PatternText {
+        pattern: text_in(texts, part.pattern),
+        scope: text_in(texts, part.scope),
     }
-    None
 }
 
 // Whether a name that a call binds in a pattern meets an equal name. Then the pattern or its scope
@@ -167,8 +158,11 @@ impl<A: Allocator + Copy> FileExpander<'_, A> {
         ensures setting { OnOk result (setting_of self.new ≡ setting_of self.old) }
         ensures state { OnOk result (state_of self.new ≡ state_of self.old) }
     {
-        match pattern_text(self.patterns.as_slice(), texts, call.start) {
-            Some(text) => note_all(self.alloc, &mut self.notes, text, call, apart, mark),
+        match self.locals.pattern_around(call.start) {
+            Some(part) => {
+                let text = pattern_text(texts, part);
+                note_all(self.alloc, &mut self.notes, text, call, apart, mark)
+            }
             None => Ok(()),
         }
     }

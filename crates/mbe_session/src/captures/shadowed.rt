@@ -12,8 +12,9 @@ ghost use Rattle.std.specs.Prelude.{◌≡◌, OnOk};
 ghost use Rattle.mbe_session.specs.SessionViews.{setting_of, state_of};
 
 use crate::captures::Token;
+use crate::captures::file_locals::FileLocals;
 use crate::captures::local_scopes::{
-    LocalScope, SpannedTokens, TokenScope, begins_in, is_in_pattern, spanned_tokens, token_scopes,
+    LocalScope, SpannedTokens, TokenScope, spanned_tokens, token_scopes,
 };
 use crate::captures::pattern_scope::{end_of_inert, is_item_name, is_used};
 use crate::file_expander::FileExpander;
@@ -37,29 +38,15 @@ struct Shadowed<'t, A: Allocator> {
     bound: Span,
 }
 
-// An expansion: its tokens, the locals that it binds, and the locals of the file that are in scope
-// at its call. Contexts up to the mark belong to earlier calls.
+// An expansion: its tokens, the locals that it binds, its call, and the locals of the file.
+// Contexts up to the mark belong to earlier calls.
 #[derive(Drop)]
 struct ExpandedCall<'t, 'l, A: Allocator> {
     texts: SpannedTokens<'t, A>,
     own: Vec<TokenScope<'t, A>, A>,
-    around: Vec<&'l LocalScope<A>, A>,
-    mark: u32,
-}
-
-// Returns the locals that are in scope at a call.
-fn locals_at<'l, A: Allocator + Copy>(
-    alloc: A,
-    locals: &'l [LocalScope<A>],
     call: Span,
-) -> Result<Vec<&'l LocalScope<A>, A>, AllocError> {
-    let mut found = Vec::new(alloc);
-    for local in locals {
-        if begins_in(call, local.scope) {
-            found.push(local)?;
-        }
-    }
-    Ok(found)
+    locals: &'l FileLocals<A>,
+    mark: u32,
 }
 
 // Whether a name of the template at a token may be a value of that name.
@@ -76,17 +63,6 @@ fn is_own<A: Allocator>(own: &[TokenScope<'_, A>], at: usize, name: &Ident<A>) -
         }
     }
     false
-}
-
-// Returns where the last local of that name is bound that isn't in scope at the name itself.
-fn bound_around<A: Allocator>(around: &[&LocalScope<A>], name: &Ident<A>) -> Option<Span> {
-    let mut found = None;
-    for local in around {
-        if local.name.as_str() == name.sym.as_str() && !begins_in(name.span, local.scope) {
-            found = Some(local.bound);
-        }
-    }
-    found
 }
 
 fn is_found<A: Allocator>(found: &[Shadowed<'_, A>], name: &Ident<A>) -> bool {
@@ -108,7 +84,7 @@ fn push_shadowed<'t, A: Allocator>(
     let Some(Token::Name(name)) = tokens.get(at) else {
         return Ok(());
     };
-    let Some(bound) = bound_around(expanded.around.as_slice(), *name) else {
+    let Some(bound) = expanded.locals.bound_around(expanded.call, *name) else {
         return Ok(());
     };
     let is_of_template = expanded.mark < name.span.ctx.0;
@@ -141,18 +117,6 @@ fn shadowed_names<'t, A: Allocator + Copy>(
         }
     }
     Ok(found)
-}
-
-// Returns the end of the last of these trees, or `start` if there is none.
-fn end_of_trees<A: Allocator>(trees: TokenTreesView<'_, A>, start: u32) -> u32 {
-    let mut end = start;
-    for tree in trees.iter() {
-        end = match tree {
-            TtElement::Leaf(leaf) => leaf.span().end,
-            TtElement::Subtree(group, _) => group.delimiter.close.end,
-        };
-    }
-    end
 }
 
 // Whether one of the trees is a `let`.
@@ -195,13 +159,12 @@ fn note_shadowed_name<A: Allocator + Copy>(
 fn note_all<A: Allocator + Copy>(
     alloc: A,
     notes: &mut Vec<Note<A>, A>,
-    locals: &[LocalScope<A>],
+    locals: &FileLocals<A>,
     call: MacroCall<'_, A>,
     tree: &TopSubtree<A>,
     mark: u32,
 ) -> Result<(), AllocError> {
-    let around = locals_at(alloc, locals, call.start)?;
-    if around.is_empty() {
+    if !locals.has_local_around(call.start) {
         return Ok(());
     }
     let texts = spanned_tokens(alloc, tree.iter().remaining())?;
@@ -209,7 +172,8 @@ fn note_all<A: Allocator + Copy>(
     let expanded = ExpandedCall {
         texts,
         own,
-        around,
+        call: call.start,
+        locals,
         mark,
     };
     for shadowed in &shadowed_names(alloc, &expanded)? {
@@ -221,25 +185,23 @@ fn note_all<A: Allocator + Copy>(
 // Adds the locals that the statements of an expansion bind for the trees after its call.
 fn push_locals<A: Allocator + Copy>(
     alloc: A,
-    locals: &mut Vec<LocalScope<A>, A>,
+    locals: &mut FileLocals<A>,
     call: MacroCall<'_, A>,
     tree: &TopSubtree<A>,
-    rest: TokenTreesView<'_, A>,
 ) -> Result<(), AllocError> {
     let trees = tree.iter().remaining();
     if !has_let(trees) {
         return Ok(());
     }
-    let start = call.group.delimiter.close.end;
     let scope = Span {
-        start,
-        end: end_of_trees(rest, start),
+        start: call.group.delimiter.close.end,
+        end: locals.group_end(call.start),
         ..call.start
     };
     let texts = spanned_tokens(alloc, trees)?;
     for local in &token_scopes(alloc, &texts)? {
         if local.to == texts.tokens.len() {
-            locals.push(LocalScope {
+            locals.add(LocalScope {
                 name: local.name.sym.clone()?,
                 bound: local.name.span,
                 scope,
@@ -261,14 +223,13 @@ impl<A: Allocator + Copy> FileExpander<'_, A> {
         ensures setting { OnOk result (setting_of self.new ≡ setting_of self.old) }
         ensures state { OnOk result (state_of self.new ≡ state_of self.old) }
     {
-        if is_in_pattern(self.patterns.as_slice(), call.start) {
+        if self.locals.is_in_pattern(call.start) {
             return Ok(());
         }
-        let locals = self.locals.as_slice();
         note_all(
             self.alloc,
             &mut self.notes,
-            locals,
+            &self.locals,
             call,
             tree,
             numbered(mark),
@@ -280,11 +241,10 @@ impl<A: Allocator + Copy> FileExpander<'_, A> {
         &mut self,
         call: MacroCall<'_, A>,
         tree: &TopSubtree<A>,
-        rest: TokenTreesView<'_, A>,
     ) -> Result<(), AllocError>
         ensures setting { OnOk result (setting_of self.new ≡ setting_of self.old) }
         ensures state { OnOk result (state_of self.new ≡ state_of self.old) }
     {
-        push_locals(self.alloc, &mut self.locals, call, tree, rest)
+        push_locals(self.alloc, &mut self.locals, call, tree)
     }
 }

@@ -21,7 +21,7 @@ use crate::adjustment::place::{
     Place, Preceding, place_after_call, place_after_tree, place_in_arguments, place_in_file,
     place_in_group,
 };
-use crate::captures::local_scopes::{FileLocals, file_locals};
+use crate::captures::file_locals::FileLocals;
 use crate::file_expander::{FileExpander, LEVELS, text_of};
 use crate::notes::Level;
 use mbe_rewriter::attributed_calls::front_item_with_attributes;
@@ -61,9 +61,7 @@ impl<A: Allocator + Copy> FileExpander<'_, A> {
         ensures setting { OnOk result (setting_of self.new ≡ setting_of self.old) }
     {
         let mut replacements = Vec::new(self.alloc);
-        let FileLocals { locals, patterns } = file_locals(self.alloc, tokens)?;
-        self.locals = locals;
-        self.patterns = patterns;
+        self.locals = FileLocals::of_file(self.alloc, tokens)?;
         let mark = self.scope.enter();
         self.replace_in(&mut replacements, texts, tokens, place_in_file(), LEVELS)?;
         self.scope.leave(mark);
@@ -332,7 +330,7 @@ impl<A: Allocator + Copy> FileExpander<'_, A> {
         self.note_doubts(texts, apart.undecided.as_slice())?;
         self.note_shadowed(call, &apart.tree, mark)?;
         self.note_pattern_call(texts, call, &apart, mark)?;
-        self.add_locals(call, &apart.tree, rest)?;
+        self.add_locals(call, &apart.tree)?;
         let (around, start) = (
             text_of_file(texts, call.start.file),
             call.start.start as usize,
