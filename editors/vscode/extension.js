@@ -76,6 +76,10 @@ function selection(it) {
   return new vscode.SelectionRange(range(it.range), it.parent && selection(it.parent));
 }
 
+function semanticTokens(found) {
+  return found && new vscode.SemanticTokens(new Uint32Array(found.data));
+}
+
 function signatureHelp(it) {
   const made = new vscode.SignatureHelp();
   made.signatures = it.signatures.map((one) => new vscode.SignatureInformation(one.label));
@@ -122,9 +126,11 @@ function follow(context, server) {
       && server.notify("textDocument/didClose", { textDocument: { uri: uri(document) } })));
 }
 
-// Asks the server for what VS Code shows.
-function provide(context, server) {
+// Asks the server for what VS Code shows. `able` says what the server can do.
+function provide(context, server, able) {
   const rust = ["file", "untitled"].map((scheme) => ({ language: "rust", scheme }));
+  const { tokenTypes, tokenModifiers } = able.semanticTokensProvider.legend;
+  const legend = new vscode.SemanticTokensLegend(tokenTypes, tokenModifiers);
   const ask = (method, document, place) =>
     server.request(`textDocument/${method}`, at(document, place));
   context.subscriptions.push(
@@ -201,6 +207,18 @@ function provide(context, server) {
           (it) => new vscode.CodeLens(range(it.range), it.command));
       },
     }),
+    vscode.languages.registerDocumentSemanticTokensProvider(rust, {
+      provideDocumentSemanticTokens: async (document) => {
+        const params = { textDocument: { uri: document.uri.toString() } };
+        return semanticTokens(await server.request("textDocument/semanticTokens/full", params));
+      },
+    }, legend),
+    vscode.languages.registerDocumentRangeSemanticTokensProvider(rust, {
+      provideDocumentRangeSemanticTokens: async (document, where) => {
+        const params = { textDocument: { uri: document.uri.toString() }, range: where };
+        return semanticTokens(await server.request("textDocument/semanticTokens/range", params));
+      },
+    }, legend),
     vscode.commands.registerCommand("mbe-lsp.expandMacro", async () => {
       const editor = vscode.window.activeTextEditor;
       if (!editor) return;
@@ -217,24 +235,41 @@ function expansionText(found) {
   return `// Expansion of ${found.name}!\n${found.expansion}\n`;
 }
 
+// Whether a range has this position.
+function holds({ start, end }, { line, character }) {
+  return line === start.line && start.character <= character
+    && (line < end.line || character <= end.character);
+}
+
 // Shows beside the document the expansion of the call that the cursor is in, and follows the cursor
-// while it is in Rust documents.
+// while it is in Rust documents. A definition of a token there is where the token is from.
 function preview(context, server) {
   const uri = vscode.Uri.parse(`${SCHEME}:/expansion.rs`);
   const changed = new vscode.EventEmitter();
   let text = "";
+  let asked = null;
   const show = async (editor) => {
     if (!editor || !isRust(editor.document)) return;
-    const found = await server.request(
-      "mbe/expansion", at(editor.document, editor.selection.active));
+    asked = at(editor.document, editor.selection.active);
+    const found = await server.request("mbe/expansion", asked);
     text = found ? expansionText(found) : "// The cursor is in no call that expands\n";
     changed.fire(uri);
+  };
+  // The first line of the document is a comment.
+  const origin = async ({ line, character }) => {
+    const found = asked && await server.request("mbe/expansion", { ...asked, origins: true });
+    if (!found || expansionText(found) !== text) return null;
+    const token = found.origins.find((it) => holds(it.range, { line: line - 1, character }));
+    return token && location(token.location);
   };
   let followed = null;
   context.subscriptions.push(
     vscode.workspace.registerTextDocumentContentProvider(SCHEME, {
       onDidChange: changed.event,
       provideTextDocumentContent: () => text,
+    }),
+    vscode.languages.registerDefinitionProvider({ scheme: SCHEME }, {
+      provideDefinition: (_, place) => origin(place),
     }),
     vscode.commands.registerCommand("mbe-lsp.followExpansion", async () => {
       await show(vscode.window.activeTextEditor);
@@ -260,13 +295,13 @@ async function activate(context) {
       diagnostics.set(vscode.Uri.parse(params.uri), params.diagnostics.map(diagnostic));
     }
   });
-  await running.request("initialize", {
+  const { capabilities } = await running.request("initialize", {
     processId: null, rootUri: null,
     capabilities: { general: { positionEncodings: ["utf-16"] } },
   });
   running.notify("initialized", {});
   follow(context, running);
-  provide(context, running);
+  provide(context, running, capabilities);
   preview(context, running);
 }
 

@@ -8,6 +8,8 @@ MACROS = (
     "macro_rules! pass { ($($t:tt)*) => { $($t)* } }\n"
 )
 
+MANIFEST = '[package]\nname = "p"\nversion = "0.1.0"\nedition = "2021"\n'
+
 # Arguments; calls in brackets; their expansions; and the errors: at which call, and which limit.
 ROWS = (
     ("--max-tokens 4", "four!()", "f(a)", []),
@@ -42,9 +44,9 @@ SECONDS = 20
 
 
 def errors(err):
-    """The column and the message of each error in line 2 of a.rs, and any other error as it is."""
+    """The column and the message of each error in line 2 of a.rs or src/lib.rs, and any other error as it is."""
     found = [line for line in err.splitlines() if ": error: " in line]
-    return [re.sub(r"^a\.rs:2:([0-9]+): error: ", r"\1: ", line) for line in found]
+    return [re.sub(r"^(?:a|src/lib)\.rs:2:([0-9]+): error: ", r"\1: ", line) for line in found]
 
 
 def at_calls(calls, expected):
@@ -54,10 +56,14 @@ def at_calls(calls, expected):
 
 
 def check_row(program, row):
+    """The limits hold for a file, and for the library of a package."""
     words, calls, want, expected = row
-    ran = program.run([*words.split(), "a.rs"], {"a.rs": f"{MACROS}x = [{calls}];"})
-    got = (ran.status, ran.out.removeprefix(MACROS), errors(ran.err))
-    program.check("budgets.ROWS", row, got, (int(bool(expected)), f"x = [{want}];", at_calls(calls, expected)))
+    text = f"{MACROS}x = [{calls}];"
+    alone = program.run([*words.split(), "a.rs"], {"a.rs": text})
+    packed = program.run(words.split(), {"Cargo.toml": MANIFEST, "src/lib.rs": text})
+    for ran in alone, packed:
+        got = (ran.status, ran.out.removeprefix(MACROS), errors(ran.err))
+        program.check("budgets.ROWS", row, got, (int(bool(expected)), f"x = [{want}];", at_calls(calls, expected)))
 
 
 def check_doubling(program, row):

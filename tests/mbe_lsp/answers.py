@@ -210,7 +210,8 @@ def lenses(program):
     found, _ = replies(program, [opened(text), request(1, "textDocument/codeLens", textDocument={"uri": NAME})])
     got = [(at(it["range"]["start"]), it["command"]["title"]) for it in results(found)[1]]
     program.check("lenses", text, got, [
-        ((0, 13), "2 calls in this crate"), ((1, 13), "1 call in this crate"), ((5, 6), "0 calls in this crate")])
+        ((0, 13), "2 calls in this crate"), ((0, 17), "expands 2 calls"), ((1, 13), "1 call in this crate"), ((1, 17), "expands 1 call"),
+        ((2, 17), "unused"), ((3, 25), "unused"), ((5, 6), "0 calls in this crate"), ((5, 7), "unused")])
 
 
 def symbols(program):

@@ -106,6 +106,7 @@ FIXES = (
     ("macro_rules! m { (§$x:expr) => { x }; }", "macro_rules! m { ($_x:expr) => { x }; }"),
     ("macro_rules! m { ($word:expr) => { $wo§rb }; }", "macro_rules! m { ($word:expr) => { $word }; }"),
     ("macro_rules! mine { () => {}; }\nfn main() { mi§me!(); }", "macro_rules! mine { () => {}; }\nfn main() { mine!(); }"),
+    ("macro_rules! m { ($p:pa§t | x) => { $p }; }", "macro_rules! m { ($p:pat_param | x) => { $p }; }"),
     ("macro_rules! m { ($x:expr) => { $x }; }§", None),
     ("macro_rules! m { ($x:qqqqq§qq) => { $x }; }", None),
 )

@@ -29,8 +29,8 @@ TESTS = {"mbe_tests", "session_tests", "test_rows"}
 TESTED_BY = {
     "expandm": "`tests/expandm`", "mbe_files": "`tests/expandm`", "mbe_session": "`tests/expandm`",
     "mbe_cargo": "`tests/expandm`", "mbe_markup": "`tests/expandm`", "mbe_page": "`tests/expandm`", "mbe_reports": "`tests/expandm`",
-    "mbe_answers": "`tests/mbe_lsp`", "mbe_lsp": "`tests/mbe_lsp`", "mbe_protocol": "`tests/mbe_lsp`", "mbe_program": "`tests/mbex`",
-    "mbe_text": "`crates/mbe_tests`"}
+    "mbe_answers": "`tests/mbe_lsp`", "mbe_calls": "`tests/mbe_lsp`", "mbe_lsp": "`tests/mbe_lsp`", "mbe_protocol": "`tests/mbe_lsp`",
+    "mbe_program": "`tests/mbex`", "mbe_text": "`crates/mbe_tests`"}
 WIDEST = 150
 
 

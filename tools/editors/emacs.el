@@ -58,6 +58,23 @@
 (let ((found (xref-backend-definitions 'eglot "two")))
   (say "jump" (xref-location-line (xref-item-location (car found)))))
 
+;; Where the first token of the expansion is from.
+(let* ((found (ask :mbe/expansion (append (eglot--TextDocumentPositionParams) '(:origins t))))
+       (origin (aref (plist-get found :origins) 0))
+       (start (plist-get (plist-get (plist-get origin :location) :range) :start)))
+  (say "origin" (list (plist-get start :line) (plist-get start :character))))
+
+;; A trailing comma is typed, which a rule may accept, and taken away again.
+(save-excursion
+  (search-forward "1")
+  (insert ",")
+  (eglot--signal-textDocument/didChange)
+  (let* ((actions (eglot-code-actions (1- (point)) (point)))
+         (fix (seq-find (lambda (it) (string-prefix-p "Accept" (plist-get it :title))) actions)))
+    (say "fix" (plist-get fix :title)))
+  (delete-char -1)
+  (eglot--signal-textDocument/didChange))
+
 ;; The symbols, for the menu.
 (say "symbols" (mapcar #'car (eglot-imenu)))
 

@@ -25,7 +25,8 @@ METHODS = ["textDocument/hover", "textDocument/definition", "textDocument/refere
            "textDocument/documentSymbol", "textDocument/codeAction", "textDocument/completion",
            "textDocument/signatureHelp", "textDocument/codeLens", "textDocument/diagnostic",
            "textDocument/rename", "textDocument/prepareRename", "textDocument/foldingRange",
-           "textDocument/selectionRange", "mbe/expansion",
+           "textDocument/selectionRange", "textDocument/semanticTokens/full",
+           "textDocument/semanticTokens/range", "mbe/expansion",
            "rust-analyzer/expandMacro", "textDocument/didChange", "textDocument/didOpen",
            "textDocument/didSave", "textDocument/didClose", "workspace/didChangeWatchedFiles",
            "$/cancelRequest", "no/such"]
@@ -37,6 +38,7 @@ def valid(rng):
     params = {"textDocument": {"uri": URI, "version": 2, "text": rng.choice(sample_texts())},
               "position": at, "range": {"start": at, "end": at}, "context": {"diagnostics": []},
               "positions": [at], "newName": rng.choice(["n", "$n", "x", "fn", ""]),
+              "origins": rng.random() < 0.5,
               "contentChanges": [{"range": {"start": at, "end": at}, "text": "m!("}]}
     message = {"jsonrpc": "2.0", "method": rng.choice(METHODS), "params": params}
     if not message["method"].startswith("textDocument/did") and rng.random() < 0.9:

@@ -78,6 +78,18 @@ say("symbols", symbols)
 cursor(last - 1, column)
 say("expansion", ask("rust-analyzer/expandMacro"))
 
+-- Where the first token of the expansion is from, lenses and semantic tokens.
+local place = vim.lsp.util.make_position_params()
+place.origins = true
+say("origin", ask("mbe/expansion", place).origins[1].location.range.start)
+local document = { textDocument = vim.lsp.util.make_text_document_params() }
+local titles = {}
+for _, it in ipairs(ask("textDocument/codeLens", document)) do
+  table.insert(titles, it.command.title)
+end
+say("lenses", titles)
+say("tokens", ask("textDocument/semanticTokens/full", document).data)
+
 -- The call is inlined by the first code action.
 local params = vim.lsp.util.make_range_params()
 params.context = { diagnostics = {} }
@@ -85,6 +97,14 @@ local action = ask("textDocument/codeAction", params)[1]
 say("action", action.title)
 vim.lsp.util.apply_workspace_edit(action.edit, "utf-16")
 say("inlined", lines())
+
+-- A trailing comma is typed, which a rule may accept.
+vim.api.nvim_buf_set_lines(0, last - 1, last, false, { "fn main() { let x = two!(1,); }" })
+wait("comma", function() return #vim.diagnostic.get(0) > 0 end)
+cursor(last - 1, 20)
+local fixes = vim.lsp.util.make_range_params()
+fixes.context = { diagnostics = {}, only = { "quickfix" } }
+say("fix", ask("textDocument/codeAction", fixes)[1].title)
 
 vim.lsp.stop_client(id)
 wait("stop", function() return vim.lsp.get_client_by_id(id) == nil end)

@@ -78,13 +78,18 @@ def answers(client, rng, text, encoding):
                                         position=at))
         for method in ("rust-analyzer/expandMacro", "mbe/expansion"):
             found.append(client.request(method, textDocument=document, position=at))
+        found.append(client.request("mbe/expansion", textDocument=document, position=at,
+                                    origins=True))
+        found.append(client.request("textDocument/semanticTokens/range", textDocument=document,
+                                    range={"start": {"line": 0, "character": 0}, "end": at}))
         found.append(client.request("textDocument/rename", textDocument=document, position=at,
                                     newName="renamed"))
         found.append(client.request("textDocument/selectionRange", textDocument=document,
                                     positions=[at]))
         found.append(client.request("textDocument/codeAction", textDocument=document,
                                     range={"start": at, "end": at}, context={"diagnostics": []}))
-    for method in ("documentSymbol", "codeLens", "diagnostic", "foldingRange"):
+    for method in ("documentSymbol", "codeLens", "diagnostic", "foldingRange",
+                   "semanticTokens/full"):
         found.append(client.request(f"textDocument/{method}", textDocument=document))
     return [it.get("result", it.get("error")) for it in found], client.diagnostics.get(URI)
 

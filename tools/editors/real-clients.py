@@ -4,8 +4,11 @@
     tools/editors/real-clients.py [--mbe-lsp PROGRAM] [neovim] [emacs] [vscode]
 
 Each editor opens a file, types a mistake, waits for its diagnostic, and takes the mistake back.
-Then it asks for a hover, jumps to the rule of a call, lists symbols, expands the call, and inlines
-it. It prints what it sees, and this script compares the output with the expected one. For
+Then it asks for a hover, jumps to the rule of a call, and lists symbols. It expands the call, asks
+for the origin of a token of the expansion, and inlines the call. It also asks for lenses, semantic
+tokens and a quick fix, if it has them.
+
+Each editor prints what it sees, and this script compares the output with the expected one. For
 `vscode`, Node runs the extension with a stand-in for VS Code. An editor that isn't installed counts
 as a failure. The last line is `N passed, M failed`.
 """
@@ -24,6 +27,11 @@ fn main() { let x = two!(1); }
 """
 MESSAGE = "no rules expected"
 INLINED = TEXT.replace("two!(1)", "[1, 1]")
+LENSES = ["1 call in this crate", "unused", "expands 1 call"]
+COMMA = "Accept a trailing comma in rule 2 of `two!`"
+# The lines and the columns of tokens, from the token before each one; their lengths and types.
+TOKENS = [0, 13, 3, 0, 0, 1, 5, 2, 1, 0, 0, 3, 4, 2, 0, 0, 12, 2, 1, 0, 0, 4, 2, 1, 0,
+          1, 20, 3, 0, 0, 0, 5, 1, 8, 0]
 
 
 def said(command, program, folder):
@@ -58,8 +66,12 @@ def neovim(program, folder):
         ("symbols", found.get("symbols"), ["two! rule 1: ()", "two! rule 2: ($e:expr)"]),
         ("expansion", (expansion.get("name"), str(expansion.get("expansion")).strip()),
          ("two", "[1, 1]")),
+        ("origin", found.get("origin"), {"line": 2, "character": 25}),
+        ("lenses", found.get("lenses"), LENSES),
+        ("tokens", found.get("tokens"), TOKENS),
         ("action", found.get("action"), "Inline this call of `two!`"),
         ("inlined", found.get("inlined"), INLINED.rstrip("\n")),
+        ("fix", found.get("fix"), COMMA),
         ("stopped", found.get("stopped"), True),
     ]
 
@@ -74,6 +86,8 @@ def emacs(program, folder):
         ("hover", "Rule 2 of `two!`, line 2" in str(found.get("hover")), True),
         ("jump", found.get("jump"), 2),
         ("expansion", str(found.get("expansion")).strip(), "[1, 1]"),
+        ("origin", found.get("origin"), [2, 25]),
+        ("fix", found.get("fix"), COMMA),
         ("action", found.get("action"), "Inline this call of `two!`"),
         ("inlined", found.get("inlined"), INLINED),
         ("stopped", found.get("stopped"), True),
@@ -99,9 +113,12 @@ def vscode(program, folder):
         ("actions", found.get("actions"), [["Inline this call of `two!`", "[1, 1]"]]),
         ("completion", found.get("completion"), ["two!"]),
         ("signatures", found.get("signatures"), ["two!()", "two!($e:expr)"]),
-        ("lenses", found.get("lenses"), [[0, "1 call in this crate"]]),
+        ("lenses", found.get("lenses"), [[line, title] for line, title in zip((0, 0, 1), LENSES)]),
         ("expansion", found.get("expansion"), "// Expansion of two!\n[1, 1]\n"),
         ("followed", found.get("followed"), "// Expansion of two!\n[1, 1]\n"),
+        ("origin", found.get("origin"), {"line": 2, "character": 25}),
+        ("tokens", found.get("tokens"), TOKENS),
+        ("part", found.get("part"), [2, 25, 1, 8, 0]),
         ("stopped", found.get("stopped"), True),
     ]
 

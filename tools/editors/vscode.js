@@ -32,9 +32,13 @@ const say = (name, value) => console.log(`${name}\t${JSON.stringify(value)}`);
 const events = {};
 const on = (name) => (heard) => { events[name] = heard; return {}; };
 const providers = {};
-const keep = (name) => (_, provider) => { providers[name] = provider; return {}; };
+// The provider of the document that shows expansions has the name of its scheme.
+const keep = (name) => ({ scheme }, provider) => {
+  providers[scheme || name] = provider;
+  return {};
+};
 const commands = {};
-let shown = [];
+let diagnostics = [];
 let waiting = null;
 let opened = null;
 let contents = null;
@@ -52,13 +56,14 @@ const vscode = {
   Location: Plain, DiagnosticRelatedInformation: Plain, DocumentSymbol: Plain, Hover: Plain,
   MarkdownString: Plain, CodeAction: Plain, CompletionItem: Plain, CodeLens: Plain,
   SignatureHelp: Plain, SignatureInformation: Plain, FoldingRange: Plain, SelectionRange: Plain,
+  SemanticTokens: Plain, SemanticTokensLegend: Plain,
   EventEmitter: class { constructor() { this.event = () => {}; } fire() {} },
   CodeActionKind: { RefactorInline: "refactor.inline", QuickFix: "quickfix" },
   ViewColumn: { Beside: -2 },
   DiagnosticSeverity: { Error: 0, Warning: 1, Information: 2, Hint: 3 },
   languages: {
     createDiagnosticCollection: () => ({
-      set(_, diagnostics) { shown = diagnostics; if (waiting) waiting(); },
+      set(_, found) { diagnostics = found; if (waiting) waiting(); },
     }),
     registerHoverProvider: keep("hover"), registerDefinitionProvider: keep("definition"),
     registerReferenceProvider: keep("references"), registerDocumentSymbolProvider: keep("symbols"),
@@ -67,6 +72,8 @@ const vscode = {
     registerSignatureHelpProvider: keep("signatures"), registerCodeLensProvider: keep("lenses"),
     registerRenameProvider: keep("renames"), registerFoldingRangeProvider: keep("folds"),
     registerSelectionRangeProvider: keep("selections"),
+    registerDocumentSemanticTokensProvider: keep("tokens"),
+    registerDocumentRangeSemanticTokensProvider: keep("part"),
   },
   commands: { registerCommand(name, run) { commands[name] = run; return {}; } },
   window: {
@@ -105,16 +112,16 @@ async function main() {
   let heard = published();
   await extension.activate({ subscriptions: [] });
   await heard;
-  say("opened", shown.length);
+  say("opened", diagnostics.length);
   heard = published();
   type(25, 26, "fn");
   await heard;
-  say("diagnostics", shown.map((it) => [it.range.start.line, it.range.start.character,
+  say("diagnostics", diagnostics.map((it) => [it.range.start.line, it.range.start.character,
     it.severity, it.message, it.source, it.relatedInformation.length]));
   heard = published();
   type(25, 27, "1");
   await heard;
-  say("undone", shown.length);
+  say("undone", diagnostics.length);
   const place = new Position(2, 21);
   say("hover", (await providers.hover.provideHover(document, place)).parts[0].parts[0]);
   say("jump", (await providers.definition.provideDefinition(document, place)).parts[1].start);
@@ -141,6 +148,14 @@ async function main() {
   say("expansion", opened);
   await commands["mbe-lsp.followExpansion"]();
   say("followed", opened);
+  const shown = providers["mbe-expansion"];
+  const origin = await shown.provideDefinition(null, new Position(1, 1));
+  say("origin", origin && origin.parts[1].start);
+  const tokens = await providers.tokens.provideDocumentSemanticTokens(document);
+  say("tokens", Array.from(tokens.parts[0]));
+  const part = new Range(new Position(2, 25), new Position(2, 26));
+  const some = await providers.part.provideDocumentRangeSemanticTokens(document, part);
+  say("part", Array.from(some.parts[0]));
   await extension.deactivate();
   say("stopped", true);
 }

@@ -104,6 +104,11 @@ pub(crate) fn specifier_text(name: &str) -> Option<&'static str> {
     None
 }
 
+/// Whether a metavariable expression has that name.
+pub(crate) fn is_expression_name(name: &str) -> bool {
+    EXPRESSIONS.iter().any(|one| one.0 == name)
+}
+
 // Returns items with these names and details.
 fn items_of(alloc: Global, table: &[(&str, &str)]) -> Result<Vec<Value>, AllocError> {
     let mut items = Vec::new(alloc);

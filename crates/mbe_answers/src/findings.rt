@@ -2,6 +2,7 @@
 //
 // Offsets are bytes of the texts that editors have, with their carriage returns. The number of a
 // file is its index in the list of files.
+use crate::expanded_calls::ExpandedCalls;
 
 /// The bytes of a file from `start` up to `end`.
 #[derive(Clone, Copy, Drop)]
@@ -113,6 +114,8 @@ pub struct Findings {
     /// The tokens of the session's own crates, by the numbers of their files, in the order of the
     /// texts. A file that isn't Rust has none.
     pub tokens: Vec<TokenSite>,
+    /// What rules do with the calls of the session's own crates, if that was asked for.
+    pub expanded: Option<ExpandedCalls>,
 }
 
 impl Extent {
@@ -134,6 +137,27 @@ impl Extent {
     /// Whether the bytes hold these.
     pub fn holds(self, other: Extent) -> bool {
         self.start <= other.start && other.end <= self.end
+    }
+}
+
+impl TokenKind {
+    /// Returns how many groups are open after a token of this kind, if so many are before it.
+    pub(crate) fn depth_after(self, depth: usize) -> usize {
+        match self {
+            TokenKind::Leaf => depth,
+            TokenKind::Opening => depth.saturating_add(1),
+            TokenKind::Closing => depth.saturating_sub(1),
+        }
+    }
+}
+
+impl RuleSite {
+    /// Returns the bytes after the pattern, which hold the template.
+    pub(crate) fn template(self) -> Extent {
+        Extent {
+            start: self.pattern.end,
+            end: self.whole.end,
+        }
     }
 }
 

@@ -17,6 +17,9 @@ const SIMILAR: &[&str] = &[
 // The front of the message on an unused variable. The name is up to the next backtick.
 const UNUSED: &str = "if this is intentional, prefix it with an underscore: `$";
 
+// The front of the message on a `pat` that a `|` follows. A variable is up to the next backtick.
+const PAT_PARAM: &str = "try a `pat_param` fragment specifier instead: `";
+
 // A part of the document, and the text that replaces it.
 #[derive(Clone, Copy, Drop)]
 struct Fix<'f> {
@@ -73,15 +76,29 @@ impl<'a> View<'a> {
         (self.bytes(extent) == name).then_some(Fix { extent, text })
     }
 
+    // Returns what gives a variable the specifier `pat_param`, if a message says so.
+    fn pat_param(self, help: &'a Finding) -> Option<Fix<'a>> {
+        let advised = help.message.as_str().strip_prefix(PAT_PARAM)?;
+        let text = advised.strip_suffix('`')?;
+        let old = text.strip_suffix("_param")?;
+        (self.bytes(help.extent) == old).then_some(Fix {
+            extent: help.extent,
+            text,
+        })
+    }
+
     // Returns the fix that a message on the document advises, if the message meets these bytes.
     fn fix(self, help: &'a Finding, part: Extent) -> Option<Fix<'a>> {
         if help.file != Some(self.found.number) || !help.extent.meets(part) {
             return None;
         }
-        match self.similar(help) {
-            Some(fix) => Some(fix),
-            None => self.underscore(help),
+        if let Some(fix) = self.similar(help) {
+            return Some(fix);
         }
+        if let Some(fix) = self.underscore(help) {
+            return Some(fix);
+        }
+        self.pat_param(help)
     }
 
     // Returns a code action.

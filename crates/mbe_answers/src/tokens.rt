@@ -95,6 +95,19 @@ impl<'f> FileTokens<'f> {
             && is_name_text(self.text_after(at, 2))
     }
 
+    /// Whether one of the tokens is the name in the binding of the variable of that name.
+    pub(crate) fn binds(self, name: &str) -> bool {
+        (0..self.list.len()).any(|at: usize| self.text_at(at) == name && self.is_binding(at))
+    }
+
+    /// Whether the token at that index is after `${`, and before `(`: the `len` of `${len()}`.
+    pub(crate) fn is_expression(self, at: usize) -> bool {
+        self.text_before(at, 1) == "{"
+            && self.text_before(at, 2) == "$"
+            && self.text_before(at, 3) != "$"
+            && self.text_after(at, 1) == "("
+    }
+
     /// Whether a token has that text, and no `$` before it.
     pub(crate) fn has_plain(self, text: &str) -> bool {
         (0..self.list.len()).any(|at: usize| self.text_at(at) == text

@@ -433,6 +433,7 @@ fn copied<'p>(alloc: Global, given: &SessionOptions<'p>) -> Result<SessionOption
     options.dialect = given.dialect;
     options.depth = given.depth;
     options.fuel = given.fuel;
+    options.max_tokens = given.max_tokens;
     options.is_traced = given.is_traced;
     options.is_origin_noted = given.is_origin_noted;
     options.explain = given.explain;

@@ -4,7 +4,9 @@ use crate::workspace::{
     Texts, absolute, manifest_of, options_alone, options_beside, options_of, own_file, plan_of,
     read_files,
 };
+use mbe_answers::expanded_calls::ExpandedCalls;
 use mbe_answers::findings::{Extent, Finding, Findings, FoundFile, Part, Severity};
+use mbe_calls::call_reader::{CallStart, expanded_calls};
 use mbe_diagnostics::diagnostic::Level;
 use mbe_diagnostics::lints::lint::Lint;
 use mbe_files::package::PackagePlan;
@@ -36,18 +38,38 @@ pub struct Query {
     pub depth: Option<u32>,
     /// The position in the document whose call is explained. `None` explains failed calls.
     pub explained: Option<CallPosition>,
+    pub subject: Subject,
+}
+
+/// What a session is asked about.
+#[derive(Clone, Copy, Drop)]
+pub enum Subject {
+    /// Everything but what rules do with calls.
+    Crate,
+    /// What rules do with the calls of the crate, and nothing else.
+    Rules,
+    /// The origins of the tokens of an expansion, and nothing else. The document's call begins at
+    /// this byte.
+    Origins(usize),
 }
 
 /// The query for what a document is and expands to.
 pub const WHOLE: Query = Query {
     depth: None,
     explained: None,
+    subject: Subject::Crate,
 };
 
 /// The query for the expansion of each call by one step.
 pub const ONE_STEP: Query = Query {
     depth: Some(1),
-    explained: None,
+    ..WHOLE
+};
+
+/// The query for what rules do with the calls of a crate.
+pub const RULES: Query = Query {
+    subject: Subject::Rules,
+    ..WHOLE
 };
 
 fn severity_of_note(level: notes::Level) -> Severity {
@@ -215,6 +237,51 @@ fn no_findings(alloc: Global, number: usize) -> Findings {
         definitions: Vec::new(alloc),
         calls: Vec::new(alloc),
         tokens: Vec::new(alloc),
+        expanded: None,
+    }
+}
+
+// Opens a session on the files, and returns what rules do with its calls. With a `start`, it is
+// where the tokens of the expansion of one call are from.
+fn session_calls(
+    alloc: Global,
+    options: &SessionOptions<'_>,
+    set: &FileSet,
+    start: Option<CallStart>,
+) -> Result<ExpandedCalls, AllocError> {
+    let mut session = Session::open(alloc, options, &set.roots, set.texts.as_slice())?;
+    expanded_calls(alloc, options, &mut session, start)
+}
+
+// Returns findings with what rules do with calls, and nothing else.
+fn call_findings(
+    alloc: Global,
+    options: &SessionOptions<'_>,
+    set: &FileSet,
+    number: usize,
+    start: Option<CallStart>,
+) -> Result<Findings, AllocError> {
+    let expanded = session_calls(alloc, options, set, start)?;
+    let mut found = no_findings(alloc, number);
+    found.expanded = Some(expanded);
+    Ok(found)
+}
+
+// Returns what a session on the files finds of a subject. The files are not among it.
+fn findings_of(
+    alloc: Global,
+    options: &SessionOptions<'_>,
+    set: &FileSet,
+    number: usize,
+    subject: Subject,
+) -> Result<Findings, AllocError> {
+    match subject {
+        Subject::Crate => session_findings(alloc, options, set, number),
+        Subject::Rules => call_findings(alloc, options, set, number, None),
+        Subject::Origins(byte) => {
+            let start = CallStart { file: number, byte };
+            call_findings(alloc, options, set, number, Some(start))
+        }
     }
 }
 
@@ -278,7 +345,7 @@ fn asked(
     options.explain = Some(query.explained);
     options.is_traced = query.explained.is_some();
     options.is_origin_noted = query.explained.is_some();
-    let mut found = session_findings(alloc, &options, &set, number)?;
+    let mut found = findings_of(alloc, &options, &set, number, query.subject)?;
     add_files(alloc, texts, options.names.len(), set, &mut found)?;
     Ok(found)
 }

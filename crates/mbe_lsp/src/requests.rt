@@ -1,5 +1,5 @@
 // Requests on documents.
-use crate::analysis::{Analysis, ONE_STEP, Query, analysed};
+use crate::analysis::{Analysis, ONE_STEP, Query, Subject, WHOLE, analysed};
 use crate::server::{Fault, Outcome, Server};
 use mbe_answers::answers::View;
 use mbe_answers::bound_calls::MOST_EXPLAINED;
@@ -33,6 +33,8 @@ enum Question {
     Selections,
     Signatures,
     Lenses,
+    Tokens,
+    TokensOfPart,
     Diagnostics,
 }
 
@@ -54,9 +56,19 @@ impl Question {
             "textDocument/selectionRange" => Some(Question::Selections),
             "textDocument/signatureHelp" => Some(Question::Signatures),
             "textDocument/codeLens" => Some(Question::Lenses),
+            "textDocument/semanticTokens/full" => Some(Question::Tokens),
+            "textDocument/semanticTokens/range" => Some(Question::TokensOfPart),
             "textDocument/diagnostic" => Some(Question::Diagnostics),
             _ => None,
         }
+    }
+
+    // Whether the answer depends on what rules do with calls.
+    fn is_on_rules(self) -> bool {
+        matches!(
+            self,
+            Question::Lenses | Question::Tokens | Question::TokensOfPart
+        )
     }
 }
 
@@ -99,6 +111,31 @@ fn wants_definition(params: &Value) -> bool {
         .unwrap_or(false)
 }
 
+// Whether parameters ask for the origins of the tokens of an expansion.
+fn wants_origins(params: &Value) -> bool {
+    params
+        .get("origins")
+        .and_then(Value::as_bool)
+        .unwrap_or(false)
+}
+
+// Returns all bytes of a document.
+fn whole_of(document: &Document) -> Extent {
+    Extent {
+        start: 0,
+        end: document.text.len(),
+    }
+}
+
+// Adds the quick fixes on a part of a document.
+fn add_fixes(view: View<'_>, part: Extent, actions: &mut Vec<Value>) -> Result<(), AllocError> {
+    view.add_fixes(part, actions)?;
+    match view.found.call_at(part.start) {
+        Some(call) => view.add_commas(call, actions),
+        None => Ok(()),
+    }
+}
+
 // Returns the outcome of a request that may fail.
 fn outcome(found: Checked) -> Outcome {
     match found {
@@ -124,6 +161,9 @@ impl Server {
             return Ok(Err(INVALID));
         };
         self.keep(rt, uri)?;
+        if question.is_on_rules() {
+            self.keep_rules(rt)?;
+        }
         self.answer_question(rt, question, uri, params)
     }
 
@@ -150,10 +190,20 @@ impl Server {
             Question::Diagnostics => Ok(Ok(self.diagnostic_report(view.found)?)),
             Question::Selections => self.answer_on_places(view, params),
             Question::Actions => self.answer_on_part(rt, view, params),
+            Question::Tokens => Ok(Ok(view.highlights(whole_of(document))?)),
+            Question::TokensOfPart => self.answer_on_tokens(view, params),
             _ => match self.byte_of(document, params)? {
                 Some(byte) => self.answer_with(rt, view, question, byte, params),
                 None => Ok(Err(INVALID)),
             },
+        }
+    }
+
+    // Answers what the tokens of a part of a document are.
+    fn answer_on_tokens(&self, view: View<'_>, params: &Value) -> Result<Outcome, AllocError> {
+        match self.part_of(view.document, params)? {
+            Some(part) => Ok(Ok(view.highlights(part)?)),
+            None => Ok(Err(INVALID)),
         }
     }
 
@@ -185,7 +235,7 @@ impl Server {
         };
         let mut actions = Vec::new(self.alloc);
         if wants(params, FIX) {
-            view.add_fixes(part, &mut actions)?;
+            add_fixes(view, part, &mut actions)?;
         }
         if wants(params, INLINING)
             && let Some(call) = view.found.call_at(part.start)
@@ -213,6 +263,9 @@ impl Server {
                 None => Ok(Err(INVALID)),
             },
             Question::References => { Ok(Ok(view.references(byte, wants_definition(params))?)) }
+            Question::Preview if wants_origins(params) => {
+                Ok(Ok(self.preview_with_origins(rt, view, byte)?))
+            }
             _ => Ok(Ok(self.answer_at(rt, view, question, byte)?)),
         }
     }
@@ -286,11 +339,29 @@ impl Server {
             line,
             column: Some(column),
         });
-        let query = Query {
-            depth: None,
-            explained,
-        };
+        let query = Query { explained, ..WHOLE };
         analysed(rt, self.texts(), found.path(call.file), query)
+    }
+
+    // Answers what the call at a byte of a document expands to, and where the tokens are from.
+    fn preview_with_origins<R: Env + Files + AllocGlobal + Clone + Drop>(
+        &self,
+        rt: &R,
+        view: View<'_>,
+        byte: usize,
+    ) -> Result<Value, AllocError> {
+        let Some(call) = view.found.call_at(byte) else {
+            return Ok(Value::Null);
+        };
+        let query = Query {
+            subject: Subject::Origins(call.whole.start),
+            ..WHOLE
+        };
+        let asked = analysed(rt, self.texts(), view.document.path.as_str(), query)?;
+        match &asked.found.expanded {
+            Some(expanded) => view.preview_with_origins(call, expanded),
+            None => Ok(Value::Null),
+        }
     }
 
     // Returns what the first calls bind a variable to: the variable at the cursor.

@@ -1,7 +1,9 @@
 // The state of a server, and its answers to messages.
-use crate::analysis::{Analysis, WHOLE, analysed};
+use crate::analysis::{Analysis, RULES, WHOLE, analysed};
 use crate::events::Change;
 use crate::workspace::{Texts, current_folder, manifest_of};
+use mbe_answers::expanded_calls::ExpandedCalls;
+use mbe_answers::highlights::LEGEND;
 use mbe_answers::shapes::Writer;
 use mbe_protocol::documents::Documents;
 use mbe_protocol::frames::Frame;
@@ -131,6 +133,24 @@ fn add_lists(alloc: Global, abilities: &mut Map<String, Value>) -> Result<(), Al
     add_ability(alloc, abilities, "codeActionProvider", kinds)
 }
 
+// Returns the names of the types of tokens.
+fn legend_names(alloc: Global) -> Result<Vec<Value>, AllocError> {
+    let mut names = Vec::new(alloc);
+    for name in LEGEND {
+        names.push(json!(in alloc; *name)?)?;
+    }
+    Ok(names)
+}
+
+// Adds the ability to say what tokens are, with the names of their types.
+fn add_legend(alloc: Global, abilities: &mut Map<String, Value>) -> Result<(), AllocError> {
+    let names = Value::Array(legend_names(alloc)?);
+    let options = json!(in alloc; {
+        "legend": {"tokenTypes": names, "tokenModifiers": []}, "full": true, "range": true
+    })?;
+    add_ability(alloc, abilities, "semanticTokensProvider", options)
+}
+
 // Adds the other abilities that have options.
 fn add_options(alloc: Global, abilities: &mut Map<String, Value>) -> Result<(), AllocError> {
     let texts = json!(in alloc; {"openClose": true, "change": 2, "save": true})?;
@@ -145,14 +165,24 @@ fn add_options(alloc: Global, abilities: &mut Map<String, Value>) -> Result<(), 
     add_ability(alloc, abilities, "diagnosticProvider", diagnostics)
 }
 
+// Adds all abilities.
+fn add_abilities(
+    alloc: Global,
+    abilities: &mut Map<String, Value>,
+    encoding: PositionEncoding,
+) -> Result<(), AllocError> {
+    let encoding = Value::String(String::from_str(alloc, encoding.name())?);
+    add_ability(alloc, abilities, "positionEncoding", encoding)?;
+    add_providers(alloc, abilities)?;
+    add_lists(alloc, abilities)?;
+    add_options(alloc, abilities)?;
+    add_legend(alloc, abilities)
+}
+
 // Returns the result of `initialize`.
 fn abilities(alloc: Global, encoding: PositionEncoding) -> Result<Value, AllocError> {
     let mut abilities = Map::new(alloc);
-    let encoding = Value::String(String::from_str(alloc, encoding.name())?);
-    add_ability(alloc, &mut abilities, "positionEncoding", encoding)?;
-    add_providers(alloc, &mut abilities)?;
-    add_lists(alloc, &mut abilities)?;
-    add_options(alloc, &mut abilities)?;
+    add_abilities(alloc, &mut abilities, encoding)?;
     let abilities = Value::Object(abilities);
     json!(in alloc; {
         "capabilities": abilities,
@@ -368,6 +398,39 @@ impl Server {
             }
         }
         Ok(())
+    }
+
+    // Keeps what rules do with the calls of the crate whose analysis is kept, if that isn't kept
+    // already.
+    pub(crate) fn keep_rules<R: Env + Files + AllocGlobal + Clone + Drop>(
+        &mut self,
+        rt: &R,
+    ) -> Result<(), AllocError> {
+        let Some(kept) = &self.kept else {
+            return Ok(());
+        };
+        if kept.analysis.found.expanded.is_some() {
+            return Ok(());
+        }
+        let Analysis { found, .. } = analysed(rt, self.texts(), kept.path.as_str(), RULES)?;
+        self.keep_expanded(found.expanded);
+        Ok(())
+    }
+
+    // Keeps these results of the rules beside the kept analysis.
+    fn keep_expanded(&mut self, expanded: Option<ExpandedCalls>) {
+        if let Some(kept) = self.kept.take() {
+            let KeptFindings { path, analysis } = kept;
+            let Analysis {
+                mut found,
+                manifest,
+            } = analysis;
+            found.expanded = expanded;
+            self.kept = Some(KeptFindings {
+                path,
+                analysis: Analysis { found, manifest },
+            });
+        }
     }
 
     // Keeps what was found as what is found for file `number`, which has that path.
