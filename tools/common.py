@@ -10,6 +10,7 @@ import argparse
 import contextlib
 import glob
 import hashlib
+import json
 import os
 import re
 import shutil
@@ -143,6 +144,14 @@ def rustc(*args, edition="2021", program="rustc", **how):
 def cargo(*args, **how):
     """Runs cargo without the network."""
     return run(["cargo", *args[:1], "--offline", *args[1:]], **how)
+
+
+def reports(lines):
+    """The diagnostics among the lines that `expandm --json` writes, each before its children."""
+    for line in lines.splitlines():
+        if line.startswith("{"):
+            found = json.loads(line)
+            yield from (found, *found["children"])
 
 
 def first_error(said):

@@ -26,9 +26,14 @@ def files_of(row):
     return dict(file.split(": ", 1) for file in row.split("|"))
 
 
-def objects(err):
-    """The reports in JSON, an object in each line."""
+def diagnostics(err):
+    """The diagnostics in JSON, an object in each line."""
     return [json.loads(line) for line in err.split("\n") if line]
+
+
+def objects(err):
+    """The diagnostics in JSON, each before its children."""
+    return [it for report in diagnostics(err) for it in (report, *report["children"])]
 
 
 def shown(report):
@@ -54,8 +59,8 @@ def messages(err):
     """The reports in the form of rustc, each as its line and column, its level and its message."""
     found, last = [], ""
     for line in err.split("\n"):
-        if line.startswith(" --> a.rs:"):
-            found.append(f"{line.removeprefix(' --> a.rs:')} {last}")
+        if line.lstrip().startswith("--> a.rs:"):
+            found.append(f"{line.lstrip().removeprefix('--> a.rs:')} {last}")
         elif re.match("(error|warning|note|help): ", line):
             last = line
     return found

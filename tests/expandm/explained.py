@@ -160,6 +160,7 @@ error: no rules expected `->` in the call of `pair!`
   |
 2 | fn main() { pair!(a -> 1); pair!(b = 2 + 3); }
   |                     ^
+  |
 note: rule 1 of `pair!` stops here; expected `=>`
  --> a.rs:2:21
   |
@@ -180,6 +181,7 @@ note: `=` in rule 2 of `pair!`
   |
 1 | macro_rules! pair { ($k:ident => $v:expr) => {}; ($k:ident = $v:expr) => {}; }
   |                                                            ^
+
 1 error; 1 of 2 calls expanded
 """,
     ),
@@ -192,6 +194,7 @@ error: no rules expected `b` in the call of `m!`
   |
 2 |     x("漢", m!(b));
   |                ^
+  |
 note: while trying to match `a` in rule 1 of `m!`
  --> a.rs:1:19
   |
@@ -202,6 +205,7 @@ note: when calling this macro
   |
 1 | macro_rules! m { (a) => {} }
   |              ^
+
 1 error; 0 of 1 call expanded
 """,
     ),
@@ -265,6 +269,7 @@ error: no rules expected `3` in the call of `pairs!`
   |
 8 |     let sizes = pairs!(width: 2, height 3);
   |                                         ^
+  |
 note: rule 1 of `pairs!` stops here; expected `:`
  --> mistake.rs:8:41
   |
@@ -275,6 +280,7 @@ note: `:` in rule 1 of `pairs!`
   |
 2 |     ($($key:ident: $value:expr),*) => {
   |                  ^
+
 1 error; 0 of 1 call expanded
 """
 MENDED_LINE = """\

@@ -304,6 +304,7 @@ error: invalid fragment specifier `exp`
   |
 1 | macro_rules! each { ($($x:exp),* $last:ident) => { $x $lst }; }
   |                        ^^^^^^
+  |
 help: a fragment specifier with a similar name exists: `expr`
  --> a.rs:1:27
   |
@@ -315,36 +316,43 @@ help: valid fragment specifiers are `ident`, `block`, `stmt`, `expr`, `pat`, `ty
   |
 1 | macro_rules! each { ($($x:exp),* $last:ident) => { $x $lst }; }
   |                           ^^^
+
 warning: unknown macro variable `lst`
  --> a.rs:1:55
   |
 1 | macro_rules! each { ($($x:exp),* $last:ident) => { $x $lst }; }
   |                                                       ^^^^
+  |
 help: there's a macro metavariable with a similar name: `$last`
  --> a.rs:1:55
   |
 1 | macro_rules! each { ($($x:exp),* $last:ident) => { $x $lst }; }
   |                                                       ^^^^
+
 warning: unused macro variable: `$last`
  --> a.rs:1:34
   |
 1 | macro_rules! each { ($($x:exp),* $last:ident) => { $x $lst }; }
   |                                  ^^^^^^^^^^^
+  |
 help: if this is intentional, prefix it with an underscore: `$_last`
  --> a.rs:1:34
   |
 1 | macro_rules! each { ($($x:exp),* $last:ident) => { $x $lst }; }
   |                                  ^^^^^^^^^^^
+
 error: variable `x` is still repeating at this depth
  --> a.rs:1:52
   |
 1 | macro_rules! each { ($($x:exp),* $last:ident) => { $x $lst }; }
   |                                                    ^^
+  |
 note: bound at depth 1, and used at depth 0
  --> a.rs:1:24
   |
 1 | macro_rules! each { ($($x:exp),* $last:ident) => { $x $lst }; }
   |                        ^^^^^^
+
 """,
         """\
 1:24 23..29 error: invalid fragment specifier `exp`

@@ -3,7 +3,7 @@ UTF-16.
 """
 import json
 
-from expandm import defined
+from expandm import defined, diagnostics
 from expandm.packages import package
 
 FAILING = "macro_rules! m { (a) => { 1 } }\n/* 😀 */ const A: u8 = m!(b);\n"
@@ -50,6 +50,13 @@ RESULTS = (
         "macro_rules! m {\n    ($($t:tt)*) => {};\n    (a) => {};\n}\n",
         [result("unreachable-rule", "warning", "unreachable rule: rule 1 matches everything it does", "3:5-3:8", ("rule 1 of `m!`", "2:5-2:16"))],
     ),
+    # a note with a note
+    (
+        "",
+        "macro_rules! m { ($x:ident) => { let $x = 1; a + $x } }\nfn f() { m!(a); }\n",
+        [result("captured-name", "note", "in the expansion of `m!` this `a` is the one that the call binds", "1:46-1:47",
+                ("`a` is bound here", "2:13-2:14"))],
+    ),
     # a note alone
     ("", "mod x;\n", [result("missing-file", "note", "file not found for module `x`: `x.rs` or `x/mod.rs`", "1:5-1:6")]),
     # a text that isn't Rust
@@ -73,7 +80,7 @@ KINDS = (
     ),
     ("", "fn size() -> u8 { 1 }\nmacro_rules! m { () => { size() } }\nfn f(size: fn() -> u8) -> u8 { m!() }\n", "N captured-name"),
     ("", "#[cfg(all)]\nfn f() {}\n#[cfg(a b)]\nfn g() {}\n", "E syntax"),
-    ("--trace", defined("m { () => { 1 } }", "m!();"), "N note; N note"),
+    ("--trace", defined("m { () => { 1 } }", "m!();"), "N note"),
     (
         "--lint",
         "macro_rules! each { ($($x:exp),* $last:ident) => { $x $lst }; }\n",
@@ -126,6 +133,10 @@ def check_results(program):
         words, text, want = row
         _, log = logged(program, [*words.split(), "a.rs"], {"a.rs": text})
         program.check("sarif.KINDS", row, kinds(log), want)
+        # The code of an object in JSON is the kind, but for notes without a kind of their own.
+        found = diagnostics(program.run([*words.split(), "--json", "a.rs"], {"a.rs": text}).err)
+        codes = "; ".join(f"{it['level'][0].upper()} {it['code']['code'] if it['code'] else 'note'}" for it in found)
+        program.check("sarif.KINDS in JSON", row, codes, want)
 
 
 def check_log(program):

@@ -41,6 +41,8 @@ RELATED = (
     ("macro_rules! m { (a) => {}; }\nmacro_rules! n { ($t:tt) => { m!($t) }; }\nfn f() { n!(b); }", [], [
         ((2, 12), "rule 1 of `m!` stops here; expected `a`"), ((0, 18), "`a` in rule 1 of `m!`"), ((2, 9), "in this macro invocation"),
     ]),
+    # A name that the call binds.
+    ("macro_rules! m { ($x:ident) => { let $x = 1; a + $x } }\nfn f() { m!(a); }", [], [((1, 12), "`a` is bound here")]),
     # A macro with a similar name.
     ("macro_rules! mine { () => {}; }\nfn main() { mime!(); }", [], [
         ((1, 12), "a macro with a similar name exists: `mine`"), ((0, 13), "similarly named macro `mine` defined here"),

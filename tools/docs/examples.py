@@ -72,8 +72,7 @@ def verdicts(rules, argument, expandm):
         common.write(f"{room}/m.rs", f"{before}{argument}}}\n")
         ran = common.run([expandm, "--explain=2", "--json", "m.rs"], cwd=room)
     found = {}
-    for line in ran.stderr.splitlines():
-        diagnostic = json.loads(line)
+    for diagnostic in common.reports(ran.stderr):
         note = NOTE.match(diagnostic["message"])
         if note:
             at = diagnostic["spans"][0]["byte_start"] - len(before)

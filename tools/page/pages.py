@@ -21,7 +21,6 @@ In the tour it also checks these:
 --pictures keeps pictures of the pages. A file needn't be Rust.
 """
 import html.parser
-import json
 import os
 import shutil
 import sys
@@ -190,9 +189,8 @@ class Run:
         reader = Cards()
         reader.feed(common.read(made))
         ran = common.run([self.program, "--trace", "--origin", "--json", path])
-        reports = [json.loads(line) for line in ran.stderr.split("\n") if line.startswith("{")]
         wanted = []
-        for it in reports:
+        for it in common.reports(ran.stderr):
             if it["message"].startswith("to `"):
                 wanted.append([])
             elif "` in the expansion of `" in it["message"]:

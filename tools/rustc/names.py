@@ -362,11 +362,8 @@ def expanded(program, crate, folder, to):
               for it in ("--extern", f"{other}={folder}/{other}.rs")]
     os.makedirs(to, exist_ok=True)
     ran = common.run([*words, f"{folder}/main.rs"])
-    lines = set()
-    for line in ran.stderr.splitlines():
-        if line.startswith("{"):
-            lines.update((os.path.relpath(it["file_name"], folder), it["line_start"])
-                         for it in json.loads(line)["spans"])
+    lines = {(os.path.relpath(it["file_name"], folder), it["line_start"])
+             for report in common.reports(ran.stderr) for it in report["spans"]}
     if ran.returncode not in (0, 1):
         raise RuntimeError(f"expandm has status {ran.returncode}: {ran.stderr[-300:]}")
     return lines

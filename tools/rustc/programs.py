@@ -101,8 +101,8 @@ def expanded(expandm, source, folder, edition):
         return [("error", "", "expandm doesn't end")]
     reports = []
     for line in run.stderr.splitlines():
-        if line.startswith("{"):
-            said = json.loads(line)
+        found = json.loads(line) if line.startswith("{") else None
+        for said in (found, *found["children"]) if found else ():
             at = os.path.basename(said["spans"][0]["file_name"]) if said["spans"] else ""
             reports.append((said["level"], at, said["message"]))
     if run.returncode not in (0, 1):

@@ -2,7 +2,7 @@
 // files of modules.
 use crate::command_line::RunOutput;
 use crate::progress::ProgressLine;
-use mbe_files::file_reader::{FileReader, MAX_FILES, file_text};
+use mbe_files::file_reader::{FileReader, MAX_FILES, MAX_ROUNDS, file_text};
 use mbe_session::file_set::FileSet;
 use mbe_session::session_options::SessionOptions;
 use std::alloc::{AllocError, Global};
@@ -72,6 +72,21 @@ fn read_modules<R: Files + Eprint + AllocGlobal>(
     progress.clear(rt)
 }
 
+// Reads the files of modules that calls become, and of their modules in turn.
+fn follow_calls<R: Files + AllocGlobal>(
+    rt: &R,
+    options: &SessionOptions<'_>,
+    reader: &mut FileReader,
+) -> io::Result<()> {
+    if !reader.follow_calls(rt, options)? {
+        let note = format!(in rt.alloc();
+            "modules of calls are looked for in {MAX_ROUNDS} rounds only"
+        )?;
+        reader.notes.push(note)?;
+    }
+    Ok(())
+}
+
 /// Returns a note if there are files that weren't searched for modules.
 pub fn limit_notes(alloc: Global, files: &FileSet) -> Result<Vec<String>, AllocError> {
     let mut notes = Vec::new(alloc);
@@ -83,8 +98,9 @@ pub fn limit_notes(alloc: Global, files: &FileSet) -> Result<Vec<String>, AllocE
     Ok(notes)
 }
 
-/// Reads the files that the arguments name, the roots of external crates, which a run with `--lint`
-/// doesn't need, and the files of modules. Returns the message of a root that can't be read.
+/// Reads the files that the arguments name, the roots of external crates, and the files of modules,
+/// also of those that calls become. A run with `--lint` needs no external crates and expands no
+/// calls. Returns the message of a root that can't be read.
 pub fn read_files<R: Files + Input + Eprint + AllocGlobal>(
     rt: &R,
     options: &SessionOptions<'_>,
@@ -98,6 +114,9 @@ pub fn read_files<R: Files + Input + Eprint + AllocGlobal>(
     }
     if message.is_none() {
         read_modules(rt, options, progress, reader)?;
+    }
+    if message.is_none() && !output.is_lint {
+        follow_calls(rt, options, reader)?;
     }
     Ok(message)
 }

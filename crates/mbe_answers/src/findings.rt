@@ -75,6 +75,8 @@ pub struct Finding {
     pub file: Option<usize>,
     pub extent: Extent,
     pub message: String,
+    /// Whether it says more about the last message before it that is no child.
+    pub is_child: bool,
 }
 
 /// What replaces a part of a file.

@@ -1,6 +1,6 @@
 // Messages as diagnostics of the protocol.
 //
-// A message that says more about the one before it is information that is related to that one.
+// A child is information that is related to the last message before it that is none.
 use crate::findings::{Extent, Finding, Findings, Severity};
 use crate::shapes::{Writer, range};
 use mbe_protocol::positions::LineTable;
@@ -14,25 +14,6 @@ fn number_of(severity: Severity) -> u64 {
         Severity::Warning => 2,
         Severity::Note => 3,
         Severity::Help => 4,
-    }
-}
-
-// Whether a session's note says more about the message before it: it is on a rule of the call, or
-// on where something is bound, defined or called.
-fn is_detail(text: &str) -> bool {
-    text.starts_with("rule ")
-        || text.contains(" in rule ")
-        || text.ends_with(" is bound here")
-        || text.ends_with(" defined here")
-        || text.starts_with("in this macro invocation")
-}
-
-// Whether a message says more about the one before it. A help does, and so does a lint's note.
-fn is_related(finding: &Finding, is_lint: bool) -> bool {
-    match finding.severity {
-        Severity::Error | Severity::Warning => false,
-        Severity::Note => is_lint || is_detail(finding.message.as_str()),
-        Severity::Help => true,
     }
 }
 
@@ -94,17 +75,15 @@ impl Report<'_> {
         Ok(Some(json!(in self.writer.alloc; {"location": at, "message": message})?))
     }
 
-    // Returns the related information of the messages at the front that are related to the one
-    // before them.
+    // Returns the related information of the children at the front of these messages.
     fn related(
         self,
         reported: &ReportedFile<'_>,
         rest: &[Finding],
-        is_lint: bool,
     ) -> Result<Vec<Value>, AllocError> {
         let mut related = Vec::new(self.writer.alloc);
         for finding in rest {
-            if !is_related(finding, is_lint) {
+            if !finding.is_child {
                 break;
             }
             if let Some(information) = self.information(reported, finding)? {
@@ -114,7 +93,7 @@ impl Report<'_> {
         Ok(related)
     }
 
-    // Returns the diagnostic of a message, with those that are related to it.
+    // Returns the diagnostic of a message, with its related information.
     fn diagnostic(
         self,
         reported: &ReportedFile<'_>,
@@ -140,21 +119,21 @@ impl Report<'_> {
         })
     }
 
-    // Adds the diagnostics of messages on the file, except those that `known` has.
+    // Adds the diagnostics of messages on the file, except those that `known` has. A child without
+    // a message before it has a diagnostic of its own.
     fn add_all(
         self,
         reported: &ReportedFile<'_>,
         findings: &[Finding],
         known: &[Finding],
-        is_lint: bool,
         diagnostics: &mut Vec<Value>,
     ) -> Result<(), AllocError> {
         for (at, finding) in findings.iter().enumerate() {
-            let is_first = at == 0 || !is_related(finding, is_lint);
+            let is_first = at == 0 || !finding.is_child;
             let is_here = finding.file == Some(reported.number);
             if is_here && is_first && !known.iter().any(|other| is_same(other, finding)) {
                 let rest = findings.get(at.saturating_add(1)..).unwrap_or(&[]);
-                let related = self.related(reported, rest, is_lint)?;
+                let related = self.related(reported, rest)?;
                 diagnostics.push(self.diagnostic(reported, finding, related)?)?;
             }
         }
@@ -169,8 +148,8 @@ impl Report<'_> {
         let reported = ReportedFile { number, lines };
         let (lints, notes) = (self.found.lints.as_slice(), self.found.notes.as_slice());
         let mut found = Vec::new(writer.alloc);
-        self.add_all(&reported, lints, &[], true, &mut found)?;
-        self.add_all(&reported, notes, lints, false, &mut found)?;
+        self.add_all(&reported, lints, &[], &mut found)?;
+        self.add_all(&reported, notes, lints, &mut found)?;
         Ok(Value::Array(found))
     }
 }

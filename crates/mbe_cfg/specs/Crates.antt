@@ -4,3 +4,4 @@ pub mod FileLookup
 pub mod ModuleInliner
 pub mod CrateViews
 pub mod InlinerSteps
+pub mod ExpansionModules

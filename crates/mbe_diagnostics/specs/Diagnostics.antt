@@ -1,6 +1,7 @@
--- The text of a diagnostic, as rustc renders it.
-use Rattle.std.specs.Prelude.{ℕ, ◌==◌, ◌+◌, ◌&&◌, ◌||◌, nat_le, nat_lt, if◌then◌else◌, Bool, true}
-use Rattle.std.specs.Prelude.{false, List, [], ◌∷◌, ◌++◌, codes, chars, length, max}
+-- The text of a diagnostic and its children, as rustc renders them.
+use Rattle.std.specs.Prelude.{ℕ, ◌==◌, ◌+◌, ◌-◌, ◌&&◌, ◌||◌, nat_le, nat_lt, if◌then◌else◌, Bool}
+use Rattle.std.specs.Prelude.{true, false, List, [], ◌∷◌, ◌++◌, codes, chars, length, max, Option}
+use Rattle.std.specs.Prelude.{Some, None}
 use Rattle.std.specs.List.{repeat}
 use Rattle.std.specs.Char.{encode_utf8}
 use Rattle.std.specs.Fmt.{decimal}
@@ -8,6 +9,7 @@ use Rattle.unicode_width.specs.Width.{str_width}
 use Rattle.mbe_diagnostics.specs.declared.diagnostic.Level.{Level}
 use Rattle.mbe_diagnostics.specs.declared.diagnostic.Level.TheVariants.{Error, Warning, Note, Help}
 use Rattle.mbe_diagnostics.specs.declared.diagnostic.Diagnostic.{Diagnostic}
+use Rattle.mbe_diagnostics.specs.declared.diagnostic.FilePart.{FilePart}
 
 abbrev pub word : Level → List ℕ
 word Error = codes "error"
@@ -59,28 +61,82 @@ abbrev pub head : Diagnostic → Bool → List ℕ
 head d is_coloured = level_text d.level is_coloured
     ++ (codes ": " ++ (sanitized (chars d.message.now) ++ codes "\n"))
 
--- One space for each digit of the number.
+-- The number of digits of a number.
+abbrev pub digits : ℕ → ℕ
+digits n = length (decimal n)
+
+abbrev pub digits_of : Option FilePart → ℕ
+digits_of None = 0
+digits_of (Some p) = digits p.start.line
+
+-- The largest of a number and the numbers of digits of these diagnostics' line numbers.
+abbrev pub widest : ℕ → List Diagnostic → ℕ
+widest width [] = width
+widest width (d ∷ ds) = widest (max width (digits_of d.place)) ds
+
+-- The width of the line numbers of a diagnostic and its children.
+abbrev pub width_of : Diagnostic → List Diagnostic → ℕ
+width_of d children = widest (digits_of d.place) children
+
+-- One space for each column of a line number.
 unfoldable pub gutter : ℕ → List ℕ
-gutter n = repeat (length (decimal n)) (codes " ")
+gutter width = repeat width (codes " ")
+
+-- A line number, with spaces before it up to that width.
+unfoldable pub line_number : ℕ → ℕ → List ℕ
+line_number width n = gutter (width - digits n) ++ decimal n
 
 -- The second line: the file, the line and the column.
-abbrev pub location : Diagnostic → List ℕ
-location d =
-    gutter d.start.line ++ (codes "--> " ++ (d.file.now ++ (codes ":" ++ (decimal d.start.line
-    ++ (codes ":" ++ (decimal d.start.column ++ codes "\n"))))))
+abbrev pub location : ℕ → FilePart → List ℕ
+location width p =
+    gutter width ++ (codes "--> " ++ (p.file.now ++ (codes ":" ++ (decimal p.start.line
+    ++ (codes ":" ++ (decimal p.start.column ++ codes "\n"))))))
 
 -- One caret for each column of the text in a terminal, and at least one.
 abbrev pub carets : List ℕ → List ℕ
 carets part = repeat (max 1 (str_width false (chars (sanitized (chars part))))) (codes "^")
 
 -- The line of the file with its number, and the carets below the part.
-abbrev pub snippet : Diagnostic → List ℕ
-snippet d =
-    gutter d.start.line ++ (codes " |\n"
-    ++ (decimal d.start.line ++ (codes " | " ++ (sanitized (chars d.line.now)
-    ++ (codes "\n" ++ (gutter d.start.line ++ (codes " | "
-    ++ (margin d.before.now ++ (carets d.part.now ++ codes "\n")))))))))
+abbrev pub snippet : ℕ → FilePart → List ℕ
+snippet width p =
+    gutter width ++ (codes " |\n"
+    ++ (line_number width p.start.line ++ (codes " | " ++ (sanitized (chars p.line.now)
+    ++ (codes "\n" ++ (gutter width ++ (codes " | "
+    ++ (margin p.before.now ++ (carets p.part.now ++ codes "\n")))))))))
+
+-- The location of a part of a file, and its line with carets. There is none without a file.
+abbrev pub place_text : ℕ → Option FilePart → List ℕ
+place_text width None = []
+place_text width (Some p) = location width p ++ snippet width p
+
+-- A diagnostic without its children.
+abbrev pub text_alone : ℕ → Diagnostic → Bool → List ℕ
+text_alone width d is_coloured = head d is_coloured ++ place_text width d.place
+
+-- The sign before a child that is on no file.
+abbrev pub sign : ℕ → Option FilePart → List ℕ
+sign width None = gutter width ++ codes " = "
+sign width (Some p) = []
+
+abbrev pub child_text : ℕ → Diagnostic → Bool → List ℕ
+child_text width c is_coloured = sign width c.place ++ text_alone width c is_coloured
+
+abbrev pub children_text : ℕ → List Diagnostic → Bool → List ℕ
+children_text width [] is_coloured = []
+children_text width (c ∷ cs) is_coloured =
+    child_text width c is_coloured ++ children_text width cs is_coloured
+
+-- The line between a diagnostic and its children, if it has any.
+abbrev pub bar : ℕ → List Diagnostic → List ℕ
+bar width [] = []
+bar width (c ∷ cs) = gutter width ++ codes " |\n"
+
+-- A diagnostic and its children, in line numbers of that width, with an empty line at the end.
+abbrev pub text_in : ℕ → Diagnostic → List Diagnostic → Bool → List ℕ
+text_in width d children is_coloured =
+    text_alone width d is_coloured
+    ++ (bar width children ++ (children_text width children is_coloured ++ codes "\n"))
 
 -- The whole text, as people read it.
-abbrev pub text : Diagnostic → Bool → List ℕ
-text d is_coloured = head d is_coloured ++ (location d ++ snippet d)
+abbrev pub text : Diagnostic → List Diagnostic → Bool → List ℕ
+text d children is_coloured = text_in (width_of d children) d children is_coloured

@@ -1,4 +1,5 @@
-// The type of a diagnostic: a message about a part of a file.
+// The type of a diagnostic: a message about a part of a file. The diagnostic of a mistake may have
+// children, which say more about the mistake.
 ghost use Rattle.std.specs.Prelude.{◌≡◌};
 ghost use Rattle.mbe_diagnostics.specs.Diagnostics as spec;
 
@@ -34,11 +35,9 @@ pub struct Point {
     pub column: usize,
 }
 
-/// A message about a part of a file.
+/// A part of a file, as a diagnostic shows it.
 #[derive(Drop)]
-pub struct Diagnostic<'t> {
-    pub level: Level,
-    pub message: &'t str,
+pub struct FilePart<'t> {
     /// The file's name.
     pub file: &'t str,
     pub start: Point,
@@ -50,4 +49,17 @@ pub struct Diagnostic<'t> {
     pub before: &'t str,
     /// The text of the part, up to the end of that line.
     pub part: &'t str,
+}
+
+/// A message, on a part of a file or on no file.
+#[derive(Drop)]
+pub struct Diagnostic<'t> {
+    pub level: Level,
+    pub message: &'t str,
+    /// The id of its kind. It is empty for a child, and for a note without a kind of its own.
+    pub code: &'t str,
+    /// Whether it is a child: it belongs to the last diagnostic before it that is none.
+    pub is_child: bool,
+    /// The part of the file. `None` if the message is on no file.
+    pub place: Option<FilePart<'t>>,
 }

@@ -10,6 +10,7 @@ pub mod diagnostic;
 pub mod excerpt;
 pub mod json;
 pub mod lints;
+pub mod message_kinds;
 pub mod mismatch;
 pub mod outcome;
 pub mod renderer;

@@ -1,11 +1,11 @@
 // Renders a diagnostic as rustc does: the level and the message, the location, the line of the
-// file, and carets below the part.
-ghost use Rattle.std.specs.Prelude.{◌≡◌, ◌++◌, ◌+◌, ◌<◌, IfOk, OnOk, chars, codes, false};
+// file, and carets below the part. Its children follow in the same form.
+ghost use Rattle.std.specs.Prelude.{◌≡◌, ◌++◌, ◌+◌, ◌<◌, IfOk, OnOk, chars, codes, false, max};
 ghost use Rattle.std.specs.String.{string_bytes};
 ghost use Rattle.unicode_width.specs.Width.{str_width};
 ghost use Rattle.mbe_diagnostics.specs.Diagnostics as spec;
 
-use crate::diagnostic::{Diagnostic, Level};
+use crate::diagnostic::{Diagnostic, FilePart, Level};
 use std::alloc::{AllocError, Allocator};
 use unicode_width::UnicodeWidthStr;
 
@@ -115,13 +115,84 @@ fn carets<A: Allocator + Copy>(alloc: A, part: &str) -> Result<String<A>, AllocE
     "^".repeat(alloc, sanitized.as_str().width().max(1))
 }
 
-// Returns one space for each digit of the number.
-#[tactic(auto, unfolding(crate::specs::Diagnostics::gutter))]
-fn gutter<A: Allocator + Copy>(alloc: A, number: usize) -> Result<String<A>, AllocError>
-    ensures { IfOk result (λ t. string_bytes t ≡ spec.gutter number) }
+// Returns the number of digits of a number.
+fn digits<A: Allocator + Copy>(alloc: A, number: usize) -> Result<usize, AllocError>
+    ensures { IfOk result (λ n. n ≡ spec.digits number) }
 {
-    let digits = format!(in alloc; "{number}")?;
-    " ".repeat(alloc, digits.len())
+    let text = format!(in alloc; "{number}")?;
+    Ok(text.len())
+}
+
+// Returns the number of digits of the line number of a part of a file.
+fn digits_of<A: Allocator + Copy>(
+    alloc: A,
+    place: &Option<FilePart<'_>>,
+) -> Result<usize, AllocError>
+    ensures { IfOk result (λ n. n ≡ spec.digits_of place.now) }
+{
+    match place {
+        Some(part) => digits(alloc, part.start.line),
+        None => Ok(0),
+    }
+}
+
+fn wider(one: usize, other: usize) -> usize
+    ensures { result ≡ max one other }
+{
+    if one < other {
+        return other;
+    }
+    one
+}
+
+// Returns the largest of `width` and the numbers of digits of the children's line numbers.
+fn widest<A: Allocator + Copy>(
+    alloc: A,
+    width: usize,
+    children: &[Diagnostic<'_>],
+) -> Result<usize, AllocError>
+    ensures { IfOk result (λ n. n ≡ spec.widest width children.now) }
+{
+    let mut width = width;
+    for child in children {
+        let digits = digits_of(alloc, &child.place)?;
+        width = wider(width, digits);
+    }
+    Ok(width)
+}
+
+// Returns the width of the line numbers of a diagnostic and its children.
+fn width_of<A: Allocator + Copy>(
+    alloc: A,
+    diag: &Diagnostic<'_>,
+    children: &[Diagnostic<'_>],
+) -> Result<usize, AllocError>
+    ensures { IfOk result (λ n. n ≡ spec.width_of diag.now children.now) }
+{
+    let digits = digits_of(alloc, &diag.place)?;
+    widest(alloc, digits, children)
+}
+
+// Returns one space for each column of a line number.
+#[tactic(auto, unfolding(crate::specs::Diagnostics::gutter))]
+fn gutter<A: Allocator + Copy>(alloc: A, width: usize) -> Result<String<A>, AllocError>
+    ensures { IfOk result (λ t. string_bytes t ≡ spec.gutter width) }
+{
+    " ".repeat(alloc, width)
+}
+
+// Returns a line number, with spaces before it up to that width.
+#[tactic(auto, unfolding(crate::specs::Diagnostics::line_number))]
+fn line_number<A: Allocator + Copy>(
+    alloc: A,
+    width: usize,
+    number: usize,
+) -> Result<String<A>, AllocError>
+    ensures { IfOk result (λ t. string_bytes t ≡ spec.line_number width number) }
+{
+    let digits = digits(alloc, number)?;
+    let space = gutter(alloc, width.saturating_sub(digits))?;
+    format!(in alloc; "{space}{number}")
 }
 
 // Returns the first line: the level and the message.
@@ -138,42 +209,161 @@ fn head<A: Allocator + Copy>(
 }
 
 // Returns the second line: the file, the line and the column.
-fn location<A: Allocator + Copy>(alloc: A, diag: &Diagnostic<'_>) -> Result<String<A>, AllocError>
-    ensures { IfOk result (λ t. string_bytes t ≡ spec.location diag.now) }
+fn location<A: Allocator + Copy>(
+    alloc: A,
+    width: usize,
+    part: &FilePart<'_>,
+) -> Result<String<A>, AllocError>
+    ensures { IfOk result (λ t. string_bytes t ≡ spec.location width part.now) }
 {
-    let gutter = gutter(alloc, diag.start.line)?;
-    let file = diag.file;
-    let (line, column) = (diag.start.line, diag.start.column);
+    let gutter = gutter(alloc, width)?;
+    let file = part.file;
+    let (line, column) = (part.start.line, part.start.column);
     format!(in alloc; "{gutter}--> {file}:{line}:{column}\n")
 }
 
 // Returns the line of the file with its number, and the carets below the part.
-fn snippet<A: Allocator + Copy>(alloc: A, diag: &Diagnostic<'_>) -> Result<String<A>, AllocError>
-    ensures { IfOk result (λ t. string_bytes t ≡ spec.snippet diag.now) }
+fn snippet<A: Allocator + Copy>(
+    alloc: A,
+    width: usize,
+    part: &FilePart<'_>,
+) -> Result<String<A>, AllocError>
+    ensures { IfOk result (λ t. string_bytes t ≡ spec.snippet width part.now) }
 {
-    let number = diag.start.line;
-    let gutter = gutter(alloc, number)?;
-    let line = sanitized(alloc, diag.line)?;
-    let margin = margin(alloc, diag.before)?;
-    let carets = carets(alloc, diag.part)?;
+    let gutter = gutter(alloc, width)?;
+    let number = line_number(alloc, width, part.start.line)?;
+    let line = sanitized(alloc, part.line)?;
+    let margin = margin(alloc, part.before)?;
+    let carets = carets(alloc, part.part)?;
     format!(in alloc; "{gutter} |\n{number} | {line}\n{gutter} | {margin}{carets}\n")
 }
 
-/// Renders a diagnostic as rustc does. The first line has the level and the message. The next ones
-/// have the file with the line and the column, the text of that line, and carets below the part.
-/// Tabs become four spaces, and control characters become signs. If `is_coloured`, terminal codes
-/// colour the level. `AllocError` if out of memory.
+// Appends the location of a part of a file, and its line with carets. Nothing is appended for
+// `None`.
+fn push_place<A: Allocator + Copy>(
+    alloc: A,
+    width: usize,
+    place: &Option<FilePart<'_>>,
+    text: &mut String<A>,
+) -> Result<(), AllocError>
+    ensures { OnOk result (string_bytes text.new ≡ string_bytes text.old
+        ++ spec.place_text width place.now) }
+{
+    let Some(part) = place else {
+        return Ok(());
+    };
+    let location = location(alloc, width, part)?;
+    text.push_str(location.as_str())?;
+    let snippet = snippet(alloc, width, part)?;
+    text.push_str(snippet.as_str())
+}
+
+// Appends a diagnostic without its children.
+fn push_alone<A: Allocator + Copy>(
+    alloc: A,
+    width: usize,
+    diag: &Diagnostic<'_>,
+    is_coloured: bool,
+    text: &mut String<A>,
+) -> Result<(), AllocError>
+    ensures { OnOk result (string_bytes text.new ≡ string_bytes text.old
+        ++ spec.text_alone width diag.now is_coloured) }
+{
+    let head = head(alloc, diag, is_coloured)?;
+    text.push_str(head.as_str())?;
+    push_place(alloc, width, &diag.place, text)
+}
+
+// Appends the sign before a child that is on no file.
+fn push_sign<A: Allocator + Copy>(
+    alloc: A,
+    width: usize,
+    place: &Option<FilePart<'_>>,
+    text: &mut String<A>,
+) -> Result<(), AllocError>
+    ensures { OnOk result (string_bytes text.new ≡ string_bytes text.old
+        ++ spec.sign width place.now) }
+{
+    match place {
+        Some(_) => Ok(()),
+        None => {
+            let gutter = gutter(alloc, width)?;
+            text.push_str(gutter.as_str())?;
+            text.push_str(" = ")
+        }
+    }
+}
+
+// Appends a child.
+fn push_child<A: Allocator + Copy>(
+    alloc: A,
+    width: usize,
+    child: &Diagnostic<'_>,
+    is_coloured: bool,
+    text: &mut String<A>,
+) -> Result<(), AllocError>
+    ensures { OnOk result (string_bytes text.new ≡ string_bytes text.old
+        ++ spec.child_text width child.now is_coloured) }
+{
+    push_sign(alloc, width, &child.place, text)?;
+    push_alone(alloc, width, child, is_coloured, text)
+}
+
+// Appends the children of a diagnostic.
+fn push_children<A: Allocator + Copy>(
+    alloc: A,
+    width: usize,
+    children: &[Diagnostic<'_>],
+    is_coloured: bool,
+    text: &mut String<A>,
+) -> Result<(), AllocError>
+    ensures { OnOk result (string_bytes text.new ≡ string_bytes text.old
+        ++ spec.children_text width children.now is_coloured) }
+{
+    for child in children {
+        push_child(alloc, width, child, is_coloured, text)?;
+    }
+    Ok(())
+}
+
+// Appends the line between a diagnostic and its children, if it has any.
+fn push_bar<A: Allocator + Copy>(
+    alloc: A,
+    width: usize,
+    children: &[Diagnostic<'_>],
+    text: &mut String<A>,
+) -> Result<(), AllocError>
+    ensures { OnOk result (string_bytes text.new ≡ string_bytes text.old
+        ++ spec.bar width children.now) }
+{
+    match children {
+        [] => Ok(()),
+        [_, ..] => {
+            let gutter = gutter(alloc, width)?;
+            text.push_str(gutter.as_str())?;
+            text.push_str(" |\n")
+        }
+    }
+}
+
+/// Renders a diagnostic with its children as rustc does, and ends it by an empty line. The first
+/// line has the level and the message. The next ones have the file with the line and the column,
+/// the text of that line, and carets below the part. All line numbers are as wide as the longest
+/// one. Tabs become four spaces, and control characters become signs. If `is_coloured`, terminal
+/// codes colour the levels. `AllocError` if out of memory.
 pub fn rendered<A: Allocator + Copy>(
     alloc: A,
     diag: &Diagnostic<'_>,
+    children: &[Diagnostic<'_>],
     is_coloured: bool,
 ) -> Result<String<A>, AllocError>
-    ensures { IfOk result (λ t. string_bytes t ≡ spec.text diag.now is_coloured) }
+    ensures { IfOk result (λ t. string_bytes t ≡ spec.text diag.now children.now is_coloured) }
 {
-    let mut text = head(alloc, diag, is_coloured)?;
-    let location = location(alloc, diag)?;
-    let snippet = snippet(alloc, diag)?;
-    text.push_str(location.as_str())?;
-    text.push_str(snippet.as_str())?;
+    let width = width_of(alloc, diag, children)?;
+    let mut text = String::new(alloc);
+    push_alone(alloc, width, diag, is_coloured, &mut text)?;
+    push_bar(alloc, width, children, &mut text)?;
+    push_children(alloc, width, children, is_coloured, &mut text)?;
+    text.push_str("\n")?;
     Ok(text)
 }

@@ -16,6 +16,9 @@ use std::rt::Files;
 /// The limit of files that are searched for modules.
 pub const MAX_FILES: usize = 65_536;
 
+/// The limit of rounds in which calls are expanded to find modules.
+pub const MAX_ROUNDS: usize = 64;
+
 /// Reads the file `path`. A text of 2^32 bytes or more is an error.
 pub fn file_text<R: Files + AllocGlobal>(rt: &R, path: &str) -> io::Result<String> {
     let text = io::read_to_string(rt.alloc(), fs::open(rt, path)?.take(1 << 32))?;
@@ -187,6 +190,18 @@ impl FileReader {
         }
     }
 
+    // Adds a note, unless it is there already: a file may be looked for in several rounds.
+    fn add_note(&mut self, note: String) -> Result<(), AllocError> {
+        if !self
+            .notes
+            .iter()
+            .any(|other| other.as_str() == note.as_str())
+        {
+            self.notes.push(note)?;
+        }
+        Ok(())
+    }
+
     // Adds a file, if it can be read, isn't there yet, and isn't reached from itself.
     fn add_file<R: Files + AllocGlobal>(&mut self, rt: &R, file: NamedFile<'_>) -> io::Result<()> {
         let (path, alloc) = (file.path, rt.alloc());
@@ -198,7 +213,7 @@ impl FileReader {
             let note = format!(in alloc;
                 "`{path}` isn't read: it isn't below a folder of `--root`"
             )?;
-            self.notes.push(note)?;
+            self.add_note(note)?;
             return Ok(());
         }
         let known = self.by_whole.get(whole.as_str()).copied();
@@ -210,7 +225,7 @@ impl FileReader {
             let note = format!(in alloc;
                 "circular: `{path}` is `{name}`, which it is reached from"
             )?;
-            self.notes.push(note)?;
+            self.add_note(note)?;
             return Ok(());
         }
         if let Some(text) = self.text_once(rt, known, path)? {
@@ -276,5 +291,42 @@ impl FileReader {
             self.add_module(rt, number, module)?;
         }
         Ok(())
+    }
+
+    // Adds the files of the modules of each file that was added since there were `known` files, and
+    // of each file with calls that expand to modules.
+    fn add_followed<R: Files + AllocGlobal>(
+        &mut self,
+        rt: &R,
+        options: &SessionOptions<'_>,
+        known: usize,
+    ) -> io::Result<()> {
+        for number in 0..MAX_FILES {
+            if number >= self.files.texts.len() {
+                break;
+            }
+            if number >= known || self.files.has_followed_calls(number) {
+                self.add_modules(rt, options, number)?;
+            }
+        }
+        Ok(())
+    }
+
+    /// Expands the calls of the files, and adds the files of the modules that they become. The calls
+    /// of those files are expanded in turn, and so on. Returns whether this ended: there is a limit
+    /// of rounds. An error says that memory ran out.
+    pub fn follow_calls<R: Files + AllocGlobal>(
+        &mut self,
+        rt: &R,
+        options: &SessionOptions<'_>,
+    ) -> io::Result<bool> {
+        for _ in 0..MAX_ROUNDS {
+            let known = self.files.texts.len();
+            if !self.files.follow_calls(rt.alloc(), options)? {
+                return Ok(true);
+            }
+            self.add_followed(rt, options, known)?;
+        }
+        Ok(false)
     }
 }

@@ -108,6 +108,7 @@ fn found_at(
     severity: Severity,
     span: Span,
     message: &str,
+    is_child: bool,
 ) -> Result<Finding, AllocError> {
     let (file, extent) = place_of(files, span);
     Ok(Finding {
@@ -115,6 +116,7 @@ fn found_at(
         file,
         extent,
         message: String::from_str(alloc, message)?,
+        is_child,
     })
 }
 
@@ -127,7 +129,8 @@ fn add_notes(
     for note in notes {
         let severity = severity_of_note(note.level);
         let message = note.message.as_str();
-        found.push(found_at(alloc, files, severity, note.span, message)?)?;
+        let finding = found_at(alloc, files, severity, note.span, message, note.is_child)?;
+        found.push(finding)?;
     }
     Ok(())
 }
@@ -141,7 +144,8 @@ fn add_lints(
     for lint in lints {
         let severity = severity_of_lint(lint.level);
         let message = lint.message.as_str();
-        found.push(found_at(alloc, files, severity, lint.span, message)?)?;
+        let finding = found_at(alloc, files, severity, lint.span, message, lint.is_child())?;
+        found.push(finding)?;
     }
     Ok(())
 }

@@ -5,7 +5,7 @@
 //   several. `definitions` finds macros and rules in files, `rule_uses` the rules that expand
 //   calls. `coverage_text`, `coverage_json` and `lcov` write the counts.
 // - Diagnostics: `SarifLog` collects the messages of sessions and of lints. `messages` has them as
-//   data, `message_kinds` their kinds, `regions` where they are.
+//   data, `regions` where they are.
 #![tactic(auto)]
 
 pub mod coverage;
@@ -13,7 +13,6 @@ pub mod coverage_json;
 pub mod coverage_text;
 mod definitions;
 pub mod lcov;
-mod message_kinds;
 mod messages;
 mod regions;
 mod rule_uses;

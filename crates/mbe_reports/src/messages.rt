@@ -11,6 +11,8 @@ pub struct Message<'t> {
     pub level: Level,
     pub text: &'t str,
     pub span: Span,
+    /// Whether it says more about the last message before it that is no child.
+    pub is_child: bool,
 }
 
 fn level_of(level: notes::Level) -> Level {
@@ -31,6 +33,7 @@ pub fn push_notes<'t>(
             level: level_of(note.level),
             text: note.message.as_str(),
             span: note.span,
+            is_child: note.is_child,
         })?;
     }
     Ok(())
@@ -46,37 +49,16 @@ pub fn push_lints<'t>(
             level: lint.level,
             text: lint.message.as_str(),
             span: lint.span,
+            is_child: lint.is_child(),
         })?;
     }
     Ok(())
 }
 
-// Whether a session's note says more about the message before it. Such a note is on a rule, on the
-// definition of the macro, on a binding, or on a call.
-fn is_more(text: &str) -> bool {
-    text.starts_with("rule ")
-        || text.contains(" in rule ")
-        || text == "when calling this macro"
-        || text.starts_with("in this macro invocation")
-        || text.ends_with(" defined here")
-        || text.ends_with(" is bound here")
-}
-
-impl Message<'_> {
-    // Whether the message says more about the one before it. A help does, and each note of a lint.
-    fn is_detail(&self, is_lint: bool) -> bool {
-        match self.level {
-            Level::Error | Level::Warning => false,
-            Level::Note => is_lint || is_more(self.text),
-            Level::Help => true,
-        }
-    }
-}
-
-/// Returns how many of the messages at the front say more about the message before them.
-pub fn count_details(messages: &[Message<'_>], is_lint: bool) -> usize {
+/// Returns how many of the messages at the front are children of the message before them.
+pub fn count_children(messages: &[Message<'_>]) -> usize {
     messages
         .iter()
-        .position(|message| !message.is_detail(is_lint))
+        .position(|message| !message.is_child)
         .unwrap_or(messages.len())
 }

@@ -1,10 +1,10 @@
 // A log of diagnostics in SARIF 2.1.0, the format that code hosts read.
 //
-// An error, a warning or a note is a result. The notes and helps that say more about it are its
-// related locations.
-use crate::message_kinds::{KINDS, MessageKind, kind_of, level_name};
-use crate::messages::{Message, count_details, push_lints, push_notes};
+// An error, a warning or a note is a result. Its children are its related locations.
+use crate::messages::{Message, count_children, push_lints, push_notes};
 use crate::regions::{Place, Region, region_of, uri_of};
+use mbe_diagnostics::diagnostic::Level;
+use mbe_diagnostics::message_kinds::{KINDS, MessageKind, kind_of};
 use mbe_markup::json::{Json, Piece};
 use mbe_session::linted_files::LintedFiles;
 use mbe_session::session::Session;
@@ -113,14 +113,14 @@ fn write_related(
 }
 
 // Writes the related locations of a result.
-fn write_details(
+fn write_children(
     alloc: Global,
     json: &mut Json,
     files: &[SourceFile<'_>],
-    details: &[Message<'_>],
+    children: &[Message<'_>],
 ) -> Result<(), AllocError> {
     let mut index = 0usize;
-    for message in details {
+    for message in children {
         if let Some(file) = files.get(message.span.file as usize) {
             write_related(alloc, json, index, file, *message)?;
             index = index.saturating_add(1);
@@ -149,13 +149,22 @@ fn write_kind(
     )
 }
 
+// Returns the name that a SARIF log has for a level.
+fn level_name(level: Level) -> &'static str {
+    match level {
+        Level::Error => "error",
+        Level::Warning => "warning",
+        Level::Note | Level::Help => "note",
+    }
+}
+
 // Writes a result.
 fn write_result(
     alloc: Global,
     json: &mut Json,
     files: &[SourceFile<'_>],
     lead: Message<'_>,
-    details: &[Message<'_>],
+    children: &[Message<'_>],
 ) -> Result<(), AllocError> {
     let (id, level) = (kind_of(lead.level, lead.text), level_name(lead.level));
     write_kind(alloc, json, id, level)?;
@@ -163,7 +172,7 @@ fn write_result(
     json.write(alloc, &[Piece::Mark(",\"locations\":[")])?;
     write_location(alloc, json, files, lead)?;
     json.write(alloc, &[Piece::Mark("],\"relatedLocations\":[")])?;
-    write_details(alloc, json, files, details)?;
+    write_children(alloc, json, files, children)?;
     json.write(alloc, &[Piece::Mark("]}")])
 }
 
@@ -172,10 +181,10 @@ fn result_text(
     alloc: Global,
     files: &[SourceFile<'_>],
     lead: Message<'_>,
-    details: &[Message<'_>],
+    children: &[Message<'_>],
 ) -> Result<String, AllocError> {
     let mut json = Json::new(alloc);
-    write_result(alloc, &mut json, files, lead, details)?;
+    write_result(alloc, &mut json, files, lead, children)?;
     Ok(json.into_text())
 }
 
@@ -275,15 +284,15 @@ impl SarifLog {
         self.results.push_str(text)
     }
 
-    // Adds the result of a message and of its details.
+    // Adds the result of a message and of its children.
     fn add(
         &mut self,
         alloc: Global,
         files: &[SourceFile<'_>],
         lead: Message<'_>,
-        details: &[Message<'_>],
+        children: &[Message<'_>],
     ) -> Result<(), AllocError> {
-        let text = result_text(alloc, files, lead, details)?;
+        let text = result_text(alloc, files, lead, children)?;
         self.push(alloc, text.as_str())
     }
 
@@ -293,31 +302,30 @@ impl SarifLog {
         alloc: Global,
         files: &[SourceFile<'_>],
         messages: &[Message<'_>],
-        is_lint: bool,
     ) -> Result<(), AllocError> {
         let mut at = 0usize;
         for _ in 0..messages.len() {
-            at = self.add_next(alloc, files, messages, at, is_lint)?;
+            at = self.add_next(alloc, files, messages, at)?;
         }
         Ok(())
     }
 
-    // Adds the result of the message of that index and of its details. Returns the index after them.
+    // Adds the result of the message of that index and of its children. Returns the index after
+    // them.
     fn add_next(
         &mut self,
         alloc: Global,
         files: &[SourceFile<'_>],
         messages: &[Message<'_>],
         at: usize,
-        is_lint: bool,
     ) -> Result<usize, AllocError> {
         let (_, rest) = messages.split_at(at.min(messages.len()));
         let [lead, after @ ..] = rest else {
             return Ok(at);
         };
-        let count = count_details(after, is_lint).min(after.len());
-        let (details, _) = after.split_at(count);
-        self.add(alloc, files, *lead, details)?;
+        let count = count_children(after).min(after.len());
+        let (children, _) = after.split_at(count);
+        self.add(alloc, files, *lead, children)?;
         Ok(at.saturating_add(1).saturating_add(count))
     }
 
@@ -327,7 +335,7 @@ impl SarifLog {
         let mut messages = Vec::new(alloc);
         push_notes(session.notes.as_slice(), &mut messages)?;
         push_notes(session.expander.notes.as_slice(), &mut messages)?;
-        self.add_all(alloc, session.files.as_slice(), messages.as_slice(), false)
+        self.add_all(alloc, session.files.as_slice(), messages.as_slice())
     }
 
     /// Adds the diagnostics of files that are linted. `AllocError` if out of memory.
@@ -335,7 +343,7 @@ impl SarifLog {
         let mut messages = Vec::new(alloc);
         push_notes(linted.notes.as_slice(), &mut messages)?;
         push_lints(linted.lints.as_slice(), &mut messages)?;
-        self.add_all(alloc, linted.files.as_slice(), messages.as_slice(), true)
+        self.add_all(alloc, linted.files.as_slice(), messages.as_slice())
     }
 
     /// Returns the log as JSON. `version` is the version of the program. `AllocError` if out of

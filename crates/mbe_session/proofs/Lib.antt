@@ -27,6 +27,7 @@ pub mod PlaceLemmas
 pub mod RefusedEditions
 pub mod ReturnLemmas
 pub mod SessionLemmas
+mod CallModuleLemmas
 pub mod WriterLemmas
 pub mod EmitterLemmas
 pub mod LimitLemmas

@@ -38,10 +38,11 @@ one_more_text f g found more new items item i h is e before one =
     ap (map f) e ∙ map-append f found (new ∷ []) ∙ ap (λ xs. xs ++ f new ∷ []) before
     ∙ ap (λ x. map g (take i items) ++ x ∷ []) one ∙ sym (map_taken g items item i h is)
 
-pub same_text : (x y : Text) → x.path ≡ y.path → x.text ≡ y.text → x ≡ y
-same_text x y p t =
-    ap (λ q. let z : Text = record { path = q; text = x.text } in z) p
-    ∙ ap (λ u. let z : Text = record { path = y.path; text = u } in z) t
+pub same_text : (x y : Text) → x.path ≡ y.path → x.text ≡ y.text → x.calls ≡ y.calls → x ≡ y
+same_text x y p t c =
+    ap (λ q. let z : Text = record { path = q; text = x.text; calls = x.calls } in z) p
+    ∙ ap (λ u. let z : Text = record { path = y.path; text = u; calls = x.calls } in z) t
+    ∙ ap (λ v. let z : Text = record { path = y.path; text = y.text; calls = v } in z) c
 
 pub one_more_source : {X : Type 0} (see : X → Source) (Reads : ℕ → SourceSettings → Type 0) (r : SourceSettings)
     (found more : List X) (new : X) (number : ℕ)

@@ -97,12 +97,27 @@ pub record Note : Type 0 where
   pub level : Level
   pub place : Span
   pub text : List ℕ
+  -- Whether it is a child: it says more about the last note before it that is none.
+  pub is_child : Bool
 
 abbrev pub note_seen : {A : Type 0} → declared.Note A → Note
-note_seen n = record { level = n.level; place = n.span; text = string_bytes n.message }
+note_seen n = record {
+  level = n.level;
+  place = n.span;
+  text = string_bytes n.message;
+  is_child = n.is_child;
+}
 
-abbrev pub note_at : Span → List ℕ → Note
-note_at place text = record { level = level.Note; place = place; text = text }
+abbrev pub note_at : Bool → Span → List ℕ → Note
+note_at is_child place text = record {
+  level = level.Note;
+  place = place;
+  text = text;
+  is_child = is_child;
+}
+
+abbrev pub child_at : Span → List ℕ → Note
+child_at place text = note_at true place text
 
 -- The name of a rule in messages.
 abbrev pub rule_name : ℕ → List ℕ → List ℕ
@@ -111,7 +126,7 @@ rule_name number name = codes "rule " ++ (decimal number ++ (codes " of `" ++ (n
 -- Where a part of a rule is. An end has no span.
 abbrev pub part_note : List ℕ → List ℕ → Option Span → List Note
 part_note rule text None = []
-part_note rule text (Some place) = note_at place (text ++ (codes " in " ++ rule)) ∷ []
+part_note rule text (Some place) = child_at place (text ++ (codes " in " ++ rule)) ∷ []
 
 abbrev pub part_notes : List ℕ → List RulePart → List Note
 part_notes rule [] = []
@@ -125,7 +140,7 @@ bound_text rule variable text =
 abbrev pub binding_note : List ℕ → List ℕ → List ℕ → Option Span → List Note
 binding_note rule variable text None = []
 binding_note rule variable text (Some place) =
-    note_at place (bound_text rule variable text) ∷ []
+    child_at place (bound_text rule variable text) ∷ []
 
 abbrev pub binding_notes : List ℕ → List BindingText → List Note
 binding_notes rule [] = []
@@ -135,24 +150,28 @@ binding_notes rule (t ∷ ts) = binding_note rule t.variable.text t.text t.varia
 unfoldable pub outcome_text : List ℕ → MatchOutcome → List ℕ
 outcome_text rule outcome = message_text rule outcome
 
--- The outcome of a rule, and where the parts of the rule are that its message names.
-abbrev pub outcome_notes : List ℕ → MatchOutcome → List Note
-outcome_notes rule outcome = note_at outcome.place (outcome_text rule outcome)
+-- The outcome of a rule, and where the parts of the rule are that its message names. The notes on
+-- the parts are children.
+abbrev pub outcome_notes : List ℕ → Bool → MatchOutcome → List Note
+outcome_notes rule is_child outcome =
+    note_at is_child outcome.place (outcome_text rule outcome)
     ∷ part_notes rule (named_parts outcome)
 
 -- The outcome of a rule, and what its variables are bound to.
-abbrev pub rule_notes : List ℕ → RuleExplanation → List Note
-rule_notes rule r = outcome_notes rule r.outcome ++ binding_notes rule r.matched
+abbrev pub rule_notes : List ℕ → Bool → RuleExplanation → List Note
+rule_notes rule is_child r =
+    outcome_notes rule is_child r.outcome ++ binding_notes rule r.matched
 
 -- The next number of 64 bits. The last one is its own next.
 abbrev pub next_number : ℕ → ℕ
 next_number n = min (n + 1) (2 ^ 64 - 1)
 
 -- The notes of rules, the first of which has that number.
-abbrev pub rules_notes : List ℕ → ℕ → List RuleExplanation → List Note
-rules_notes name number [] = []
-rules_notes name number (s ∷ ss) =
-    rule_notes (rule_name number name) s ++ rules_notes name (next_number number) ss
+abbrev pub rules_notes : List ℕ → Bool → ℕ → List RuleExplanation → List Note
+rules_notes name is_child number [] = []
+rules_notes name is_child number (s ∷ ss) =
+    rule_notes (rule_name number name) is_child s
+    ++ rules_notes name is_child (next_number number) ss
 
 -- ---- which calls are explained
 
@@ -163,10 +182,11 @@ selects (explain.At file start end) call is_expanded =
     (call.file == file) && (not (nat_lt call.start start) && nat_lt call.start end)
 
 -- The notes on a call: the explanation by each rule, where the first rule is rule 1, if the call is
--- to be explained.
-abbrev pub NotesRules : Setting → MacroCall → State → Delimiter × Forest → Bool → List Note
+-- to be explained. The first flag says whether the notes on rules are children, and the second one
+-- whether the call is to be explained.
+abbrev pub NotesRules : Setting → MacroCall → State → Delimiter × Forest → Bool → Bool → List Note
     → List Note → Type 0
-NotesRules e c s argument false before after = after ≡ before
-NotesRules e c s argument true before after =
+NotesRules e c s argument is_child false before after = after ≡ before
+NotesRules e c s argument is_child true before after =
     (explanations : List RuleExplanation) × ExplainsRules e c s argument explanations
-    × (after ≡ before ++ rules_notes c.name.sym 1 explanations)
+    × (after ≡ before ++ rules_notes c.name.sym is_child 1 explanations)

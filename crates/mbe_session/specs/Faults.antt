@@ -8,7 +8,7 @@ use Rattle.mbe_semantics.specs.Expansion.Error.{text_of_fault}
 use Rattle.mbe_semantics.specs.Expansion.Macro.{Macro}
 use Rattle.mbe_semantics.specs.Syntax.Template.{Fault}
 use Rattle.mbe_rewriter.specs.MacroItems.{MacroCall}
-use Rattle.mbe_session.specs.Explanation.{Note, note_at}
+use Rattle.mbe_session.specs.Explanation.{Note, child_at}
 use Rattle.mbe_session.specs.Scopes.{Scope, Definition, definition_at, is_extern}
 use Rattle.mbe_session.specs.Resolution.{resolve}
 use Rattle.mbe_session.specs.declared.notes.Level.TheVariants as level
@@ -30,7 +30,12 @@ is_faulty None = false
 is_faulty (Some m) = is_some m.err
 
 abbrev pub error_at : Span → List ℕ → Note
-error_at place text = record { level = level.Error; place = place; text = text }
+error_at place text = record {
+  level = level.Error;
+  place = place;
+  text = text;
+  is_child = false;
+}
 
 -- ---- the file's own
 
@@ -54,9 +59,9 @@ extern_fault s n = if is_extern s.crates n then fault_at s n else None
 abbrev pub fault_of_call : Scope → MacroCall → Option (Span × List ℕ)
 fault_of_call s c = option_and_then (extern_fault s) (resolve s c)
 
--- where the macro of that name is defined
+-- where the macro of that name is defined, as a child
 abbrev pub defined_at : Span → List ℕ → Note
-defined_at place name = note_at place (codes "`" ++ (name ++ codes "!` is defined here"))
+defined_at place name = child_at place (codes "`" ++ (name ++ codes "!` is defined here"))
 
 -- it is said at the call, with the place of the definition
 abbrev pub refused_at : MacroCall → Option (Span × List ℕ) → List Note

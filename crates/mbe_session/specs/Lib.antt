@@ -18,6 +18,8 @@ pub mod Imports
 pub mod Locations
 pub mod LineEndings
 pub mod Sources
+pub mod TextTrees
+pub mod CallModules
 pub mod RecursionLimit
 pub mod CrateTrees
 pub mod ModuleFiles
@@ -34,4 +36,5 @@ pub mod EmittedNotes
 pub mod LintedFiles
 pub mod LineViews
 pub mod FileSets
+pub mod CallTextViews
 pub mod FileViews

@@ -1,44 +1,37 @@
 -- Source files.
-use Rattle.std.specs.Prelude.{◌≡◌, ◌⊎◌, ◌≤◌, ◌^◌, ℕ, List, [], ◌∷◌, ◌++◌, length, Option, Some}
-use Rattle.std.specs.Prelude.{None, Ok, IsErr}
-use Rattle.mbe_tt.specs.declared.span.Edition.{Edition}
+use Rattle.std.specs.Prelude.{ℕ, List, [], ◌∷◌, ◌++◌, length, Option}
 use Rattle.mbe_tt.specs.Trees.Top.{Top}
-use Rattle.mbe_text.specs.LexedTrees.{lexed_trees}
-use Rattle.mbe_text.specs.declared.dialect.Dialect.TheVariants.{Rust}
-use Rattle.mbe_grammar.specs.Tables.Lawful.{grammar_of}
-use Rattle.mbe_cfg.specs.CfgStrip.{enabled_tree}
 use Rattle.mbe_session.specs.declared.source_settings.SourceSettings.{SourceSettings}
+use Rattle.mbe_session.specs.CallModules.{CallText, IsWithCalls}
 use Rattle.mbe_session.specs.LineEndings.{normalized}
+use Rattle.mbe_session.specs.TextTrees.{IsTreeOf}
 
--- A file before it is lexed: its path and its text.
+-- A file before it is lexed: its path, its text, and calls with the texts of their expansions.
 pub record Text : Type 0 where
   pub path : List ℕ
   pub text : List ℕ
+  pub calls : List CallText
 
--- A file: its path, its text, and its trees if it is Rust. The trees are without the code that
--- `cfg` disables.
+-- A file: its path, its text, calls with the texts of their expansions, and its trees if it is Rust.
+-- The trees are without the code that `cfg` disables, and have the modules of the calls.
 pub record Source : Type 0 where
   pub path : List ℕ
   pub text : List ℕ
+  pub calls : List CallText
   pub tree : Option Top
 
 abbrev pub source_text : Source → Text
-source_text s = record { path = s.path; text = s.text }
+source_text s = record { path = s.path; text = s.text; calls = s.calls }
 
--- A text has no trees if it isn't Rust, or is too long for spans.
-abbrev pub IsNoRust : Edition → ℕ → List ℕ → Type 0
-IsNoRust edition file text = IsErr (lexed_trees (Rust edition) file text) ⊎ (2 ^ 32 ≤ length text)
-
--- The trees of a text whose lines end with a line feed alone, without the code that `cfg` disables.
--- So calls in that code are not expanded, and its definitions are not found.
-abbrev pub IsTreeOf : SourceSettings → ℕ → List ℕ → Option Top → Type 0
-IsTreeOf r file text None = IsNoRust r.edition file text
-IsTreeOf r file text (Some tree) =
-    (whole : Top) × (lexed_trees (Rust r.edition) file text ≡ Ok whole)
-    × (tree ≡ enabled_tree r.conditions (grammar_of r.grammar) whole)
+-- The trees of the file of that number: those of its text, in which the modules of its calls follow
+-- the calls.
+abbrev pub IsFileTree : SourceSettings → ℕ → List ℕ → List CallText → Option Top → Type 0
+IsFileTree r file text calls tree =
+    (plain : Option Top) × IsTreeOf r file text plain × IsWithCalls r file calls plain tree
 
 abbrev pub IsSource : SourceSettings → ℕ → Source → Type 0
-IsSource r file source = IsTreeOf r file (normalized source.text) source.tree
+IsSource r file source =
+    IsFileTree r file (normalized source.text) source.calls source.tree
 
 -- Files by their numbers, from 0. `Reads` says which settings a file is read under.
 pub data AreSources (Reads : ℕ → SourceSettings → Type 0) : List Source → Type 0 where

@@ -194,11 +194,13 @@ fn note_capture<A: Allocator + Copy>(
         message: format!(in alloc;
             "in the expansion of `{called}!` this `{name}` is the one that the call binds"
         )?,
+        is_child: false,
     })?;
     notes.push(Note {
         level: Level::Note,
         span: capture.name.span,
         message: format!(in alloc; "`{name}` is bound here")?,
+        is_child: true,
     })?;
     Ok(())
 }

@@ -27,6 +27,7 @@ mod crate_steps;
 
 use crate::dollar_crate::replace_dollar_crate;
 use crate::file_expander::{FileExpander, LEVELS};
+use crate::inner_files::note_inner_files;
 use crate::module_files::note_missing_files;
 use crate::notes::Note;
 use crate::scope::buffer_of;
@@ -81,7 +82,7 @@ fn files_of<'s>(
 }
 
 // Returns the tree of the crate whose root is file `number`, of that name. A note is added for each
-// module without its file.
+// module without its file, and for each in a function.
 fn crate_tree(
     alloc: Global,
     notes: &mut Vec<Note>,
@@ -105,6 +106,7 @@ fn crate_tree(
         tree,
     )?;
     note_missing_files(alloc, notes, unresolved.as_slice())?;
+    note_inner_files(alloc, notes, tree.iter().remaining())?;
     Ok(tree)
 }
 

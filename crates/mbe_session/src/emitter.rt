@@ -1,23 +1,27 @@
 // Writes diagnostics, as text in rustc's style or as JSON.
 //
-// A note or a lint becomes a `Diagnostic` on a file, which `mbe_diagnostics` renders.
-ghost use Rattle.std.specs.Prelude.{◌≡◌, ◌++◌, [], Some, IfOk, IfSome, OnOk, map};
+// A note or a lint becomes a `Diagnostic` on a file. `mbe_diagnostics` renders each diagnostic with
+// the children after it.
+ghost use Rattle.std.specs.Prelude.{◌≡◌, ◌≤◌, ◌++◌, true, IfOk, IfSome, OnOk, length, map};
+ghost use Rattle.std.specs.Prelude.{slice_get};
 ghost use Rattle.std.specs.String.{string_bytes};
 ghost use Rattle.mbe_session.specs.Explanation.{note_seen};
 ghost use Rattle.mbe_session.specs.EmittedNotes as spec;
 ghost use Rattle.mbe_diagnostics.specs.Lints.Lint.{lint_seen};
-ghost use Rattle.mbe_session.specs.EmittedNotes.{AreDiagnostics, IsAt, IsDiagnostic};
+ghost use Rattle.mbe_session.specs.EmittedNotes.{AreDiagnostics, AreLintDiagnostics};
+ghost use Rattle.mbe_session.specs.EmittedNotes.{IsDiagnostic, IsPart, IsPlace};
 ghost use Rattle.mbe_session.specs.EmittedNotes.{EmittedLints, EmittedNotes};
 ghost use Rattle.mbe_session.specs.EmittedNotes.{error_written, level_shown, note_written};
 
-use crate::locations::{CallPosition, Location, NOWHERE};
+use crate::locations::{CallPosition, Location};
 use crate::note_lines::add_note_lines;
 use crate::notes::{self, Note};
 use crate::settings::ExplainFilter;
 use crate::source_files::SourceFile;
-use mbe_diagnostics::diagnostic::{Diagnostic, Level, Point};
+use mbe_diagnostics::diagnostic::{Diagnostic, FilePart, Level, Point};
 use mbe_diagnostics::json::{json_line, plain_line};
 use mbe_diagnostics::lints::lint::Lint;
+use mbe_diagnostics::message_kinds::code_of;
 use mbe_diagnostics::renderer::rendered;
 use mbe_tt::span::Span;
 use std::alloc::{AllocError, Global};
@@ -130,23 +134,14 @@ fn end_of<'t>(
     (point(file, end, span.end as usize), part)
 }
 
-// Returns a diagnostic on a span of a file.
-fn diagnostic_in_file<'t>(
-    file: &'t SourceFile<'t>,
-    level: Level,
-    span: Span,
-    message: &'t str,
-) -> Diagnostic<'t>
-    ensures level { result.level ≡ level }
-    ensures message { result.message.now ≡ message.now }
-    ensures place { IsAt (Some file.now) span result }
+// Returns the part of a file at a span.
+fn part_of<'t>(file: &'t SourceFile<'t>, span: Span) -> FilePart<'t>
+    ensures { IsPart file.now span result }
 {
     let place = file.lines.location_of(span.start as usize);
     let (before, rest) = split_at_column(place.text, place.column);
     let (end, part) = end_of(file, span, place, rest);
-    Diagnostic {
-        level,
-        message,
+    FilePart {
         file: file.name,
         start: point(file, place, span.start as usize),
         end,
@@ -156,26 +151,13 @@ fn diagnostic_in_file<'t>(
     }
 }
 
-// Returns a diagnostic that belongs to no file.
-fn diagnostic_without_file(level: Level, message: &str) -> Diagnostic<'_>
-    ensures level { result.level ≡ level }
-    ensures message { result.message.now ≡ message.now }
-    ensures file { result.file.now ≡ [] }
+// Returns the part of a file at a span, if there is such a file.
+fn place_of<'t>(files: &'t [SourceFile<'t>], span: Span) -> Option<FilePart<'t>>
+    ensures { IsPlace (slice_get files.now span.file) span result }
 {
-    let point = Point {
-        byte: 0,
-        line: NOWHERE.line,
-        column: NOWHERE.column,
-    };
-    Diagnostic {
-        level,
-        message,
-        file: "",
-        start: point,
-        end: point,
-        line: NOWHERE.text,
-        before: "",
-        part: "",
+    match files.get(span.file as usize) {
+        Some(file) => Some(part_of(file, span)),
+        None => None,
     }
 }
 
@@ -195,58 +177,101 @@ fn diagnostic<'t>(
     level: Level,
     span: Span,
     message: &'t str,
+    is_child: bool,
 ) -> Diagnostic<'t>
-    ensures { IsDiagnostic files.now level span message.now result }
+    ensures { IsDiagnostic files.now level span message.now is_child result }
 {
-    match files.get(span.file as usize) {
-        Some(file) => diagnostic_in_file(file, level, span, message),
-        None => diagnostic_without_file(level, message),
+    let code = if is_child {
+        ""
+    } else {
+        code_of(level, message)
+    };
+    Diagnostic {
+        level,
+        message,
+        code,
+        is_child,
+        place: place_of(files, span),
     }
 }
 
-// Renders a diagnostic in that form.
-fn written(alloc: Global, form: MessageFormat, diag: &Diagnostic<'_>) -> Result<String, AllocError>
-    ensures { IfOk result (λ t. string_bytes t ≡ spec.written form diag.now) }
+// Renders a diagnostic with its children in that form.
+fn written(
+    alloc: Global,
+    form: MessageFormat,
+    diag: &Diagnostic<'_>,
+    children: &[Diagnostic<'_>],
+) -> Result<String, AllocError>
+    ensures { IfOk result (λ t. string_bytes t ≡ spec.written form diag.now children.now) }
 {
     match form {
-        MessageFormat::Text => rendered(alloc, diag, false),
-        MessageFormat::Colours => rendered(alloc, diag, true),
+        MessageFormat::Text => rendered(alloc, diag, children, false),
+        MessageFormat::Colours => rendered(alloc, diag, children, true),
         MessageFormat::Json => {
-            let object = json_line(alloc, diag)?;
+            let object = json_line(alloc, diag, children)?;
             format!(in alloc; "{object}\n")
         }
     }
 }
 
-// Appends a diagnostic to a text.
-fn add_diagnostic(
+// Returns how many children are at the front of diagnostics.
+fn child_count(diagnostics: &[Diagnostic<'_>]) -> usize
+    ensures count { result ≡ spec.child_count diagnostics.now }
+    ensures few { result ≤ length diagnostics.now }
+{
+    let mut count = 0usize;
+    for diag in diagnostics {
+        if !diag.is_child {
+            return count;
+        }
+        count += 1;
+    }
+    count
+}
+
+// Returns the children at the front of diagnostics.
+fn children<'d, 't>(diagnostics: &'d [Diagnostic<'t>]) -> &'d [Diagnostic<'t>]
+    ensures { result.now ≡ spec.children diagnostics.now }
+{
+    let (children, _others) = diagnostics.split_at(child_count(diagnostics));
+    children
+}
+
+// Appends the first of these diagnostics with its children, unless it is a child itself. A child
+// without a diagnostic before it (`is_first`) is appended as if it were none.
+fn add_first(
     alloc: Global,
     form: MessageFormat,
-    diag: &Diagnostic<'_>,
+    is_first: bool,
+    diagnostics: &[Diagnostic<'_>],
     text: &mut String,
 ) -> Result<(), AllocError>
     ensures { OnOk result (string_bytes text.new
-        ≡ string_bytes text.old ++ spec.written form diag.now) }
+        ≡ string_bytes text.old ++ spec.first_written form is_first diagnostics.now) }
 {
-    let report = written(alloc, form, diag)?;
+    let [diag, others @ ..] = diagnostics else {
+        return Ok(());
+    };
+    if diag.is_child && !is_first {
+        return Ok(());
+    }
+    let report = written(alloc, form, diag, children(others))?;
     text.push_str(report.as_str())
 }
 
-/// Appends the diagnostics of notes on these files to a text. `AllocError` if out of memory.
-pub fn add_diagnostics(
+// Appends diagnostics, each with its children.
+fn add_all(
     alloc: Global,
     form: MessageFormat,
-    files: &[SourceFile<'_>],
-    notes: &[Note],
+    diagnostics: &[Diagnostic<'_>],
     text: &mut String,
 ) -> Result<(), AllocError>
-    ensures { OnOk result (EmittedNotes form files.now (map note_seen notes.now)
-        (string_bytes text.old) (string_bytes text.new)) }
+    ensures { OnOk result (string_bytes text.new
+        ≡ string_bytes text.old ++ spec.all_written form true diagnostics.now) }
 {
-    for note in notes {
-        let level = level_of(note.level);
-        let diag = diagnostic(&*files, level, note.span, note.message.as_str());
-        add_diagnostic(alloc, form, &diag, text)?;
+    for at in 0..diagnostics.len() {
+        let (_before, rest) = diagnostics.split_at(at);
+        add_first(alloc, form, at == 0, rest, text)?;
     }
     Ok(())
 }
@@ -262,9 +287,28 @@ pub fn push_diagnostics<'t>(
 {
     for note in notes {
         let level = level_of(note.level);
-        let diag = diagnostic(files, level, note.span, note.message.as_str());
+        let message = note.message.as_str();
+        let diag = diagnostic(files, level, note.span, message, note.is_child);
         diagnostics.push(diag)?;
     }
+    Ok(())
+}
+
+/// Appends the diagnostics of notes on these files to a text, each with its children. `AllocError`
+/// if out of memory.
+pub fn add_diagnostics(
+    alloc: Global,
+    form: MessageFormat,
+    files: &[SourceFile<'_>],
+    notes: &[Note],
+    text: &mut String,
+) -> Result<(), AllocError>
+    ensures { OnOk result (EmittedNotes form files.now (map note_seen notes.now)
+        (string_bytes text.old) (string_bytes text.new)) }
+{
+    let mut diagnostics = Vec::new(alloc);
+    push_diagnostics(&*files, &*notes, &mut diagnostics)?;
+    add_all(alloc, form, diagnostics.as_slice(), text)?;
     Ok(())
 }
 
@@ -286,7 +330,25 @@ pub fn add_notes(
     }
 }
 
-/// Appends the diagnostics of lints on these files to a text. `AllocError` if out of memory.
+// Appends the diagnostics of lints on these files to a list.
+fn push_lint_diagnostics<'t>(
+    files: &'t [SourceFile<'t>],
+    lints: &'t [Lint],
+    diagnostics: &mut Vec<Diagnostic<'t>>,
+) -> Result<(), AllocError>
+    ensures { OnOk result (AreLintDiagnostics files.now (map lint_seen lints.now)
+        diagnostics.old.items diagnostics.new.items) }
+{
+    for lint in lints {
+        let is_child = lint.is_child();
+        let diag = diagnostic(files, lint.level, lint.span, lint.message.as_str(), is_child);
+        diagnostics.push(diag)?;
+    }
+    Ok(())
+}
+
+/// Appends the diagnostics of lints on these files to a text, each with its children. `AllocError`
+/// if out of memory.
 pub fn add_lints(
     alloc: Global,
     form: MessageFormat,
@@ -297,9 +359,8 @@ pub fn add_lints(
     ensures { OnOk result (EmittedLints form files.now (map lint_seen lints.now)
         (string_bytes text.old) (string_bytes text.new)) }
 {
-    for lint in lints {
-        let diag = diagnostic(&*files, lint.level, lint.span, lint.message.as_str());
-        add_diagnostic(alloc, form, &diag, text)?;
-    }
+    let mut diagnostics = Vec::new(alloc);
+    push_lint_diagnostics(&*files, &*lints, &mut diagnostics)?;
+    add_all(alloc, form, diagnostics.as_slice(), text)?;
     Ok(())
 }

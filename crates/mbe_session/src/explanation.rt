@@ -1,6 +1,6 @@
 // Explains a call: for each rule of its macro, where the match stops and what the rule expects
 // there, or what its variables are bound to.
-ghost use Rattle.std.specs.Prelude.{◌≡◌, ◌++◌, ◌<◌, IfOk, OnOk, length, map};
+ghost use Rattle.std.specs.Prelude.{◌≡◌, ◌++◌, ◌<◌, IfOk, OnOk, length, map, not};
 ghost use Rattle.std.specs.String.{string_bytes};
 ghost use Rattle.mbe_semantics.specs.Expansion.Macro.{IsChecked};
 ghost use Rattle.mbe.specs.MacroViews.{macro_of};
@@ -119,6 +119,7 @@ fn note_part<A: Allocator + Copy>(
         level: Level::Note,
         span,
         message: format!(in alloc; "{expected} in {rule}")?,
+        is_child: true,
     })?;
     Ok(())
 }
@@ -174,6 +175,7 @@ fn note_binding<A: Allocator + Copy>(
         level: Level::Note,
         span,
         message: bound_text(alloc, rule, variable, text)?,
+        is_child: true,
     })?;
     Ok(())
 }
@@ -194,21 +196,25 @@ fn note_bindings<A: Allocator + Copy>(
     Ok(())
 }
 
-// Notes the outcome of a rule, and where the parts of the rule are that its message names.
+// Notes the outcome of a rule, and where the parts of the rule are that its message names. The
+// notes on the parts are children.
 #[tactic(auto, unfolding(crate::specs::Explanation::outcome_text))]
 fn note_outcome<A: Allocator + Copy>(
     alloc: A,
     notes: &mut Vec<Note<A>, A>,
     rule: &str,
+    is_child: bool,
     outcome: &MatchOutcome<A>,
 ) -> Result<(), AllocError>
     ensures { OnOk result (map note_seen notes.new.items
-        ≡ map note_seen notes.old.items ++ spec.outcome_notes rule.now (outcome_seen outcome.now)) }
+        ≡ map note_seen notes.old.items
+        ++ spec.outcome_notes rule.now is_child (outcome_seen outcome.now)) }
 {
     notes.push(Note {
         level: Level::Note,
         span: outcome.span,
         message: message(alloc, rule, outcome)?,
+        is_child,
     })?;
     let parts = message_parts(alloc, outcome)?;
     note_parts(alloc, notes, rule, parts.as_slice())
@@ -219,38 +225,42 @@ fn note_rule<A: Allocator + Copy>(
     alloc: A,
     notes: &mut Vec<Note<A>, A>,
     rule: &str,
+    is_child: bool,
     match_outcome: &RuleExplanation<A>,
 ) -> Result<(), AllocError>
     ensures { OnOk result (map note_seen notes.new.items
         ≡ map note_seen notes.old.items
-        ++ spec.rule_notes rule.now (explanation_seen match_outcome.now)) }
+        ++ spec.rule_notes rule.now is_child (explanation_seen match_outcome.now)) }
 {
-    note_outcome(alloc, notes, rule, &match_outcome.outcome)?;
+    note_outcome(alloc, notes, rule, is_child, &match_outcome.outcome)?;
     note_bindings(alloc, notes, rule, match_outcome.matched.as_slice())
 }
 
-// Notes the explanations of rules. The first rule has that number.
+// Notes the explanations of rules. The first rule has that number. `is_child` says whether the
+// notes on rules are children. Those on their parts always are.
 fn note_rules<A: Allocator + Copy>(
     alloc: A,
     notes: &mut Vec<Note<A>, A>,
     name: &str,
+    is_child: bool,
     number: usize,
     explanations: &[RuleExplanation<A>],
 ) -> Result<(), AllocError>
     ensures { OnOk result (map note_seen notes.new.items ≡ map note_seen notes.old.items
-        ++ spec.rules_notes name.now number (map explanation_seen explanations.now)) }
+        ++ spec.rules_notes name.now is_child number (map explanation_seen explanations.now)) }
 {
     let mut number = number;
     for match_outcome in explanations {
         let rule = rule_name(alloc, number, name)?;
-        note_rule(alloc, notes, rule.as_str(), match_outcome)?;
+        note_rule(alloc, notes, rule.as_str(), is_child, match_outcome)?;
         number = number.saturating_add(1);
     }
     Ok(())
 }
 
 impl<'g, A: Allocator + Copy> FileExpander<'g, A> {
-    // Notes the explanations of a call by the rules of its macro, if the settings ask for it.
+    // Notes the explanations of a call by the rules of its macro, if the settings ask for it. For a
+    // call that isn't expanded, an error is the last note, and the explanations are its children.
     pub(crate) fn explain(
         &mut self,
         call: MacroCall<'_, A>,
@@ -260,7 +270,7 @@ impl<'g, A: Allocator + Copy> FileExpander<'g, A> {
         ensures setting { OnOk result (setting_of self.new ≡ setting_of self.old) }
         ensures state { OnOk result (state_of self.new ≡ state_of self.old) }
         ensures notes { OnOk result (NotesRules (setting_of self.old) (call_shown call.entry)
-            (state_of self.old) argument.now
+            (state_of self.old) argument.now (not is_expanded)
             (selects self.old.settings.explain call.entry.start is_expanded)
             (map note_seen self.old.notes.items) (map note_seen self.new.notes.items)) }
     {
@@ -273,6 +283,7 @@ impl<'g, A: Allocator + Copy> FileExpander<'g, A> {
             self.alloc,
             &mut self.notes,
             name,
+            !is_expanded,
             1,
             explanations.as_slice(),
         )?;

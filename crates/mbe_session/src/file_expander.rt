@@ -9,7 +9,7 @@
 // beyond the limits. The last two are errors, and each is noted.
 ghost use Rattle.std.specs.Prelude.{◌≡◌, ◌++◌, ◌∷◌, [], IsSome, IfOk, OnOk, length, map};
 ghost use Rattle.std.specs.Prelude.{option_map};
-ghost use Rattle.std.specs.Prelude.{true, unwrap_or};
+ghost use Rattle.std.specs.Prelude.{true, false, unwrap_or};
 ghost use Rattle.std.specs.String.{string_bytes};
 ghost use Rattle.mbe_tt.specs.Views.View.{trees};
 ghost use Rattle.mbe.specs.MacroViews.{macro_of};
@@ -124,6 +124,7 @@ impl<'g, A: Allocator + Copy> FileExpander<'g, A> {
         self.counts
     }
 
+    // Adds a note that is no child.
     pub(crate) fn note(
         &mut self,
         level: Level,
@@ -137,12 +138,40 @@ impl<'g, A: Allocator + Copy> FileExpander<'g, A> {
               level = level;
               place = span;
               text = string_bytes message;
+              is_child = false;
             }) ∷ []) }
     {
         self.notes.push(Note {
             level,
             span,
             message,
+            is_child: false,
+        })?;
+        Ok(())
+    }
+
+    // Adds a child of the last note that is none.
+    pub(crate) fn note_child(
+        &mut self,
+        level: Level,
+        span: Span,
+        message: String<A>,
+    ) -> Result<(), AllocError>
+        ensures setting { OnOk result (setting_of self.new ≡ setting_of self.old) }
+        ensures state { OnOk result (state_of self.new ≡ state_of self.old) }
+        ensures notes { OnOk result (map note_seen self.new.notes.items
+            ≡ map note_seen self.old.notes.items ++ (record {
+              level = level;
+              place = span;
+              text = string_bytes message;
+              is_child = true;
+            }) ∷ []) }
+    {
+        self.notes.push(Note {
+            level,
+            span,
+            message,
+            is_child: true,
         })?;
         Ok(())
     }
@@ -232,7 +261,7 @@ impl<'g, A: Allocator + Copy> FileExpander<'g, A> {
         self.note_defined_at(call, place)
     }
 
-    // Notes where the macro of a call is defined.
+    // Notes where the macro of a call is defined, as a child.
     fn note_defined_at(&mut self, call: MacroCall<'_, A>, place: Span) -> Result<(), AllocError>
         ensures setting { OnOk result (setting_of self.new ≡ setting_of self.old) }
         ensures state { OnOk result (state_of self.new ≡ state_of self.old) }
@@ -242,7 +271,7 @@ impl<'g, A: Allocator + Copy> FileExpander<'g, A> {
     {
         let name = call.name.sym.as_str();
         let there = format!(in self.alloc; "`{name}!` is defined here")?;
-        self.note(Level::Note, place, there)
+        self.note_child(Level::Note, place, there)
     }
 
     // The rules of the macro that a call names.
@@ -515,7 +544,7 @@ impl<'g, A: Allocator + Copy> FileExpander<'g, A> {
         self.note(Level::Note, call.name.span, message)?;
         let text = text_of(self.alloc, tree.iter().remaining(), 0)?;
         let message = format!(in self.alloc; "to `{text}`")?;
-        self.note(Level::Note, call.name.span, message)
+        self.note_child(Level::Note, call.name.span, message)
     }
 }
 

@@ -52,7 +52,7 @@ impl FileSet {
     ) -> Result<(), AllocError>
         ensures texts { OnOk result (map text_of self.new.texts.items
             ≡ map text_of self.old.texts.items
-            ++ (record { path = path.now; text = string_bytes text }) ∷ []) }
+            ++ (record { path = path.now; text = string_bytes text; calls = [] }) ∷ []) }
         ensures roots { OnOk result (self.new.roots.items ≡ self.old.roots.items ++ root ∷ []) }
     {
         self.roots.push(root)?;
@@ -60,6 +60,7 @@ impl FileSet {
         self.texts.push(NamedText {
             name: String::from_str(alloc, path)?,
             text,
+            calls: Vec::new(alloc),
         })?;
         Ok(())
     }
@@ -76,7 +77,7 @@ impl FileSet {
     ) -> Result<(), AllocError>
         ensures texts { OnOk result (map text_of self.new.texts.items
             ≡ map text_of self.old.texts.items
-            ++ (record { path = path.now; text = string_bytes text }) ∷ []) }
+            ++ (record { path = path.now; text = string_bytes text; calls = [] }) ∷ []) }
         ensures roots { OnOk result (self.new.roots.items
             ≡ self.old.roots.items ++ length self.old.texts.items ∷ []) }
     {
@@ -102,7 +103,7 @@ impl FileSet {
     ) -> Result<(), AllocError>
         ensures texts { OnOk result (map text_of self.new.texts.items
             ≡ map text_of self.old.texts.items
-            ++ (record { path = path.now; text = string_bytes text }) ∷ []) }
+            ++ (record { path = path.now; text = string_bytes text; calls = [] }) ∷ []) }
         ensures roots { OnOk result (self.new.roots.items ≡ self.old.roots.items ++ root ∷ []) }
     {
         let place = ModuleDir::in_file(alloc, path, name)?;
@@ -137,7 +138,8 @@ impl FileSet {
     }
 
     /// Returns the modules and `include!`s of file `number` whose content is in other files, with
-    /// the paths that it may be at. `AllocError` if out of memory.
+    /// the paths that it may be at. They include those that its calls expand to, if the texts of
+    /// the expansions are beside the file's text. `AllocError` if out of memory.
     pub fn modules(
         &self,
         alloc: Global,
@@ -145,11 +147,11 @@ impl FileSet {
         number: usize,
     ) -> Result<Vec<UnresolvedFile>, AllocError> {
         match (self.texts.get(number), self.places.get(number)) {
-            (Some(named), Some(Some(place)))
-                if named.text.contains("mod") || named.text.contains("include") => {
+            (Some(named), Some(Some(place))) if may_have_modules(named) => {
                 let grammar = rust_rules(options.edition, &[]);
                 let source_settings = options.file_settings(grammar, &self.roots, number);
-                modules_in(alloc, &source_settings, place, named.text.as_str())
+                let (text, calls) = (named.text.as_str(), named.calls.as_slice());
+                modules_in(alloc, &source_settings, place, text, calls)
             }
             _ => Ok(Vec::new(alloc)),
         }
@@ -164,4 +166,9 @@ impl FileSet {
         }
         Some((path, Some(self.texts.get(root)?.name.as_str())))
     }
+}
+
+// Whether a text has a word by which it may have modules or `include!`s.
+fn may_have_modules(named: &NamedText) -> bool {
+    named.text.contains("mod") || named.text.contains("include") || !named.calls.is_empty()
 }

@@ -19,7 +19,8 @@
 //
 // The modules, by subject:
 //
-// - Files: `file_set`, `source_files`, `module_files`, `lines`, `locations`.
+// - Files: `file_set`, `source_files`, `module_files`, `call_modules`, `followed_calls`,
+//   `inner_files`, `lines`, `locations`.
 // - Options: `session_options`, `source_settings`, `recursion_limit`.
 // - Crates: `session`, `crate_expander`, `dollar_crate`, `file_expansion`, `linted_files`.
 // - Calls: `file_expander`, `scope`, `imports`, `adjustment`, `cfg_front`, `origins`, `settings`.
@@ -31,6 +32,7 @@ mod adjustment;
 pub mod binding_text;
 pub mod call_counts;
 pub mod call_failure;
+pub mod call_modules;
 mod captures;
 mod cfg_front;
 mod closed_text;
@@ -41,7 +43,9 @@ pub mod explanation;
 pub mod file_expander;
 mod file_expansion;
 pub mod file_set;
+pub mod followed_calls;
 mod imports;
+mod inner_files;
 pub mod lines;
 pub mod linted_files;
 pub mod locations;

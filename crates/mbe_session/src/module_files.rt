@@ -3,11 +3,13 @@
 // `modules_in` lists the modules and `include!`s of a text, so that their files can be read.
 // `note_missing_files` reports each one whose file is missing, ambiguous or circular.
 ghost use Rattle.std.specs.Prelude.{IfOk, map};
+ghost use Rattle.mbe_session.specs.CallTextViews.{call_of};
 ghost use Rattle.mbe_session.specs.ModuleFiles.{AreModules};
 ghost use Rattle.mbe_session.specs.LineEndings.{normalized};
 ghost use Rattle.mbe_cfg.specs.Crates.CrateViews.{unresolved_shown};
 ghost use Rattle.mbe_cfg.specs.Files.ModuleDirViews.{module_dir_shown};
 
+use crate::call_modules::CallText;
 use crate::notes::{Level, Note};
 use crate::source_files::source_file;
 use crate::source_settings::SourceSettings;
@@ -17,17 +19,17 @@ use mbe_cfg::files::module_dir::{Candidates, ModuleDir};
 use mbe_text::symbol_table::SymbolTable;
 use std::alloc::{AllocError, Global};
 
-/// Lists the modules and `include!`s of a text whose content is in other files. `place` says where
-/// the text's modules are looked for. `AllocError` if out of memory.
+/// Lists the modules and `include!`s of a text whose content is in other files, also those that its
+/// calls expand to. `place` says where the text's modules are looked for. `AllocError` if out of memory.
 pub fn modules_in(
     alloc: Global,
     source_settings: &SourceSettings<'_>,
     place: &ModuleDir,
     text: &str,
+    calls: &[CallText],
 ) -> Result<Vec<UnresolvedFile>, AllocError>
     ensures { IfOk result (λ v. AreModules source_settings.now (module_dir_shown place.now)
-        (normalized text.now)
-        (map unresolved_shown v.items)) }
+        (normalized text.now) (map call_of calls.now) (map unresolved_shown v.items)) }
 {
     let mut symbols = SymbolTable::new(alloc);
     let mut notes = Vec::new(alloc);
@@ -38,6 +40,7 @@ pub fn modules_in(
         source_settings,
         "",
         text,
+        calls,
         0,
     )?;
     let Some(tree) = &file.tree else {
@@ -94,6 +97,7 @@ pub fn note_missing_files(
                 level: Level::Note,
                 span: module.at,
                 message,
+                is_child: false,
             })?;
         }
     }

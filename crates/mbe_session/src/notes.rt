@@ -17,4 +17,6 @@ pub struct Note<A: Allocator = Global> {
     /// The part, in bytes of the span's file.
     pub span: Span,
     pub message: String<A>,
+    /// Whether it is a child: it says more about the last note before it that is none.
+    pub is_child: bool,
 }

@@ -47,6 +47,7 @@ fn note_tokens<A: Allocator + Copy>(
                     level: Level::Note,
                     span,
                     message: format!(in alloc; "`{text}` in the expansion of `{called}!`")?,
+                    is_child: false,
                 })?;
             }
         }

@@ -16,6 +16,7 @@ ghost use Rattle.mbe_session.specs.OptionViews.{conditions_of, language_of, name
 ghost use Rattle.mbe_session.specs.Sources.{AreSources, source_text};
 ghost use Rattle.mbe_session.specs.NoteLevels.{is_error};
 
+use crate::call_modules::CallText;
 use crate::closed_text::is_closed_text;
 use crate::crate_expander::{crates_replacements, define_crates, load_externs};
 use crate::emitter::{MessageFormat, add_notes, calls_to_explain, push_diagnostics};
@@ -36,11 +37,13 @@ use std::alloc::{AllocError, Global};
 use std::io;
 use std::io::Write;
 
-/// The name and the text of a file.
+/// The name and the text of a file. Beside it are calls of the file with the texts of their
+/// expansions, if an earlier session found them.
 #[derive(Drop)]
 pub struct NamedText {
     pub name: String,
     pub text: String,
+    pub calls: Vec<CallText>,
 }
 
 /// The files with their trees, the expander with their definitions, and the notes on the files.
@@ -76,8 +79,18 @@ pub fn sources<'f, 'r>(
             return Err(AllocError);
         };
         let (name, text) = (named.name.as_str(), named.text.as_str());
+        let calls = named.calls.as_slice();
         let source_settings = options.file_settings(grammar, roots, number);
-        let file = source_file(alloc, &mut symbols, notes, &source_settings, name, text, at)?;
+        let file = source_file(
+            alloc,
+            &mut symbols,
+            notes,
+            &source_settings,
+            name,
+            text,
+            calls,
+            at,
+        )?;
         files.push(file)?;
     }
     Ok(files)

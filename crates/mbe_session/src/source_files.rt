@@ -1,14 +1,17 @@
 // Source files: a text is lexed, and disabled code is stripped from its trees.
-ghost use Rattle.std.specs.Prelude.{◌≡◌, Ok, IfOk, MatchResult};
+ghost use Rattle.std.specs.Prelude.{◌≡◌, Ok, IfOk, MatchResult, map};
 ghost use Rattle.std.specs.String.{string_bytes};
 ghost use Rattle.mbe_session.specs.LineEndings.{normalized, returns};
 ghost use Rattle.mbe_session.specs.LineViews.{returns_of};
-ghost use Rattle.mbe_session.specs.Sources.{IsNoRust, IsTreeOf};
+ghost use Rattle.mbe_session.specs.CallTextViews.{call_of};
+ghost use Rattle.mbe_session.specs.Sources.{IsFileTree};
+ghost use Rattle.mbe_session.specs.TextTrees.{IsNoRust, IsTreeOf};
 ghost use Rattle.mbe_grammar.specs.Tables.Lawful.{grammar_of};
 ghost use Rattle.mbe_cfg.specs.CfgStrip.{enabled_tree};
 ghost use Rattle.mbe_text.specs.LexedTrees.{lexed_trees};
 ghost use Rattle.mbe_text.specs.declared.dialect.Dialect.TheVariants.{Rust};
 
+use crate::call_modules::{CallText, note_not_followed, with_call_modules};
 use crate::lines::Lines;
 use crate::notes::{Level, Note};
 use crate::source_settings::SourceSettings;
@@ -22,12 +25,14 @@ use mbe_tt::span::Edition;
 use mbe_tt::tt::TopSubtree;
 use std::alloc::{AllocError, Allocator, Global};
 
-/// A file: its name, its text, the text's lines, and its trees if it is Rust. The trees are without
-/// the code that `cfg` disables.
+/// A file: its name, its text, calls with their expansions, the text's lines, and its trees if it is
+/// Rust. The trees are without the code that `cfg` disables. The modules that the calls expand to
+/// follow the calls.
 #[derive(Drop)]
 pub struct SourceFile<'f, A: Allocator = Global> {
     pub name: &'f str,
     pub text: &'f str,
+    pub calls: &'f [CallText],
     /// The text that spans refer to, whose lines end with a line feed alone.
     pub lines: Lines<A>,
     pub tree: Option<TopSubtree<A>>,
@@ -41,6 +46,7 @@ fn fault(alloc: Global, file: u32, offset: u32, message: &str) -> Result<Note, A
         level: Level::Error,
         span: file_span(file, offset, offset),
         message: String::from_str(alloc, message)?,
+        is_child: false,
     })
 }
 
@@ -102,6 +108,7 @@ fn note_faults(
             level: Level::Error,
             span: fault.at,
             message: String::from_str(alloc, fault.fault_kind.message())?,
+            is_child: false,
         })?;
     }
     Ok(())
@@ -109,7 +116,7 @@ fn note_faults(
 
 // Returns the trees of a text without the code that `cfg` disables. If the text isn't Rust there
 // are none, and a note says where and why.
-fn trees_in(
+pub(crate) fn trees_in(
     alloc: Global,
     symbols: &mut SymbolTable<Global>,
     notes: &mut Vec<Note>,
@@ -137,15 +144,17 @@ pub fn source_file<'f>(
     source_settings: &SourceSettings<'_>,
     name: &'f str,
     text: &'f str,
+    calls: &'f [CallText],
     file: u32,
 ) -> Result<SourceFile<'f>, AllocError>
     ensures name { IfOk result (λ f. f.name.now ≡ name.now) }
     ensures text { IfOk result (λ f. f.text.now ≡ text.now) }
-    ensures trees { IfOk result (λ f. IsTreeOf source_settings.now file (normalized text.now)
-        f.tree) }
+    ensures calls { IfOk result (λ f. f.calls.now ≡ calls.now) }
+    ensures trees { IfOk result (λ f. IsFileTree source_settings.now file (normalized text.now)
+        (map call_of calls.now) f.tree) }
 {
     let lines = Lines::of(alloc, text)?;
-    let tree = trees_in(
+    let plain = trees_in(
         alloc,
         symbols,
         notes,
@@ -153,9 +162,12 @@ pub fn source_file<'f>(
         lines.text.as_str(),
         file,
     )?;
+    let tree = with_call_modules(alloc, symbols, source_settings, calls, file, plain)?;
+    note_not_followed(alloc, notes, calls)?;
     Ok(SourceFile {
         name,
         text,
+        calls,
         lines,
         tree,
     })

@@ -7,11 +7,13 @@ use Rattle.mbe_cfg.specs.Files.ModuleDirViews.{module_dir_shown, candidates_show
 use Rattle.mbe_cfg.specs.Crates.ModuleItems as fronts
 use Rattle.mbe_cfg.specs.Crates.ModuleInliner as following
 use Rattle.mbe_cfg.specs.Crates.FileLookup as taking
+use Rattle.mbe_cfg.specs.Crates.ExpansionModules as declaring
 use Rattle.mbe_cfg.specs.declared.crates.module_items.Module.{Module}
 use Rattle.mbe_cfg.specs.declared.crates.module_items.ModuleBody.{ModuleBody}
 use Rattle.mbe_cfg.specs.declared.crates.module_items.ModuleBody.TheVariants as b
 use Rattle.mbe_cfg.specs.declared.crates.module_items.Included.{Included}
 use Rattle.mbe_cfg.specs.declared.crates.module_items.ModuleCursor.{ModuleCursor}
+use Rattle.mbe_cfg.specs.declared.crates.expansion_modules.Insertion.{Insertion}
 use Rattle.mbe_cfg.specs.declared.crates.file_lookup.CrateFile.{CrateFile}
 use Rattle.mbe_cfg.specs.declared.crates.file_lookup.FoundFile.{FoundFile}
 use Rattle.mbe_cfg.specs.declared.crates.file_lookup.FileLookupError.{FileLookupError}
@@ -63,3 +65,6 @@ unresolved_shown u = record {
   candidates = candidates_shown u.candidates;
   reason = u.reason;
 }
+
+abbrev pub insertion_shown : {A : Type 0} → Insertion A → declaring.Insertion
+insertion_shown i = record { end = i.end; trees = i.trees.1 }

@@ -1,5 +1,5 @@
 -- The type of a lint: a message about a part of a definition.
-use Rattle.std.specs.Prelude.{ℕ, List, [], ◌∷◌}
+use Rattle.std.specs.Prelude.{ℕ, Bool, true, false, List, [], ◌∷◌}
 use Rattle.std.specs.String.{string_bytes}
 use Rattle.mbe_tt.specs.declared.span.Span.{Span}
 use Rattle.mbe_diagnostics.specs.declared.diagnostic.Level.{Level}
@@ -10,6 +10,13 @@ pub record Lint : Type 0 where
   pub level : Level
   pub place : Span
   pub text : List ℕ
+
+-- Whether a lint of that level is a child: it says more about the last error or warning before it.
+abbrev pub is_child_level : Level → Bool
+is_child_level levels.Error = false
+is_child_level levels.Warning = false
+is_child_level levels.Note = true
+is_child_level levels.Help = true
 
 -- A list of one lint.
 unfoldable pub one_lint : Level → Span → List ℕ → List Lint

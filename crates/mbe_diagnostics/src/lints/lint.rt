@@ -1,7 +1,7 @@
 // The type of a lint: a message about a part of a definition.
 ghost use Rattle.std.specs.Prelude.{◌≡◌, ◌++◌, map, OnOk};
 ghost use Rattle.std.specs.String.{string_bytes};
-ghost use Rattle.mbe_diagnostics.specs.Lints.Lint.{lint_seen, one_lint};
+ghost use Rattle.mbe_diagnostics.specs.Lints.Lint.{is_child_level, lint_seen, one_lint};
 
 use crate::diagnostic::Level;
 use mbe_tt::span::Span;
@@ -14,6 +14,18 @@ pub struct Lint<A: Allocator = Global> {
     /// The part of the definition, in bytes of the span's file.
     pub span: Span,
     pub message: String<A>,
+}
+
+impl<A: Allocator> Lint<A> {
+    /// Whether it says more about the last lint before it that is an error or a warning.
+    pub fn is_child(&self) -> bool
+        ensures { result ≡ is_child_level self.now.level }
+    {
+        match self.level {
+            Level::Error | Level::Warning => false,
+            Level::Note | Level::Help => true,
+        }
+    }
 }
 
 /// Adds a lint. `AllocError` if out of memory.

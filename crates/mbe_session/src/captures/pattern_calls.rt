@@ -116,11 +116,13 @@ fn note_bound_name<A: Allocator + Copy>(
         message: format!(in alloc;
             "`{word}` keeps its name, since `{called}!` is in a pattern here that may meet the name"
         )?,
+        is_child: false,
     })?;
     notes.push(Note {
         level: Level::Note,
         span: name.span,
         message: format!(in alloc; "`{word}` is bound here")?,
+        is_child: true,
     })?;
     Ok(())
 }

@@ -145,11 +145,13 @@ fn note_shadowed_name<A: Allocator + Copy>(
         message: format!(in alloc;
             "in the expansion of `{called}!` the name `{name}` is the local that is in scope here"
         )?,
+        is_child: false,
     })?;
     notes.push(Note {
         level: Level::Note,
         span: shadowed.bound,
         message: format!(in alloc; "`{name}` is bound here")?,
+        is_child: true,
     })?;
     Ok(())
 }

@@ -1,6 +1,7 @@
 // Notes the calls that led to a call in an expansion. The first note is on the call in the file.
-// The next notes are on the calls that the expansions wrote. The texts and the numbers are the same
-// as for rustc's `-Z macro-backtrace`.
+// The next notes are on the calls that the expansions wrote. All are children of the last note on
+// the call that is none. The texts and the numbers are the same as for rustc's
+// `-Z macro-backtrace`.
 ghost use Rattle.std.specs.Prelude.{◌≡◌, OnOk};
 ghost use Rattle.mbe_session.specs.SessionViews.{setting_of, state_of};
 
@@ -146,6 +147,7 @@ fn push_callers<A: Allocator + Copy>(
                 level: Level::Note,
                 span: *call,
                 message: caller_text(alloc, index, count)?,
+                is_child: true,
             })?;
         }
     }

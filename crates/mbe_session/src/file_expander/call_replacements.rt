@@ -412,7 +412,7 @@ impl<A: Allocator + Copy> FileExpander<'_, A> {
         )?;
         self.note(Level::Note, doubt.place, message)?;
         let message = format!(in self.alloc; "`{name}` is bound here")?;
-        self.note(Level::Note, doubt.bound, message)
+        self.note_child(Level::Note, doubt.bound, message)
     }
 }
 

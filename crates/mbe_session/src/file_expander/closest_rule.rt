@@ -121,8 +121,9 @@ impl<A: Allocator + Copy> FileExpander<'_, A> {
         rule_that_stops_at(self.alloc, &self.grammar, rules, argument, furthest)
     }
 
-    // Notes what the closest rule was to match where it stops, and where the macro is defined.
-    // Nothing is noted of a call that is explained, since all its rules are.
+    // Notes what the closest rule was to match where it stops, and where the macro is defined. The
+    // last note is the call's error, and these notes are its children. Nothing is noted of a call
+    // that is explained, since all its rules are.
     pub(crate) fn note_closest_rule(
         &mut self,
         call: MacroCall<'_, A>,
@@ -145,7 +146,7 @@ impl<A: Allocator + Copy> FileExpander<'_, A> {
             "while trying to match {expected} in rule {number} of `{name}!`"
         )?;
         let place = first_place(parts.as_slice()).unwrap_or(outcome.span);
-        self.note(Level::Note, place, message)?;
+        self.note_child(Level::Note, place, message)?;
         self.note_calling(call)
     }
 
@@ -158,6 +159,6 @@ impl<A: Allocator + Copy> FileExpander<'_, A> {
             return Ok(());
         };
         let message = String::from_str(self.alloc, "when calling this macro")?;
-        self.note(Level::Note, place, message)
+        self.note_child(Level::Note, place, message)
     }
 }

@@ -131,9 +131,9 @@ impl<A: Allocator + Copy> FileExpander<'_, A> {
             return Ok(());
         };
         let SimilarMacro { help, there, place } = similar;
-        self.note(Level::Help, call.name.span, help)?;
+        self.note_child(Level::Help, call.name.span, help)?;
         match place {
-            Some(place) => self.note(Level::Note, place, there),
+            Some(place) => self.note_child(Level::Note, place, there),
             None => Ok(()),
         }
     }

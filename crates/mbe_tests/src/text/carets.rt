@@ -1,6 +1,6 @@
 // Carets under a line. Columns are those of a terminal: two for a wide character, none for a
 // combining mark, four for a tab, as rustc prints it.
-use mbe_diagnostics::diagnostic::{Diagnostic, Level, Point};
+use mbe_diagnostics::diagnostic::{Diagnostic, FilePart, Level, Point};
 use mbe_diagnostics::renderer::rendered;
 use std::alloc::{AllocError, Global};
 use test_rows::{Fields, RowTest, rows};
@@ -39,12 +39,16 @@ fn said<'t>(
     Diagnostic {
         level,
         message: "here",
-        file: "a.rs",
-        start: point,
-        end: point,
-        line,
-        before,
-        part,
+        code: "",
+        is_child: false,
+        place: Some(FilePart {
+            file: "a.rs",
+            start: point,
+            end: point,
+            line,
+            before,
+            part,
+        }),
     }
 }
 
@@ -61,7 +65,7 @@ impl RowTest for Carets {
         let Carets(number, space) = *self;
         let text = format!(in alloc; "{before}{part}{after}")?;
         let said = said(number, text.as_str(), before, part, Level::Note);
-        let shown = rendered(alloc, &said, false)?;
+        let shown = rendered(alloc, &said, &[], false)?;
         Ok(shown == lines(alloc, number, space, line, carets)?)
     }
 }
@@ -75,7 +79,8 @@ fn lines(
     carets: &str,
 ) -> Result<String, AllocError> {
     format!(in alloc;
-        "note: here\n{space}--> a.rs:{number}:3\n{space} |\n{number} | {line}\n{space} | {carets}\n"
+        "note: here\n{space}--> a.rs:{number}:3\n{space} |\n{number} | {line}\n\
+            {space} | {carets}\n\n"
     )
 }
 
@@ -99,6 +104,6 @@ fn level_of(letter: &str) -> Level {
 /// Whether the level has its colour.
 pub fn is_coloured(alloc: Global, letter: &str, word: &str) -> Result<bool, AllocError> {
     let said = said(1, "x", "", "x", level_of(letter));
-    let want = format!(in alloc; "{word}\u{1b}[0m: here\n --> a.rs:1:3\n  |\n1 | x\n  | ^\n")?;
-    Ok(rendered(alloc, &said, true)?.as_str() == want.as_str())
+    let want = format!(in alloc; "{word}\u{1b}[0m: here\n --> a.rs:1:3\n  |\n1 | x\n  | ^\n\n")?;
+    Ok(rendered(alloc, &said, &[], true)?.as_str() == want.as_str())
 }

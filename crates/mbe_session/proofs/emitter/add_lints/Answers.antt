@@ -1,17 +1,10 @@
-use Rattle.std.proofs.Common.{rules, ◌+◌, drop, map, subst}
-use Rattle.mbe_diagnostics.proofs.LoopLemmas.{one_less}
+use Rattle.std.proofs.Common.{map}
 use Rattle.mbe_diagnostics.specs.Lints.Lint.{lint_seen}
-use Rattle.mbe_session.specs.EmittedNotes.{EmittedLints}
+use Rattle.mbe_session.proofs.EmitterLemmas.{lints_emitted}
 use Rattle.mbe_session.proofs.emitter.add_lints.Goals as goal
 
-pub loop-lint-preserved : goal.loop-lint-preserved
-loop-lint-preserved c =
-    let left = drop (c.loop-lint.lint-index + 1) c.args.lints.now in
-    one_less (λ ns before after. EmittedLints c.args.form c.args.files.now (map lint_seen ns) before after)
-    c.args.lints.now _ _ c.lint-item.result c.loop-lint.lint-index _ c.loop-lint-test.true c.lint-item.is
-    (λ end rest. (
-      c.diagnostic-diag.result,
-      search rules,
-      subst (λ b. EmittedLints c.args.form c.args.files.now (map lint_seen left) b end) c.in_ok-add_diagnostic.ensures
-          rest,
-    )) c.loop-lint.invariant
+pub returns : goal.returns
+returns c =
+    lints_emitted c.args.form c.args.files.now (map lint_seen c.args.lints.now) _ _ _ _ _
+    c.new-diagnostics.ensures.items
+    c.in_ok-push_lint_diagnostics.ensures c.as_slice.ensures.value c.in_ok-add_all.ensures

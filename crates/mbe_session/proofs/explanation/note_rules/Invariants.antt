@@ -4,6 +4,7 @@ use Rattle.mbe_session.proofs.explanation.note_rules.Given as goal
 
 abbrev pub invariant-loop-match_outcome : goal.invariant-loop-match_outcome
 invariant-loop-match_outcome g l =
-    map note_seen l.notes.items ++ rules_notes l.name l.number
+    map note_seen l.notes.items ++ rules_notes l.name l.is_child l.number
     (map explanation_seen (drop l.match_outcome-index l.explanations))
-    ≡ map note_seen l.initial.notes.items ++ rules_notes l.name l.initial.number (map explanation_seen l.explanations)
+    ≡ map note_seen l.initial.notes.items
+    ++ rules_notes l.name l.is_child l.initial.number (map explanation_seen l.explanations)

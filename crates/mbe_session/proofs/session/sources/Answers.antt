@@ -3,6 +3,7 @@ use Rattle.mbe_grammar.specs.declared.tables.peg_table.RuleTable.{RuleTable}
 use Rattle.mbe_session.specs.declared.session_options.SessionOptions.{SessionOptions}
 use Rattle.mbe_session.specs.declared.source_settings.SourceSettings.{SourceSettings}
 use Rattle.std.proofs.lemmas.List.{length-append}
+use Rattle.mbe_session.specs.CallTextViews.{call_of}
 use Rattle.mbe_session.specs.FileViews.{source_of, text_of}
 use Rattle.mbe_session.specs.OptionViews.{conditions_of, own_of}
 use Rattle.mbe_session.specs.CrateSettings.{AreFileSettings}
@@ -31,7 +32,8 @@ loop-number-preserved c = (
       c.loop-number.invariant.0
       (same_text (source_text (source_of c.in_ok-file.file)) (text_of c.index-texts-number.result)
       (c.in_ok-file.ensures.name ∙ c.as_str-name.ensures.value)
-      (c.in_ok-file.ensures.text ∙ c.as_str-text.ensures.value)),
+      (c.in_ok-file.ensures.text ∙ c.as_str-text.ensures.value)
+      (ap (map call_of) (c.in_ok-file.ensures.calls ∙ c.as_slice-calls.ensures.value))),
   one_more_source source_of (Reads c.args.grammar c.args.options.now c.args.roots.now)
       c.file_settings-source_settings.result
       c.loop-number.files.items c.push.new.self.items c.in_ok-file.file

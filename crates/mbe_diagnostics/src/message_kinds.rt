@@ -1,5 +1,5 @@
-// The kinds of messages. A SARIF log calls them rules.
-use mbe_diagnostics::diagnostic::Level;
+// The kinds of messages. A SARIF log calls them rules, and a JSON object has them as codes.
+use crate::diagnostic::Level;
 
 /// A kind of messages.
 #[derive(Drop)]
@@ -279,11 +279,9 @@ pub fn kind_of(level: Level, text: &str) -> &'static str {
     }
 }
 
-/// Returns the name that a SARIF log has for a level.
-pub fn level_name(level: Level) -> &'static str {
-    match level {
-        Level::Error => "error",
-        Level::Warning => "warning",
-        Level::Note | Level::Help => "note",
-    }
+/// Returns the code of a diagnostic: the id of its kind. It is empty for a note without a kind of its
+/// own.
+pub fn code_of(level: Level, text: &str) -> &'static str {
+    let id = kind_of(level, text);
+    if id == NOTE { "" } else { id }
 }
