@@ -3,6 +3,11 @@
 // A piece of a diagram has its line at height 0: it begins at x = 0, and ends at x = `width`. What
 // is above the line has negative heights. A repetition that may have no round has a track over its
 // body, and one that may have several has a track back below it.
+//
+// A state of a pattern is a point in it: before an op, or at the end of a group, of a repetition's
+// body, or of the pattern. The states are counted in the order of the pattern, from 0. Each box has
+// the number of the state that its token or variable follows. So in `$($x:ident),* ;` the box of
+// `$x` has the number 1, that of `,` has 2, and that of `;` has 3.
 use crate::html::{Html, Part};
 use mbe::Expected;
 use mbe_diagnostics::rule_part::describe;
@@ -56,6 +61,29 @@ fn box_class(kind: BoxKind, is_expected: bool) -> &'static str {
     }
 }
 
+// What the boxes of a drawing get.
+#[derive(Drop)]
+struct Marks<'e> {
+    // The spans of the parts that are marked.
+    expected: &'e [Span],
+    // The number of the next state; the greatest number if it isn't known.
+    next: usize,
+}
+
+impl Marks<'_> {
+    // Returns the number of the next state, and counts it.
+    fn state(&mut self) -> usize {
+        let state = self.next;
+        self.next = state.saturating_add(1);
+        state
+    }
+
+    // Some states are left out. So the numbers of all later ones aren't known.
+    fn lose_count(&mut self) {
+        self.next = usize::MAX;
+    }
+}
+
 // Whether one of the spans begins where that one does.
 fn contains_span(spans: &[Span], span: Span) -> bool {
     spans.iter().any(|one| one.file == span.file && one.start == span.start && one.end == span.end)
@@ -74,18 +102,28 @@ pub fn write_origin(alloc: Global, html: &mut Html, span: Span) -> Result<(), Al
     html.write(alloc, &[Part::Number(span.start as usize)])
 }
 
-// Draws a box with a text.
+// Writes the attribute with the number of a box's state, if the number is known.
+fn write_state(alloc: Global, svg: &mut Html, state: usize) -> Result<(), AllocError> {
+    if state == usize::MAX {
+        return Ok(());
+    }
+    svg.write(alloc, &[Part::Markup(" data-s="), Part::Number(state)])
+}
+
+// Draws a box with a text, at a state.
 fn boxed(
     alloc: Global,
     kind: BoxKind,
     text: &str,
     span: Option<Span>,
     expected: &[Span],
+    state: usize,
 ) -> Result<Drawing, AllocError> {
     let width = text.chars().count().saturating_mul(8).saturating_add(16);
     let is_expected = span.is_some_and(|span| contains_span(expected, span));
     let mut svg = Html::new(alloc);
     svg.write(alloc, &[Part::Markup(box_class(kind, is_expected))])?;
+    write_state(alloc, &mut svg, state)?;
     if let Some(span) = span {
         write_origin(alloc, &mut svg, span)?;
     }
@@ -132,12 +170,13 @@ fn quoted(
     kind: BoxKind,
     expected_part: Expected<'_>,
     expected: &[Span],
+    state: usize,
 ) -> Result<Drawing, AllocError> {
     let part = describe(alloc, expected_part)?;
     let text = part.text.as_str();
     let text = text.strip_prefix('`').unwrap_or(text);
     let text = text.strip_suffix('`').unwrap_or(text);
-    boxed(alloc, kind, text, part.span, expected)
+    boxed(alloc, kind, text, part.span, expected, state)
 }
 
 // Pieces one after another, on one line.
@@ -226,14 +265,16 @@ fn place(
 fn sequence(
     alloc: Global,
     ops: &MetaTemplate,
-    expected: &[Span],
+    marks: &mut Marks<'_>,
     levels: u32,
 ) -> Result<Drawing, AllocError> {
     let mut line = Line::new(alloc);
     if levels > 0 {
         for op in &ops.0 {
-            add_op(alloc, &mut line, op, expected, levels - 1)?;
+            add_op(alloc, &mut line, op, marks, levels - 1)?;
         }
+    } else {
+        marks.lose_count();
     }
     line.finish(alloc)
 }
@@ -244,25 +285,30 @@ fn add_op(
     alloc: Global,
     line: &mut Line,
     op: &Op,
-    expected: &[Span],
+    marks: &mut Marks<'_>,
     levels: u32,
 ) -> Result<(), AllocError> {
+    let state = marks.state();
     match op {
-        Op::Var { .. } => add_box(alloc, line, BoxKind::Variable, op, expected),
+        Op::Var { .. } => add_box(alloc, line, BoxKind::Variable, op, marks.expected, state),
         Op::Literal(_) | Op::Ident(_) | Op::Punct(_) | Op::Expression(_) => {
-            add_box(alloc, line, BoxKind::Token, op, expected)
+            add_box(alloc, line, BoxKind::Token, op, marks.expected, state)
         }
         Op::Subtree { tokens, delimiter } => {
-            let inside = sequence(alloc, tokens, expected, levels)?;
-            add_group(alloc, line, delimiter.get(), &inside, expected)
+            let inside = sequence(alloc, tokens, marks, levels)?;
+            let states = (state, marks.state());
+            add_group(alloc, line, delimiter.get(), &inside, marks.expected, states)
         }
         Op::Repeat {
             tokens,
             kind,
             separator,
         } => {
-            let body = sequence(alloc, tokens, expected, levels)?;
-            add_repetition(alloc, line, *kind, separator.as_ref(), &body, expected)
+            let body = sequence(alloc, tokens, marks, levels)?;
+            let end = marks.state();
+            let between = separator_box(alloc, separator.as_ref(), marks.expected, end)?;
+            let piece = repetition(alloc, *kind, &body, between.as_ref())?;
+            line.push(alloc, &piece)
         }
     }
 }
@@ -274,37 +320,27 @@ fn add_box(
     kind: BoxKind,
     op: &Op,
     expected: &[Span],
+    state: usize,
 ) -> Result<(), AllocError> {
-    let piece = quoted(alloc, kind, Expected::Op(op), expected)?;
+    let piece = quoted(alloc, kind, Expected::Op(op), expected, state)?;
     line.push(alloc, &piece)
 }
 
-// Adds a group: its opening, what is in it, and its closing.
+// Adds a group: its opening, what is in it, and its closing. `states` are the states before the
+// group and at its end.
 fn add_group(
     alloc: Global,
     line: &mut Line,
     delimiter: Delimiter,
     inside: &Drawing,
     expected: &[Span],
+    states: (usize, usize),
 ) -> Result<(), AllocError> {
     let (opening, closing) = (opening_of(delimiter.kind), closing_of(delimiter.kind));
-    add_delimiter(alloc, line, opening, Some(delimiter.opening), expected)?;
+    let span = Some(delimiter.opening);
+    add_delimiter(alloc, line, opening, span, expected, states.0)?;
     line.push(alloc, inside)?;
-    add_delimiter(alloc, line, closing, None, expected)
-}
-
-// Adds a repetition of a body.
-fn add_repetition(
-    alloc: Global,
-    line: &mut Line,
-    kind: RepeatKind,
-    separator: Option<&Separator>,
-    body: &Drawing,
-    expected: &[Span],
-) -> Result<(), AllocError> {
-    let between = separator_box(alloc, separator, expected)?;
-    let piece = repetition(alloc, kind, body, between.as_ref())?;
-    line.push(alloc, &piece)
+    add_delimiter(alloc, line, closing, None, expected, states.1)
 }
 
 fn opening_of(kind: DelimiterKind) -> &'static str {
@@ -332,11 +368,12 @@ fn add_delimiter(
     text: &str,
     span: Option<Span>,
     expected: &[Span],
+    state: usize,
 ) -> Result<(), AllocError> {
     if text.is_empty() {
         return Ok(());
     }
-    let piece = boxed(alloc, BoxKind::Token, text, span, expected)?;
+    let piece = boxed(alloc, BoxKind::Token, text, span, expected, state)?;
     line.push(alloc, &piece)
 }
 
@@ -344,12 +381,13 @@ fn separator_box(
     alloc: Global,
     separator: Option<&Separator>,
     expected: &[Span],
+    state: usize,
 ) -> Result<Option<Drawing>, AllocError> {
     match separator {
         None => Ok(None),
         Some(separator) => {
             let part = Expected::Separator(separator);
-            Ok(Some(quoted(alloc, BoxKind::Token, part, expected)?))
+            Ok(Some(quoted(alloc, BoxKind::Token, part, expected, state)?))
         }
     }
 }
@@ -479,7 +517,8 @@ pub fn draw_pattern(
     pattern: &MetaTemplate,
     expected: &[Span],
 ) -> Result<Drawing, AllocError> {
-    let body = sequence(alloc, pattern, expected, LEVELS)?;
+    let mut marks = Marks { expected, next: 0 };
+    let body = sequence(alloc, pattern, &mut marks, LEVELS)?;
     let mut line = Line::new(alloc);
     line.straight(alloc, GAP)?;
     line.is_empty = true;

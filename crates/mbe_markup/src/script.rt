@@ -81,6 +81,60 @@ function follow() {
   var target = location.hash && document.getElementById(location.hash.slice(1));
   if (target) { openTo(target); target.scrollIntoView(); }
 }
+function inline(track) {
+  var use = track.querySelector('use');
+  var drawing = use && document.querySelector(use.getAttribute('href'));
+  if (!drawing) { return; }
+  var copy = drawing.cloneNode(true);
+  copy.removeAttribute('id');
+  use.closest('svg').setAttribute('role', 'group');
+  use.parentNode.replaceChild(copy, use);
+}
+function expectation(track, at) {
+  var offsets = track.dataset.states.split('|');
+  if (at >= offsets.length) { return 'Stopped before this token.'; }
+  var states = offsets[at].split(' ');
+  var boxes = all('[data-s]', track), texts = [];
+  boxes.forEach(function (box) {
+    var isLive = states.indexOf(box.dataset.s) >= 0;
+    box.classList.toggle('live', isLive);
+    if (isLive) { texts.push('\\u201C' + box.textContent + '\\u201D'); }
+  });
+  if (texts.length < states.filter(Boolean).length) { texts.push('the end'); }
+  return 'Expects ' + texts.join(' or ') + '.';
+}
+function addSlider(match) {
+  var tracks = all('.track[data-states]', match);
+  if (!tracks.length || match.querySelector('input')) { return; }
+  var tokens = all('.argument i', match);
+  var slider = document.createElement('input');
+  slider.type = 'range';
+  slider.min = 0;
+  slider.max = tokens.filter(function (one) { return one.textContent !== 'end'; }).length;
+  slider.setAttribute('aria-label', 'Token of the argument');
+  match.querySelector('.argument').after(slider);
+  var lines = tracks.map(function (track) {
+    var line = document.createElement('p');
+    line.className = 'expects';
+    inline(track);
+    track.after(line);
+    return line;
+  });
+  function show() {
+    var at = Number(slider.value);
+    tokens.forEach(function (one, index) { one.classList.toggle('at', index === at); });
+    tracks.forEach(function (track, index) {
+      all('.live', track).forEach(function (one) { one.classList.remove('live'); });
+      lines[index].textContent = expectation(track, at);
+    });
+    var token = tokens[at] ? '\\u201C' + tokens[at].textContent + '\\u201D' : 'the end';
+    slider.setAttribute('aria-valuetext', token);
+  }
+  var marked = tokens.map(function (one) { return one.parentNode.tagName === 'MARK'; });
+  slider.value = Math.max(0, marked.lastIndexOf(true));
+  slider.addEventListener('input', show);
+  show();
+}
 tools.hidden = false;
 tools.addEventListener('click', function (event) {
   var what = event.target.dataset.do;
@@ -97,6 +151,10 @@ document.addEventListener('toggle', function (event) {
   button.addEventListener('click', function () { openAll(call, true); });
   head.appendChild(button);
 }, true);
+document.addEventListener('toggle', function (event) {
+  if (event.target.open && event.target.classList.contains('match')) { addSlider(event.target); }
+}, true);
+all('details.match[open]').forEach(addSlider);
 window.addEventListener('hashchange', follow);
 window.addEventListener('beforeprint', function () { openAll(document, true); });
 follow();

@@ -4,8 +4,8 @@
 /// The policy allows this style sheet and the script of `script`, by their SHA-256, and nothing
 /// else.
 pub const POLICY: &str = "default-src 'none'; \
-style-src 'sha256-vByg/eZtJZgKGbNF0eHR28YQpJXfg0AkEdWUKqV+6V8='; \
-script-src 'sha256-dkZnQWgbNaPYzRSs1DoXhyyaMNnRZVXy4VgPA0meTFQ='; \
+style-src 'sha256-KAdZobbCUnR5bPvtIX1KiFAPpK1+KtCxkV+YTyRkI1E='; \
+script-src 'sha256-nQdK9SD0wdh7OEehYh8vudEZnZ6bszTNxBCXsJuK/RE='; \
 base-uri 'none'; form-action 'none'";
 
 /// The style sheet. It has colours for light and dark, and a form for print.
@@ -75,6 +75,9 @@ svg{display:block}.rail path{fill:none;stroke:var(--dim);stroke-width:1.5}
 .rail text{fill:var(--fg);font:13px ui-monospace,Menlo,Consolas,monospace;text-anchor:middle}
 .rail .rv text{fill:var(--v0)}
 .rail .want rect{fill:var(--want);stroke:var(--bad);stroke-width:2.5}
+.rail .live rect{stroke:var(--focus);stroke-width:3}.rail .live text{font-weight:600}
+.match input{display:block;width:100%;max-width:40rem}.argument .at{outline:2px solid var(--focus)}
+.expects{color:var(--dim);font-size:.85rem}
 g.hot{background:none}g.hot rect{fill:var(--hot)}
 .bindings{list-style:none;padding:0;margin:.3rem 0}.bindings li{margin:.15rem 0}
 .bindings ol{margin:.1rem 0;padding-left:2.2rem}.bindings em{color:var(--dim)}
@@ -84,6 +87,6 @@ g.hot{background:none}g.hot rect{fill:var(--hot)}
 h3 a,h3 small{font-weight:normal;font-size:.85rem;margin-left:.5rem}
 #status{position:fixed;left:0;right:0;bottom:0;margin:0;padding:.3rem 1.5rem;
 background:var(--card);border-top:1px solid var(--line)}#status:empty{display:none}
-@media print{#tools,#status,button{display:none}body{max-width:none;padding:0}
+@media print{#tools,#status,button,input,.expects{display:none}body{max-width:none;padding:0}
 .card{break-inside:auto}}
 ";

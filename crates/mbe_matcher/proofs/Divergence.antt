@@ -6,6 +6,7 @@ pub mod Nodes
 pub mod Right
 pub mod StateLemmas
 pub mod Marking
+pub mod Reached
 pub mod Whole
 pub mod OffsetLemmas
 pub mod Rounding

@@ -6,7 +6,8 @@
 // no network, and it can be read without scripts. `mbe_markup` has the pieces of a page.
 //
 // `page_data` and `call_view` have the data. The views are `source_writer`, `cards`,
-// `token_writer`, `template_view`, `match_view` and `macro_list`. `page` writes a page of them.
+// `token_writer`, `template_view`, `match_view` and `macro_list`. `rule_states` has the states of a
+// match at each token. `page` writes a page of them.
 // `pages` writes the pages of a folder. `trace_values` and `trace` write the same data as JSON.
 // `frames` writes a call and its steps for a terminal.
 #![tactic(auto)]
@@ -19,6 +20,7 @@ mod match_view;
 pub mod page;
 mod page_data;
 pub mod pages;
+mod rule_states;
 mod source_writer;
 mod template_view;
 mod token_writer;

@@ -5,6 +5,7 @@ ghost use Rattle.mbe.specs.MacroViews.{macro_of};
 
 use crate::call_view::CallView;
 use crate::page_data::PageData;
+use crate::rule_states::{are_shown, rule_states};
 use crate::token_writer::variable_class;
 use mbe::{Binding, Bindings, DeclarativeMacro, MetaVarKind, Verdict};
 use mbe_diagnostics::outcome::{MatchOutcome, message};
@@ -25,28 +26,38 @@ use std::alloc::{AllocError, Global};
 /// The greatest depth to which nested rounds are shown.
 const LEVELS: u32 = 64;
 
-// Returns the outcome of each of the first `count` rules on a call.
-fn outcomes_of<G: FragmentGrammar>(
+// How a rule matches a call: the outcome, and the states at each offset (`rule_states`).
+#[derive(Drop)]
+struct RuleMatch {
+    outcome: MatchOutcome,
+    states: String,
+}
+
+// Returns how each of the first `count` rules matches a call.
+fn matches_of<G: FragmentGrammar>(
     alloc: Global,
     grammar: &G,
     rules: &DeclarativeMacro,
     step: &CallStep,
     count: usize,
-) -> Result<Vec<MatchOutcome>, AllocError>
+) -> Result<Vec<RuleMatch>, AllocError>
     requires checked { IsChecked (macro_of rules.now) }
 {
-    let mut outcomes = Vec::new(alloc);
+    let mut matches = Vec::new(alloc);
     for index in 0..rules.num_rules() {
         if index < count {
-            outcomes.push(outcome_of_rule(alloc, grammar, rules, &step.argument, index)?)?;
+            matches.push(RuleMatch {
+                outcome: outcome_of_rule(alloc, grammar, rules, &step.argument, index)?,
+                states: rule_states(alloc, grammar, rules, step, index)?,
+            })?;
         }
     }
-    Ok(outcomes)
+    Ok(matches)
 }
 
 // Returns the offset of the token where a rule stops, if it stops at one.
-fn stop_of(outcome: &MatchOutcome) -> Option<usize> {
-    match outcome.verdict {
+fn stop_of(tried: &RuleMatch) -> Option<usize> {
+    match tried.outcome.verdict {
         Verdict::Stuck(offset) | Verdict::Ambiguous(offset) => Some(offset),
         Verdict::OneReading | Verdict::ManyReadings => None,
     }
@@ -56,11 +67,11 @@ fn stop_of(outcome: &MatchOutcome) -> Option<usize> {
 fn write_stops(
     alloc: Global,
     html: &mut Html,
-    outcomes: &[MatchOutcome],
+    matches: &[RuleMatch],
     offset: usize,
 ) -> Result<(), AllocError> {
-    for (index, outcome) in outcomes.iter().enumerate() {
-        if stop_of(outcome) == Some(offset) {
+    for (index, tried) in matches.iter().enumerate() {
+        if stop_of(tried) == Some(offset) {
             html.write(
                 alloc,
                 &[
@@ -74,40 +85,60 @@ fn write_stops(
     Ok(())
 }
 
-fn stops_at(outcomes: &[MatchOutcome], offset: usize) -> bool {
-    outcomes.iter().any(|one| stop_of(one) == Some(offset))
+fn stops_at(matches: &[RuleMatch], offset: usize) -> bool {
+    matches.iter().any(|one| stop_of(one) == Some(offset))
+}
+
+// Writes a token. The script finds the token of an offset by these elements.
+fn write_word(alloc: Global, html: &mut Html, token: &str) -> Result<(), AllocError> {
+    html.write(
+        alloc,
+        &[
+            Part::Markup("<i>"),
+            Part::Text(token),
+            Part::Markup("</i>"),
+        ],
+    )
 }
 
 // Writes a token where rules stop.
 fn write_mark(
     alloc: Global,
     html: &mut Html,
-    outcomes: &[MatchOutcome],
+    matches: &[RuleMatch],
     offset: usize,
     token: &str,
 ) -> Result<(), AllocError> {
-    html.write(alloc, &[Part::Markup("<mark>"), Part::Text(token)])?;
-    write_stops(alloc, html, outcomes, offset)?;
+    html.write(alloc, &[Part::Markup("<mark>")])?;
+    write_word(alloc, html, token)?;
+    write_stops(alloc, html, matches, offset)?;
     html.write(alloc, &[Part::Markup("</mark>")])
 }
 
-// Writes the tokens of an argument. Those where rules stop are marked.
+// Writes the tokens of an argument. Those where rules stop are marked. In a long argument only
+// these are elements of their own.
 fn write_tokens(
     alloc: Global,
     html: &mut Html,
     argument: &TokenText,
-    outcomes: &[MatchOutcome],
+    matches: &[RuleMatch],
 ) -> Result<(), AllocError> {
     let text = argument.text.as_str();
+    let is_short = are_shown(argument.tokens.len());
     let mut at = 0usize;
     for (offset, token) in argument.tokens.iter().enumerate() {
-        if stops_at(outcomes, offset) {
+        let is_marked = stops_at(matches, offset);
+        if is_marked || is_short {
             html.write(
                 alloc,
                 &[Part::Text(text.get(at..token.start).unwrap_or(""))],
             )?;
             let word = text.get(token.start..token.end).unwrap_or("");
-            write_mark(alloc, html, outcomes, offset, word)?;
+            if is_marked {
+                write_mark(alloc, html, matches, offset, word)?;
+            } else {
+                write_word(alloc, html, word)?;
+            }
             at = token.end;
         }
     }
@@ -118,14 +149,14 @@ fn write_tokens(
 fn write_end(
     alloc: Global,
     html: &mut Html,
-    outcomes: &[MatchOutcome],
+    matches: &[RuleMatch],
     end: usize,
 ) -> Result<(), AllocError> {
-    if !stops_at(outcomes, end) {
+    if !stops_at(matches, end) {
         return Ok(());
     }
     html.write(alloc, &[Part::Markup(" ")])?;
-    write_mark(alloc, html, outcomes, end, "end")
+    write_mark(alloc, html, matches, end, "end")
 }
 
 // Writes the argument of a call as a row of tokens.
@@ -133,15 +164,15 @@ fn write_argument(
     alloc: Global,
     html: &mut Html,
     step: &CallStep,
-    outcomes: &[MatchOutcome],
+    matches: &[RuleMatch],
 ) -> Result<(), AllocError> {
     let argument = token_text(alloc, step.argument.iter().remaining())?;
     html.write(
         alloc,
         &[Part::Markup("<h4>Argument</h4><div class=\"code argument\">")],
     )?;
-    write_tokens(alloc, html, &argument, outcomes)?;
-    write_end(alloc, html, outcomes, argument.tokens.len())?;
+    write_tokens(alloc, html, &argument, matches)?;
+    write_end(alloc, html, matches, argument.tokens.len())?;
     html.write(alloc, &[Part::Markup("</div>")])
 }
 
@@ -380,20 +411,35 @@ fn write_verdict(
     )
 }
 
+// Writes the opening of the element around a pattern, with the states at each offset.
+fn write_track(alloc: Global, html: &mut Html, states: &str) -> Result<(), AllocError> {
+    if states.is_empty() {
+        return html.write(alloc, &[Part::Markup("<div class=\"track\">")]);
+    }
+    html.write(
+        alloc,
+        &[
+            Part::Markup("<div class=\"track\" data-states=\""),
+            Part::Text(states),
+            Part::Markup("\">"),
+        ],
+    )
+}
+
 // Writes a rule: its verdict, its pattern, and what its variables are bound to if it applies.
 fn write_rule(
     alloc: Global,
     html: &mut Html,
     view: &CallView<'_>,
     rules: &DeclarativeMacro,
-    outcome: &MatchOutcome,
+    tried: &RuleMatch,
     index: usize,
 ) -> Result<(), AllocError> {
-    write_verdict(alloc, html, outcome, index)?;
-    html.write(alloc, &[Part::Markup("<div class=\"track\">")])?;
+    write_verdict(alloc, html, &tried.outcome, index)?;
+    write_track(alloc, html, tried.states.as_str())?;
     match view.rule {
         Some(_) => write_pattern(alloc, html, view, index)?,
-        None => write_marked_pattern(alloc, html, rules, outcome, index)?,
+        None => write_marked_pattern(alloc, html, rules, &tried.outcome, index)?,
     }
     html.write(alloc, &[Part::Markup("</div>")])?;
     if view.rule == Some(index) {
@@ -408,7 +454,7 @@ fn write_rules(
     step: &CallStep,
     view: &CallView<'_>,
     rules: &DeclarativeMacro,
-    outcomes: &[MatchOutcome],
+    matches: &[RuleMatch],
 ) -> Result<(), AllocError> {
     let opening = match step.state {
         CallState::Failed => "<details class=\"match\" open><summary>Match</summary>",
@@ -417,9 +463,9 @@ fn write_rules(
         }
     };
     html.write(alloc, &[Part::Markup(opening)])?;
-    write_argument(alloc, html, step, outcomes)?;
-    for (index, outcome) in outcomes.iter().enumerate() {
-        write_rule(alloc, html, view, rules, outcome, index)?;
+    write_argument(alloc, html, step, matches)?;
+    for (index, tried) in matches.iter().enumerate() {
+        write_rule(alloc, html, view, rules, tried, index)?;
     }
     html.write(alloc, &[Part::Markup("</details>")])
 }
@@ -443,6 +489,6 @@ pub fn write_match(
         Some(rule) => rule.saturating_add(1),
         None => rules.num_rules(),
     };
-    let outcomes = outcomes_of(alloc, &shown.grammar, rules, step, count)?;
-    write_rules(alloc, html, step, view, rules, outcomes.as_slice())
+    let matches = matches_of(alloc, &shown.grammar, rules, step, count)?;
+    write_rules(alloc, html, step, view, rules, matches.as_slice())
 }

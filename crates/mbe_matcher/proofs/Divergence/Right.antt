@@ -102,7 +102,7 @@ module _ (i : Input) (pat : Ops) (len size : ℕ) (ends : (x : PartialReading) �
   unfolding node_of
   in-bounds x b = node-within size (offset x) len (state_number x) (ends x b) (few x b)
 
-  here_in : (x : PartialReading) → IsPartialReading i pat x → In (here x) ss
+  pub here_in : (x : PartialReading) → IsPartialReading i pat x → In (here x) ss
   unfolding here ss all
   here_in x b =
       let l : offset x ≤ len = ends x b in
@@ -190,7 +190,7 @@ module _ (i : Input) (pat : Ops) (len size : ℕ) (ends : (x : PartialReading) �
       after-is r.0 s.0 r.1 s.1 in
       (s.0.1, a.0, f ∙ s.2 ∙ a.2)
 
-  all_reached : (marks : List Bool) → AreReached (edges_in ss) size (node size len size + 1) marks
+  pub all_reached : (marks : List Bool) → AreReached (edges_in ss) size (node size len size + 1) marks
       → (y : PartialReading) → IsPartialReading i pat y → is_marked marks (node_of y) ≡ true
   unfolding node_of node_after
   all_reached marks r = every i pat (λ y. is_marked marks (node_of y) ≡ true)

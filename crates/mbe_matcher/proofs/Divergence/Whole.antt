@@ -30,6 +30,8 @@ use Rattle.mbe_matcher.proofs.Divergence.Tails.{spots-length}
 use Rattle.mbe_matcher.proofs.Divergence.Nodes.{Found, found-first, place-below}
 use Rattle.mbe_matcher.proofs.Divergence.ContinuationLemmas.{PartSome, edges, final, most, kept, found, part-by}
 use Rattle.mbe_matcher.proofs.Divergence.Right.{all, ss, last, none-part, none-before}
+use Rattle.mbe_matcher.specs.Readings.ReachedStates.{reached_in, AreReachedStates}
+use Rattle.mbe_matcher.proofs.Divergence.Reached.{only-found, all-found}
 
 -- how many dots there are
 pub spots-size : {A : Type 0} (sps : List (declared.PatternState A)) (pat : Ops) → map state_seen sps
@@ -94,6 +96,17 @@ module _ {A : Type 0} (g : Grammar) (x : code.Graph A) (w : IsGraph g x) where
       edges_are
       (subst (λ n. AreReached (flipped x.edges.items) n (node size len size + 1) x.live.items) end_is
       (subst (λ n. AreReached (flipped x.edges.items) x.end n x.live.items) w.count w.live))
+
+  -- the marked nodes are the states that are reached
+  pub reached-states : AreReachedStates g (template_of x.pattern.now) (trees x.argument)
+      (reached_in x.reached.items x.steps.items)
+  unfolding i pat len edges
+  reached-states = record {
+    sound = λ s h. only-found i pat len size ends size_is x.reached.items reached_are s
+        (subst (λ l. In s (reached_in x.reached.items l)) steps_are h);
+    complete = λ s h. subst (λ l. In s (reached_in x.reached.items l)) (sym steps_are)
+        (all-found i pat len size ends size_is x.reached.items reached_are s h);
+  }
 
   -- no two part where no step does, and by the first step that does none before
   pub none-parts : first_divergence x.reached.items x.live.items x.steps.items ≡ None

@@ -57,6 +57,7 @@ target size q w = node size (q + w.1) w.0
 unfoldable pub step_at : Input → ℕ → ℕ → ℕ → PatternState → NodeSteps
 step_at i size q n s = record {
   offset = q;
+  number = n;
   source = node size q n;
   one = option_map (target size q) (transitions i q s (n - 1)).0;
   other = option_map (target size q) (transitions i q s (n - 1)).1;

@@ -27,7 +27,7 @@ pub(crate) struct LiveNodes<'n> {
 }
 
 // Returns what is expected at a state.
-fn expected_at<'a, A: Allocator>(state: &PatternState<'a, A>) -> Option<Expected<'a, A>>
+pub(crate) fn expected_at<'a, A: Allocator>(state: &PatternState<'a, A>) -> Option<Expected<'a, A>>
     ensures { option_map expected_seen result ≡ expected_at (state_seen state.now) }
 {
     match state {

@@ -7,10 +7,12 @@ pub(crate) struct Edge {
     pub(crate) target: usize,
 }
 
-// The steps from a node to other nodes: two at most. `offset` is the node's offset.
+// The steps from a node to other nodes: two at most. The node stands for the state `number` at the
+// offset.
 #[derive(Clone, Copy)]
 pub(crate) struct NodeSteps {
     pub(crate) offset: usize,
+    pub(crate) number: usize,
     pub(crate) source: usize,
     pub(crate) one: Option<usize>,
     pub(crate) other: Option<usize>,

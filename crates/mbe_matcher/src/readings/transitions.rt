@@ -245,6 +245,7 @@ pub(crate) fn step_at<'a, A: Allocator, G: FragmentGrammar>(
     let transitions = transitions(grammar, source, state, number - 1)?;
     Ok(NodeSteps {
         offset,
+        number,
         source: node(size, offset, number).ok_or(AllocError)?,
         one: target(size, offset, transitions.one)?,
         other: target(size, offset, transitions.other)?,

@@ -1,0 +1,180 @@
+#!/usr/bin/env python3
+"""Compares the errors about macros that `expandm` and rustc report of files that don't compile.
+
+A PATH is a Rust file or a folder of them, such as /usr/src/rustc-1.63.0/src/test/ui/macros of
+Debian's package rust-src. rustc reads each file by itself, in the edition of the file's line
+`// edition:YEAR`, else in 2015 below a folder `test`, else in 2021. A file that needs other files or options doesn't count.
+
+The script compares each error of rustc whose message is about macros by example. `expandm` runs
+with --lint. For each error it has
+
+- the same message at the same place, or
+- an error at the same place, or
+- an error in the same line, or
+- an error elsewhere, or
+- no error.
+
+The script prints a table with the messages, and with --list a line for each error that has no equal.
+"""
+import collections
+import json
+import os
+import re
+import sys
+from concurrent.futures import ThreadPoolExecutor
+
+sys.path.insert(0, os.path.dirname(os.path.dirname(os.path.abspath(__file__))))
+import common  # noqa: E402
+
+NEEDS_MORE = re.compile(
+    r"aux-build|proc[_-]macro|^\s*(pub )?mod \w+;|compile-flags|revisions|include!|ignore-test"
+    r"|needs-|//\s*@?\s*only-",
+    re.M)
+# The messages of rustc that are about macros by example.
+ABOUT_MACROS = [
+    "no rules expected",
+    "unexpected end of macro invocation",
+    "local ambiguity",
+    "cannot find macro",
+    "attempted to repeat",
+    "meta-variable",
+    "is still repeating",
+    "missing fragment specifier",
+    "invalid fragment specifier",
+    "is followed by",
+    "is not allowed for",
+    "duplicate matcher binding",
+    "duplicate macro parameter",
+    "recursion limit reached while expanding",
+    "macros must contain at least one rule",
+    "repetition matches empty token tree",
+    "unknown macro variable",
+    "expected one of: `*`, `+`, or `?`",
+    "macro expansion ignores",
+    "the `?` macro repetition operator",
+    "unsupported fragment",
+    "invalid macro matcher",
+    "macro matcher",
+    "macro transcriber",
+    "macro definition",
+    "macro rhs",
+    "macro lhs",
+    "unused macro",
+    "meta-variable expression",
+    "unrecognized meta-variable",
+    "metavariable",
+    "depth parameter",
+    "`count` can not be placed",
+    "variable `",
+    "is ambiguous",
+    "macro-expanded",
+    "questionable",
+    "malformed",
+]
+
+
+class Error:
+    """An error: its message, and the line and the column of its place."""
+
+    def __init__(self, message, line, column):
+        self.message, self.line, self.column = message, line, column
+
+
+def errors_in(lines, path):
+    """The errors that lines of JSON report at places in that file."""
+    found = []
+    for line in lines.splitlines():
+        if not line.startswith("{"):
+            continue
+        one = json.loads(line)
+        spans = [it for it in one.get("spans", ()) if it.get("is_primary")]
+        if one.get("level") != "error" or not spans:
+            continue
+        span = spans[0]
+        if os.path.basename(span["file_name"]) == os.path.basename(path):
+            found.append(Error(one["message"], span["line_start"], span["column_start"]))
+    return found
+
+
+def is_about_macros(message):
+    if message.endswith("is ambiguous"):
+        return False
+    return any(it in message for it in ABOUT_MACROS)
+
+
+def of_rustc(path, year):
+    ran = common.rustc("--error-format=json", "--emit=metadata", "-Awarnings", "-o", os.devnull,
+                       "--cap-lints=warn", path, edition=year)
+    return [it for it in errors_in(ran.stderr, path) if is_about_macros(it.message)]
+
+
+def of_expandm(program, path, year):
+    found = []
+    for more in (["--lint"], []):
+        ran = common.run([program, "--no-modules", "--edition", year, "--json", *more, path],
+                         timeout=60)
+        found += errors_in(ran.stderr + "\n" + ran.stdout, path)
+    return found
+
+
+def words(message):
+    """The message without what stands in quotes."""
+    return re.sub(r"`[^`]*`", "`..`", message)
+
+
+def agreement(error, ours):
+    same_line = [it for it in ours if it.line == error.line]
+    same_place = [it for it in same_line if it.column == error.column]
+    if any(it.message == error.message for it in same_place):
+        return "equal", ""
+    if same_place:
+        return "place", same_place[0].message
+    if same_line:
+        return "line", f"{same_line[0].column}: {same_line[0].message}"
+    if ours:
+        return "elsewhere", f"{ours[0].line}:{ours[0].column}: {ours[0].message}"
+    return "none", ""
+
+
+AGREEMENTS = ["equal", "place", "line", "elsewhere", "none"]
+
+
+def compare(program, path):
+    """The errors of rustc in a file, each with how `expandm` agrees."""
+    text = common.read(path)
+    if NEEDS_MORE.search(text):
+        return []
+    year = common.edition_of_file(path, text)
+    wanted = of_rustc(path, year)
+    if not wanted:
+        return []
+    try:
+        ours = of_expandm(program, path, year)
+    except Exception as error:  # a program that doesn't end
+        return [(path, it, "none", str(error)) for it in wanted]
+    return [(path, it, *agreement(it, ours)) for it in wanted]
+
+
+def main():
+    parser = common.arguments(__doc__)
+    common.add_expandm(parser)
+    parser.add_argument("--list", action="store_true", help="list the errors without an equal")
+    parser.add_argument("paths", metavar="PATH", nargs="+")
+    options = parser.parse_args()
+    program = options.program or common.expandm()
+    files = common.rust_files(options.paths)
+    with ThreadPoolExecutor(2) as pool:
+        rows = [row for rows in pool.map(lambda it: compare(program, it), files) for row in rows]
+    counts = collections.defaultdict(collections.Counter)
+    for path, error, how, ours in rows:
+        counts[words(error.message)][how] += 1
+        if options.list and how != "equal":
+            print(f"{path}:{error.line}:{error.column}: {how}\n  {error.message}\n  {ours}")
+    table = [(message, *(count[it] for it in AGREEMENTS)) for message, count in
+             sorted(counts.items(), key=lambda it: -sum(it[1].values()))]
+    total = [sum(count[it] for count in counts.values()) for it in AGREEMENTS]
+    common.print_table(("rustc's error", *AGREEMENTS), [*table, ("all", *total)])
+
+
+if __name__ == "__main__":
+    main()
