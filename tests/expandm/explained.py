@@ -155,7 +155,7 @@ macro_rules! pair { ($k:ident => $v:expr) => {}; ($k:ident = $v:expr) => {}; }
 fn main() { pair!(a -> 1); pair!(b = 2 + 3); }
 """,
         """\
-error: no rules expected `->` in the call of `pair!`
+error: no rules expected `->`
  --> a.rs:2:21
   |
 2 | fn main() { pair!(a -> 1); pair!(b = 2 + 3); }
@@ -189,7 +189,7 @@ note: `=` in rule 2 of `pair!`
         "--explain=9 a.rs",
         'macro_rules! m { (a) => {} }\n\tx("漢", m!(b));',
         """\
-error: no rules expected `b` in the call of `m!`
+error: no rules expected `b`
  --> a.rs:2:12
   |
 2 |     x("漢", m!(b));
@@ -242,7 +242,7 @@ OBJECTS = (
         "--explain=2 a.rs",
         "macro_rules! m { (a) => {} }\r\nm!(b);",
         """\
-2:4 33..34 error: no rules expected `b` in the call of `m!`
+2:4 33..34 error: no rules expected `b`
 2:4 33..34 note: rule 1 of `m!` stops here; expected `a`
 1:19 18..19 note: `a` in rule 1 of `m!`
 """,
@@ -264,7 +264,7 @@ fn main() {
 }
 """
 MISTAKE_EXPLAINED = """\
-error: no rules expected `3` in the call of `pairs!`
+error: no rules expected `3`
  --> mistake.rs:8:41
   |
 8 |     let sizes = pairs!(width: 2, height 3);

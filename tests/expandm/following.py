@@ -197,8 +197,8 @@ VARIABLES = (
 # Definitions with other reports too, which are no findings.
 OTHERS = {
     "($($x:ident)*) => {$($($x)*)*}": "attempted to repeat an expression containing no syntax variables matched as repeating at this depth; ",
-    "($($($x:ident)*)*) => {$({$x})*}": "macro `m`, rule 1: empty token tree in repetition; ",
-    "($($($x:ident)*)*) => {$($($x)*)* $x}": "macro `m`, rule 1: empty token tree in repetition; ",
+    "($($($x:ident)*)*) => {$({$x})*}": "repetition matches empty token tree; ",
+    "($($($x:ident)*)*) => {$($($x)*)* $x}": "repetition matches empty token tree; ",
     "($x:ident) => {}; ($y:ident) => {$x}": "unreachable rule: rule 1 matches everything it does; ",
 }
 

@@ -189,13 +189,13 @@ DEFINITIONS = (
     ("mod x { #[macro_export] macro_rules! e ( ); }\npub macro n { }", "1:38 error: macros must contain at least one rule; "
         "2:11 error: macros must contain at least one rule; "),
     ("macro m() { }", ""),
-    ("macro_rules! m {\n    (a $x) => {};\n}", "2:8 error: macro `m`, rule 1: missing fragment specifier; "),
-    ("macro_rules! m { () => {} () => {} }", "1:27 error: macro `m`, rule 2: expected `;`; "),
-    ("macro m($x:tt) { $x $- }", "1:21 error: macro `m`, rule 1: expected ident; "),
-    ("macro_rules! m { () => }", "1:24 error: macro `m`, rule 1: expected subtree; "),
+    ("macro_rules! m {\n    (a $x) => {};\n}", "2:8 error: missing fragment specifier; "),
+    ("macro_rules! m { () => {} () => {} }", "1:27 error: expected `;`; "),
+    ("macro m($x:tt) { $x $- }", "1:21 error: expected ident; "),
+    ("macro_rules! m { () => }", "1:24 error: expected subtree; "),
     (
         "macro_rules! m { ($x:ident) => {x}; ($(a)? b) => {}; ($()*) => {} }",
-        "1:56 error: macro `m`, rule 3: empty token tree in repetition; "
+        "1:56 error: repetition matches empty token tree; "
         "1:19 warning: unused macro variable: `$x`; "
         "1:19 help: if this is intentional, prefix it with an underscore: `$_x`; ",
     ),

@@ -27,7 +27,7 @@ ROWS = (
         (
             (
                 "no-matching-rule",
-                ("error", "no rules expected `b` in the call of `m!`", (47, 48, 4, 8, 9), "x = m!(b);", "       ^"),
+                ("error", "no rules expected `b`", (47, 48, 4, 8, 9), "x = m!(b);", "       ^"),
                 (
                     "note", 'rule 1 of `m!` stops here; expected `"\\\\漢\n"`', (47, 48, 4, 8, 9), "x = m!(b);",
                     "       ^",
@@ -45,7 +45,7 @@ ROWS = (
         (
             (
                 "no-matching-rule",
-                ("error", "no rules expected `b` in the call of `m!`", (41, 42, 11, 4, 5), "m!(b);", "   ^"),
+                ("error", "no rules expected `b`", (41, 42, 11, 4, 5), "m!(b);", "   ^"),
                 ("note", "rule 1 of `m!` stops here; expected `a`", (41, 42, 11, 4, 5), "m!(b);", "   ^"),
                 (
                     "note", "`a` in rule 1 of `m!`", (24, 25, 7, 19, 20), "macro_rules! m { (a) => {} }",
@@ -88,22 +88,22 @@ CALLING = "note: when calling this macro"
 # Arguments, a text, and the diagnostics: each has its level and its message, and those of its children.
 GROUPS = (
     # An error, with the closest rule and the definition.
-    ("", FAILING, [["error: no rules expected `c` in the call of `m!`", f"{TRYING} `a` in {ONE}", CALLING]]),
+    ("", FAILING, [["error: no rules expected `c`", f"{TRYING} `a` in {ONE}", CALLING]]),
     # Two errors.
     (
         "", BOTH,
-        [[f"error: no rules expected `{it}` in the call of `m!`", f"{TRYING} meta-variable `$x:ident` in {ONE}", CALLING] for it in "12"],
+        [[f"error: no rules expected `{it}`", f"{TRYING} meta-variable `$x:ident` in {ONE}", CALLING] for it in "12"],
     ),
     # The calls that led to an error.
     (
         "", INNER,
-        [["error: unexpected end of macro invocation in the call of `inner!`", f"{TRYING} `a` in rule 1 of `inner!`", CALLING,
+        [["error: unexpected end of macro invocation", f"{TRYING} `a` in rule 1 of `inner!`", CALLING,
           "note: in this macro invocation"]],
     ),
     # Each rule of a call that fails, with its parts.
     (
         "--explain", FAILING,
-        [["error: no rules expected `c` in the call of `m!`", f"note: {ONE} stops here; expected `a`", f"note: `a` in {ONE}",
+        [["error: no rules expected `c`", f"note: {ONE} stops here; expected `a`", f"note: `a` in {ONE}",
           "note: rule 2 of `m!` stops here; expected `b`", "note: `b` in rule 2 of `m!`"]],
     ),
     # Each rule of a call that is expanded is a diagnostic of its own.

@@ -104,7 +104,7 @@ def check_place(program, row, rules, argument, message):
 def test(program):
     for row in ROWS:
         rules, argument, message = row
-        check_place(program, row, rules, argument, f"{message} in the call of `m!`")
+        check_place(program, row, rules, argument, message)
     for row in AMBIGUOUS:
         rules, argument = row
         check_place(program, row, rules, argument, "local ambiguity when calling macro `m`: multiple parsing options")
@@ -114,5 +114,5 @@ def test(program):
         check_several(program, row)
     for rules in EMPTY:
         found = place_and_message(program, rules, "")
-        message = "unexpected end of macro invocation in the call of `m!`"
+        message = "unexpected end of macro invocation"
         program.check("mismatches.EMPTY", rules, found, [(2, 1, "error", message)])

@@ -28,7 +28,7 @@ def result(kind, level, text, region, *details, uri="a.rs"):
 
 
 FAILED = result(
-    "no-matching-rule", "error", "no rules expected `b` in the call of `m!`", "2:27-2:28",
+    "no-matching-rule", "error", "no rules expected `b`", "2:27-2:28",
     ("while trying to match `a` in rule 1 of `m!`", "1:19-1:20"), ("when calling this macro", "1:14-1:15"),
 )
 

@@ -129,7 +129,7 @@ pub static KINDS: [MessageKind; 20] = [
 ];
 
 // What messages of a kind begin with.
-static STARTS: [Mark; 19] = [
+static STARTS: [Mark; 26] = [
     Mark {
         text: "no rules expected ",
         id: "no-matching-rule",
@@ -179,6 +179,34 @@ static STARTS: [Mark; 19] = [
         id: "invalid-definition",
     },
     Mark {
+        text: "missing fragment specifier",
+        id: "invalid-definition",
+    },
+    Mark {
+        text: "repetition matches empty token tree",
+        id: "invalid-definition",
+    },
+    Mark {
+        text: "invalid metavariable expression",
+        id: "invalid-definition",
+    },
+    Mark {
+        text: "expected one of: `*`",
+        id: "invalid-definition",
+    },
+    Mark {
+        text: "expected subtree",
+        id: "invalid-definition",
+    },
+    Mark {
+        text: "expected ident",
+        id: "invalid-definition",
+    },
+    Mark {
+        text: "expected `",
+        id: "invalid-definition",
+    },
+    Mark {
         text: "duplicate matcher binding",
         id: "duplicate-variable",
     },
@@ -209,7 +237,15 @@ static STARTS: [Mark; 19] = [
 ];
 
 // Texts inside the messages of a kind. Such messages begin differently.
-static PARTS: [Mark; 9] = [
+static PARTS: [Mark; 11] = [
+    Mark {
+        text: "` is not allowed on the pattern side",
+        id: "invalid-definition",
+    },
+    Mark {
+        text: " metavariable expressions are not allowed in matchers",
+        id: "invalid-definition",
+    },
     Mark {
         text: " in the call of `",
         id: "failed-expansion",

@@ -51,19 +51,12 @@ MacroFails e c s argument why =
 
 -- ---- the error
 
-unfoldable pub in_call : List ℕ → List ℕ → List ℕ
-in_call name text = text ++ (codes " in the call of `" ++ (name ++ codes "!`"))
-
 unfoldable pub ambiguity_text : List ℕ → List ℕ
 ambiguity_text name = codes "local ambiguity when calling macro `"
     ++ (name ++ codes "`: multiple parsing options")
 
 abbrev pub readings_text : List ℕ
 readings_text = codes "ambiguity: multiple successful parses"
-
--- The message for the token at an offset, which no rule expected.
-unfoldable pub mismatch_in_call : List ℕ → Forest → ℕ → List ℕ
-mismatch_in_call name argument offset = in_call name (mismatch_text (token_at None argument offset))
 
 -- The span of the token at an offset, or of the closing of the call. A call without an argument is
 -- marked at its name.
@@ -76,12 +69,11 @@ place_at c argument offset =
 -- fragment, the expander has the error.
 abbrev pub failure_note : MacroCall → Delimiter × Forest → CallFailure → Option Note
 failure_note c argument (failure.Mismatch offset) =
-    Some (error_at (place_at c argument offset)
-    (mismatch_in_call c.name.sym argument.1 offset))
+    Some (error_at (place_at c argument offset) (mismatch_text (token_at None argument.1 offset)))
 failure_note c argument (failure.Ambiguity offset) =
     Some (error_at (place_at c argument offset) (ambiguity_text c.name.sym))
 failure_note c argument failure.ManyReadings =
-    Some (error_at (place_at c argument 0) (in_call c.name.sym readings_text))
+    Some (error_at (place_at c argument 0) readings_text)
 failure_note c argument failure.TemplateFault = None
 failure_note c argument failure.FragmentFault = None
 

@@ -99,28 +99,6 @@ fn place_at<A: Allocator>(call: MacroCall<'_, A>, argument: &TopSubtree<A>, offs
     span_at(tokens.remaining(), close, offset)
 }
 
-#[tactic(auto, unfolding(crate::specs::CallFailure::in_call))]
-fn in_call<A: Allocator>(alloc: A, name: &str, text: &str) -> Result<String<A>, AllocError>
-    ensures { IfOk result (λ t. string_bytes t ≡ spec.in_call name.now text.now) }
-{
-    format!(in alloc; "{text} in the call of `{name}!`")
-}
-
-// Returns the message for the token at an offset, which no rule expected.
-#[tactic(auto, unfolding(crate::specs::CallFailure::mismatch_in_call))]
-fn mismatch_in_call<A: Allocator + Copy>(
-    alloc: A,
-    name: &str,
-    tokens: TokenTreesView<'_, A>,
-    offset: usize,
-) -> Result<String<A>, AllocError>
-    ensures { IfOk result (λ t. string_bytes t
-        ≡ spec.mismatch_in_call name.now (trees tokens.entry) offset) }
-{
-    let found = mismatch_message(alloc, tokens, offset)?;
-    in_call(alloc, name, found.as_str())
-}
-
 #[tactic(auto, unfolding(crate::specs::CallFailure::ambiguity_text))]
 fn ambiguity_text<A: Allocator>(alloc: A, name: &str) -> Result<String<A>, AllocError>
     ensures { IfOk result (λ t. string_bytes t ≡ spec.ambiguity_text name.now) }
@@ -142,7 +120,7 @@ fn failure_note<A: Allocator + Copy>(
     match failure {
         CallFailure::Mismatch(offset) => {
             let tokens = argument.iter().remaining();
-            let message = mismatch_in_call(alloc, name, tokens, offset)?;
+            let message = mismatch_message(alloc, tokens, offset)?;
             Ok(Some((place_at(call, argument, offset), message)))
         }
         CallFailure::Ambiguity(offset) => {
@@ -150,7 +128,7 @@ fn failure_note<A: Allocator + Copy>(
             Ok(Some((place_at(call, argument, offset), message)))
         }
         CallFailure::ManyReadings => {
-            let message = in_call(alloc, name, "ambiguity: multiple successful parses")?;
+            let message = String::from_str(alloc, "ambiguity: multiple successful parses")?;
             Ok(Some((place_at(call, argument, 0), message)))
         }
         CallFailure::TemplateFault | CallFailure::FragmentFault => Ok(None),

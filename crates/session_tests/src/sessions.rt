@@ -208,7 +208,7 @@ const REPORTED: &str = rows![(
     "macro_rules! m { () => { 1 } }\nconst A: u8 = m!(4);\n",
     "2",
     "18",
-    "no rules expected `4` in the call of `m!`",
+    "no rules expected `4`",
 ),];
 
 #[derive(Clone, Copy)]

@@ -1,12 +1,11 @@
 -- The lints of definitions.
 use Rattle.std.specs.Prelude.{◌≡◌, ℕ, codes, List, [], ◌∷◌, ◌++◌, Option, Some, None}
-use Rattle.std.specs.Fmt.{decimal}
 use Rattle.mbe_tt.specs.declared.span.Edition.{Edition}
 use Rattle.mbe_tt.specs.declared.span.SyntaxContext.{SyntaxContext}
 use Rattle.mbe_tt.specs.Trees.Leaf.{Ident}
 use Rattle.mbe_semantics.specs.Syntax.Definition.{Rule}
-use Rattle.mbe_semantics.specs.Syntax.Template.{Fault}
-use Rattle.mbe_semantics.specs.Expansion.Error.{text_of_fault}
+use Rattle.mbe_semantics.specs.Syntax.Template.{Fault, unexpected_token, expected, invalid_repeat}
+use Rattle.mbe_semantics.specs.Syntax.Template.{empty_repetition}
 use Rattle.mbe_semantics.specs.Expansion.Macro.{Macro}
 use Rattle.mbe_semantics.specs.Expansion.ParsedMacro.{IsParsedRules, IsParsedMacro}
 use Rattle.mbe_rewriter.specs.MacroItems.{DefinitionForm, Rules, Body, Arguments, MacroDefinition}
@@ -15,20 +14,23 @@ use Rattle.mbe_diagnostics.specs.RuleChecks.UnreachableRules.{unreachable_rules}
 use Rattle.mbe_diagnostics.specs.Lints.Lint.{Lint, error_at}
 use Rattle.mbe_diagnostics.specs.RuleChecks.FixedRepetitions.{fixed_repetitions}
 use Rattle.mbe_diagnostics.specs.Lints.RepetitionLints.{fixed_lints}
-use Rattle.mbe_diagnostics.specs.Lints.UnreachableLints.{unreachable_lints, number_of}
+use Rattle.mbe_diagnostics.specs.Lints.UnreachableLints.{unreachable_lints}
 use Rattle.mbe_diagnostics.specs.Lints.ErrorLocation.{RefusedAt}
 use Rattle.mbe_diagnostics.specs.declared.lints.error_location.ErrorLocation.{ErrorLocation}
 use Rattle.mbe_diagnostics.specs.Lints.FindingMessages.{findings_lints}
 
+-- The message for a fault of a definition: rustc's, if it has one, else the parser's.
+unfoldable pub refusal_text : Fault → List ℕ
+refusal_text (unexpected_token text) = text
+refusal_text (expected text) = text
+refusal_text invalid_repeat = codes "expected one of: `*`, `+`, or `?`"
+refusal_text empty_repetition = codes "repetition matches empty token tree"
+
 -- Why a definition is refused, if it is: at the token that can't be parsed, if there is one.
 abbrev pub refusal_lints : Ident → Option Fault → Option ErrorLocation → List Lint
 refusal_lints name None location = []
-refusal_lints name (Some fault) None =
-    error_at name.span (codes "macro `" ++ (name.sym ++ (codes "`: " ++ text_of_fault fault)))
-refusal_lints name (Some fault) (Some location) =
-    error_at location.span (codes "macro `"
-    ++ (name.sym ++ (codes "`, rule " ++ (decimal (number_of location.rule)
-    ++ (codes ": " ++ text_of_fault fault)))))
+refusal_lints name (Some fault) None = error_at name.span (refusal_text fault)
+refusal_lints name (Some fault) (Some location) = error_at location.span (refusal_text fault)
 
 unfoldable pub no_rules_text : List ℕ
 no_rules_text = codes "macros must contain at least one rule"

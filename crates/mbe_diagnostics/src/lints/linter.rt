@@ -18,18 +18,31 @@ ghost use Rattle.mbe_diagnostics.specs.Lints.ParsedMacroViews.{macro_read};
 use crate::diagnostic::Level;
 use crate::lints::definitions::definitions;
 use crate::lints::finding_messages::push_finding;
-use crate::lints::lint::{Lint, push, push_text};
+use crate::lints::lint::{Lint, push_text};
 use crate::lints::parsed_macro::{ParsedMacro, read};
 use crate::lints::repetition_lints::push_all_fixed;
-use crate::lints::unreachable_lints::{number_of, push_all_unreachable};
+use crate::lints::unreachable_lints::push_all_unreachable;
 use crate::rule_checks::findings::{Finding, findings};
 use crate::rule_checks::fixed_repetitions::fixed_repetitions;
 use crate::rule_checks::unreachable_rules::unreachable_rules;
+use mbe_ops::errors::error::ParseError;
 use mbe_parser::rules::Rule;
 use mbe_rewriter::macro_items::MacroDefinition;
 use mbe_tt::span::{Edition, SyntaxContext};
 use mbe_tt::tt::{Ident, TokenTreesView};
 use std::alloc::{AllocError, Allocator};
+
+// Returns rustc's message for a fault of a definition, if rustc has one, else the parser's.
+#[tactic(auto, unfolding(crate::specs::Lints::Linter::refusal_text))]
+fn refusal_text<A: Allocator>(error: &ParseError<A>) -> &str
+    ensures { result.now ≡ spec.refusal_text (parse_error_of error.now) }
+{
+    match error {
+        ParseError::InvalidRepeat => "expected one of: `*`, `+`, or `?`",
+        ParseError::RepetitionEmptyTokenTree => "repetition matches empty token tree",
+        ParseError::UnexpectedToken(text) | ParseError::Expected(text) => text.as_str(),
+    }
+}
 
 // Adds the lint that says why a definition is refused, if it is.
 fn push_refusal<A: Allocator + Copy>(
@@ -45,14 +58,11 @@ fn push_refusal<A: Allocator + Copy>(
     let Some(error) = read.err.as_ref() else {
         return Ok(());
     };
-    let word = name.sym.as_str();
-    let Some(location) = read.location else {
-        let message = format!(in alloc; "macro `{word}`: {error}")?;
-        return push(lints, Level::Error, name.span, message);
+    let span = match read.location {
+        Some(location) => location.span,
+        None => name.span,
     };
-    let number = number_of(location.rule);
-    let message = format!(in alloc; "macro `{word}`, rule {number}: {error}")?;
-    push(lints, Level::Error, location.span, message)
+    push_text(alloc, lints, Level::Error, span, refusal_text(error))
 }
 
 #[tactic(auto, unfolding(crate::specs::Lints::Linter::no_rules_text))]
