@@ -37,7 +37,7 @@ complete -c expandm -l target -x -a 'x86_64-unknown-linux-gnu x86_64-pc-windows-
 complete -c expandm -l test -d 'Set `test` for `cfg`; or expand this integration test'
 complete -c expandm -l trace -d 'Report each step; with =json, print data on each call'
 complete -c expandm -l origin -d 'Report the origin of each token of an expansion'
-complete -c expandm -l explain -d 'Explain the calls that no rule matches, or those there'
+complete -c expandm -l explain -d 'Explain the calls that no rule matches, or those there; =all omits no line'
 complete -c expandm -l lint -d 'Check the definitions, and expand nothing'
 complete -c expandm -l json -d 'Report in JSON, as rustc does'
 complete -c expandm -l sarif -x -d 'Write the diagnostics to a SARIF file too, for code hosts'

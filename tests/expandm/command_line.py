@@ -33,6 +33,7 @@ RUNS = (
     "--lint a.rs",
     "--explain a.rs",
     "--explain=3:7 a.rs",
+    "--explain=all a.rs",
     "-- a.rs",
     "-- -",
 )
@@ -47,6 +48,7 @@ TARGETS = (
 CFG = "expected `NAME` or `NAME=\"VALUE\"`"
 EXTERN = "expected a name, `=` and a path"
 POSITION = "expected a line, or a line and a column"
+EXPLAINED = "expected `all`, a line, or a line and a column"
 NOT_A_NUMBER = "invalid digit found in string"
 
 # A command line that is invalid, and its error.
@@ -69,7 +71,8 @@ ERRORS = (
     ("--once --depth 3 a.rs", "the argument '--once' cannot be used with '--depth <N>'"),
     ("--call 3: a.rs", f"invalid value '3:' for '--call <LINE[:COL]>': {POSITION}"),
     ("--call x a.rs", f"invalid value 'x' for '--call <LINE[:COL]>': {POSITION}"),
-    ("--explain=x a.rs", f"invalid value 'x' for '--explain[=<LINE[:COL]>]': {POSITION}"),
+    ("--explain=x a.rs", f"invalid value 'x' for '--explain[=<LINE[:COL]>]': {EXPLAINED}"),
+    ("--explain=all:1 a.rs", f"invalid value 'all:1' for '--explain[=<LINE[:COL]>]': {EXPLAINED}"),
     ("--edition 19 a.rs", f"invalid value '19' for '--edition <YEAR>' {YEARS}"),
     ("--edition 2019 a.rs", f"invalid value '2019' for '--edition <YEAR>' {YEARS}; tip: a similar value exists: '2021'"),
     ("--dialect x a.rs", f"invalid value 'x' for '--dialect <DIALECT>' {DIALECTS}"),

@@ -1,6 +1,8 @@
 """Reports on calls beside errors: explanations of rules, steps, and the origins of tokens. These are worked out by hand: where each rule
 stops, what it expects there, what its variables are bound to, and the origin of each token.
 """
+import re
+
 from expandm import defined, joined, notes, notes_in_lines, objects, shown
 
 # A definition, a call in the next line, and the notes on its rules, each with its line and column.
@@ -249,6 +251,29 @@ OBJECTS = (
     ),
 )
 
+# A macro of 20 rules, each in a line of its own, and a call in line 23. Rule 13 reaches the `d`, and all other rules stop at the `b`.
+TWENTY = "macro_rules! m {\n" + "".join(f"    ({'a b c' if number == 13 else f'a r{number}'}) => {{}};\n" for number in range(1, 21)) + "}\nm!(a b d);\n"
+CLOSEST_FIRST = (13, *range(1, 13), *range(14, 21))
+
+# A macro of five rules, of which two expect a text with a line feed. Two notes are on each rule. So the explanation has 60 lines: five of
+# the error, one after it, 50 of the notes, and four for the line feeds.
+FIVE = "macro_rules! m { (a b) => {}; (a c) => {}; (a d) => {}; (a \"e\nf\") => {}; (a \"g\nh\") => {}; }\n"
+
+# Arguments, a file, and how many lines the explanation of its call has. If not all lines are shown, the last one says how many aren't.
+LENGTHS = (
+    ("--explain a.rs", FIVE + "m!(a x);\n", 60, None),
+    # The error has one more line, so that 61 lines are too many. The last note has six lines.
+    ("--explain a.rs", FIVE + 'm!(a "x\ny");\n', 56, 6),
+    ("--explain=all a.rs", FIVE + 'm!(a "x\ny");\n', 61, None),
+    ("--explain=4 a.rs", FIVE + 'm!(a "x\ny");\n', 61, None),
+    # The error itself is whole.
+    ("--explain a.rs", 'macro_rules! m { (a) => {} }\nm!("' + "\n" * 70 + '");\n', 77, 10),
+    ("--explain a.rs", TWENTY, 57, 150),
+    ("--explain=all a.rs", TWENTY, 206, None),
+    ("--explain=23 a.rs", TWENTY, 206, None),
+    ("--explain=23:1 a.rs", TWENTY, 206, None),
+)
+
 
 # The file crates/expandm/data/mistake.rs, the explanation of its call, and the line of the expansion once the missing `:` is there.
 MISTAKE = """\
@@ -308,6 +333,40 @@ def reported(program, words, text):
     return program.run(words.split(), {"a.rs": text}).err
 
 
+def part(level, message, place, line, column):
+    """A diagnostic on one character, in rustc's form with line numbers of two digits."""
+    text = TWENTY.split("\n")[line - 1]
+    return f"{level}: {message}\n  --> a.rs:{place}\n   |\n{line:2} | {text}\n   | {'^':>{column}}\n"
+
+
+def rule_of_twenty(number):
+    """The notes on a rule of `TWENTY`."""
+    rule = f"rule {number} of `m!`"
+    token, column, stop = ("c", 10, 8) if number == 13 else (f"r{number}", 8, 6)
+    line = number + 1
+    return part("note", f"{rule} stops here; expected `{token}`", f"23:{stop}", 23, stop) + part("note", f"`{token}` in {rule}", f"{line}:{column}", line, column)
+
+
+def check_closest_first(program):
+    """The closest rule is first, and then the others in order. `--explain` shows the first five rules, and `--explain=all` shows all."""
+    error = part("error", "no rules expected `d` in the call of `m!`", "23:8", 23, 8) + "   |\n"
+    notes = [rule_of_twenty(number) for number in CLOSEST_FIRST]
+    end = "\n1 error; 0 of 1 call expanded\n"
+    cut = "... 150 more lines; `--explain=all` shows them\n"
+    program.check("explained.TWENTY", "--explain", reported(program, "--explain a.rs", TWENTY), error + "".join(notes[:5]) + cut + end)
+    program.check("explained.TWENTY", "--explain=all", reported(program, "--explain=all a.rs", TWENTY), error + "".join(notes) + end)
+    found = [it["message"] for it in objects(reported(program, "--explain --json a.rs", TWENTY))]
+    want = [f"rule {number} of `m!` stops here" for number in CLOSEST_FIRST]
+    program.check("explained.TWENTY", "--json", ([it.split(";")[0] for it in found[1::2]], len(found)), (want, 41))
+
+
+def explanation_length(err):
+    """The number of lines of the first diagnostic, and the number of lines that it doesn't show."""
+    lines = err.partition("\n1 error; ")[0].rstrip("\n").split("\n")
+    cut = re.fullmatch(r"\.\.\. ([0-9]+) more lines; `--explain=all` shows them", lines[-1])
+    return len(lines), cut and int(cut[1])
+
+
 def tokens(said):
     """The location and the token of each note on a token."""
     return [note.split(" in the expansion of `m!`")[0] for note in said if " in the expansion of `m!`" in note]
@@ -334,6 +393,10 @@ def test(program):
     for row in NOTES:
         words, text, want = row
         program.check("explained.NOTES", row, joined(notes(reported(program, words, text))), want)
+    check_closest_first(program)
+    for row in LENGTHS:
+        words, text, lines, hidden = row
+        program.check("explained.LENGTHS", row, explanation_length(reported(program, words, text)), (lines, hidden))
     test_readme(program)
     for row in OBJECTS:
         words, text, want = row

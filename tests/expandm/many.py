@@ -17,13 +17,16 @@ TEXTS = {
 }
 
 # The name of a text, the arguments, and the number of reports of each level. If no rule matches a call, two notes are on the closest
-# rule and the definition. With `--explain`, each rule has a note where it stops, and a note at what it expects. A help follows the warning
-# of an unused variable, as in rustc.
+# rule and the definition. With `--explain=all`, each rule has a note where it stops, and a note at what it expects. With `--explain`, there
+# are as many as fit into 60 lines: the error takes five, the line after it one, and each note five. A help follows the warning of an unused
+# variable, as in rustc.
 ROWS = (
     ("calls", "", {"error": MANY, "note": 2 * MANY}),
     ("calls", "--json", {"error": MANY, "note": 2 * MANY}),
     ("calls", "--explain", {"error": MANY, "note": 2 * MANY}),
-    ("rules", "--explain", {"error": 1, "note": 2 * MANY}),
+    ("rules", "--explain=all", {"error": 1, "note": 2 * MANY}),
+    ("rules", "--explain --json", {"error": 1, "note": 2 * MANY}),
+    ("rules", "--explain", {"error": 1, "note": 10}),
     ("definitions", "--lint", {"warning": MANY, "help": MANY}),
     ("definitions", "--lint --json", {"warning": MANY, "help": MANY}),
     ("unreached", "--lint", {"warning": 9_999, "note": 9_999}),

@@ -82,8 +82,15 @@ fn run_options<R: Env + Files + Input + Print + Eprint + AllocGlobal + Clone + D
     is_colourless: bool,
 ) -> io::Result<u8> {
     let output = &options.output;
+    let is_brief = output.is_brief && !output.is_lint;
     let is_explained = options.session.explain.is_some() || output.is_lint;
-    let form = choose_format(output.is_json, is_explained, is_terminal, is_colourless);
+    let form = choose_format(
+        output.is_json,
+        is_brief,
+        is_explained,
+        is_terminal,
+        is_colourless,
+    );
     let progress = ProgressLine::new(output, is_terminal);
     let mut report = Reporter::new(rt.alloc(), form, output.log.is_some());
     let status = run_targets(rt, options, progress, &mut report)?;
@@ -112,18 +119,24 @@ fn is_colourless<R: Env + AllocGlobal>(rt: &R) -> bool {
 }
 
 // Chooses the form of a run's diagnostics. It is JSON if that is asked for; else rustc's style in
-// a terminal, and where calls are explained or definitions are linted. `None` is the short form:
-// `FILE:LINE:COL: LEVEL: MESSAGE`, the line and a caret.
+// a terminal, and where calls are explained or definitions are linted. `is_brief` limits the lines
+// of each diagnostic. `None` is the short form: `FILE:LINE:COL: LEVEL: MESSAGE`, the line and a
+// caret.
 fn choose_format(
     is_json: bool,
+    is_brief: bool,
     is_explained: bool,
     is_terminal: bool,
     is_colourless: bool,
 ) -> Option<MessageFormat>
-    ensures { result ≡ format_for is_json is_explained is_terminal is_colourless }
+    ensures { result ≡ format_for is_json is_brief is_explained is_terminal is_colourless }
 {
     match (is_json, is_terminal) {
         (true, _) => Some(MessageFormat::Json),
+        (false, _) if is_brief => {
+            let is_coloured = is_terminal && !is_colourless;
+            Some(MessageFormat::Brief { is_coloured })
+        }
         (false, true) if is_colourless => Some(MessageFormat::Text),
         (false, true) => Some(MessageFormat::Colours),
         (false, false) if is_explained => Some(MessageFormat::Text),

@@ -283,7 +283,7 @@ static OPTIONS: [OptionRow; 42] = [
     OptionRow {
         name: "explain",
         value: OptionValue::Optional("LINE[:COL]"),
-        help: "Explain the calls that no rule matches, or those there",
+        help: "Explain the calls that no rule matches, or those there; =all omits no line",
     },
     OptionRow {
         name: "lint",
@@ -322,6 +322,8 @@ pub struct RunOutput<'w> {
     pub is_lint: bool,
     /// Whether diagnostics are written in JSON.
     pub is_json: bool,
+    /// Whether the lines of each diagnostic are limited.
+    pub is_brief: bool,
     /// The folder that each file is written into. `None` prints the last file.
     pub folder: Option<OutputFolder<'w>>,
     /// What is shown of each call, in place of an expansion.
@@ -644,6 +646,7 @@ fn run_output<'w>(alloc: Global, matches: &ArgMatches<'w>) -> Result<RunOutput<'
         is_release: matches.get_flag("release"),
         is_lint: matches.get_flag("lint"),
         is_json: matches.get_flag("json"),
+        is_brief: matches.contains_id("explain") && matches.get_str("explain").is_none(),
         folder: output_folder(matches),
         calls: call_output(matches),
         is_check: matches.get_flag("check"),
@@ -789,38 +792,64 @@ fn add_externs<'w>(
     Ok(None)
 }
 
+// Sets the position of `--call`. Returns the message of an invalid value.
+fn set_call<'w>(
+    alloc: Global,
+    matches: &ArgMatches<'w>,
+    options: &mut SessionOptions<'w>,
+) -> Result<Option<String>, AllocError> {
+    let Some(text) = matches.get_str("call") else {
+        return Ok(None);
+    };
+    options.call = CallPosition::read(text);
+    if options.call.is_some() {
+        return Ok(None);
+    }
+    invalid(
+        alloc,
+        text,
+        "--call <LINE[:COL]>",
+        "a line, or a line and a column",
+    )
+}
+
+// Sets which calls are explained. Returns the message of an invalid value.
+fn set_explained<'w>(
+    alloc: Global,
+    matches: &ArgMatches<'w>,
+    options: &mut SessionOptions<'w>,
+) -> Result<Option<String>, AllocError> {
+    if matches.contains_id("explain") {
+        options.explain = Some(None);
+    }
+    let Some(text) = matches.get_str("explain") else {
+        return Ok(None);
+    };
+    if text == "all" {
+        return Ok(None);
+    }
+    let Some(position) = CallPosition::read(text) else {
+        return invalid(
+            alloc,
+            text,
+            "--explain[=<LINE[:COL]>]",
+            "`all`, a line, or a line and a column",
+        );
+    };
+    options.explain = Some(Some(position));
+    Ok(None)
+}
+
 // Sets the positions of `--call` and `--explain`. Returns the message of an invalid value.
 fn set_positions<'w>(
     alloc: Global,
     matches: &ArgMatches<'w>,
     options: &mut SessionOptions<'w>,
 ) -> Result<Option<String>, AllocError> {
-    if let Some(text) = matches.get_str("call") {
-        options.call = CallPosition::read(text);
-        if options.call.is_none() {
-            return invalid(
-                alloc,
-                text,
-                "--call <LINE[:COL]>",
-                "a line, or a line and a column",
-            );
-        }
+    match set_call(alloc, matches, options)? {
+        Some(message) => Ok(Some(message)),
+        None => set_explained(alloc, matches, options),
     }
-    if matches.contains_id("explain") {
-        options.explain = Some(None);
-    }
-    if let Some(text) = matches.get_str("explain") {
-        let Some(position) = CallPosition::read(text) else {
-            return invalid(
-                alloc,
-                text,
-                "--explain[=<LINE[:COL]>]",
-                "a line, or a line and a column",
-            );
-        };
-        options.explain = Some(Some(position));
-    }
-    Ok(None)
 }
 
 // Returns the message if the value of `--step` is no position.

@@ -4,5 +4,6 @@ pub mod SpanAt
 pub mod Mismatch
 pub mod Diagnostics
 pub mod Json
+pub mod LineLimit
 pub mod RuleChecks
 pub mod Lints

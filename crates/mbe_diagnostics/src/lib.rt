@@ -9,6 +9,7 @@
 pub mod diagnostic;
 pub mod excerpt;
 pub mod json;
+pub mod line_limit;
 pub mod lints;
 pub mod message_kinds;
 pub mod mismatch;

@@ -162,7 +162,7 @@ fn widest<A: Allocator + Copy>(
 }
 
 // Returns the width of the line numbers of a diagnostic and its children.
-fn width_of<A: Allocator + Copy>(
+pub(crate) fn width_of<A: Allocator + Copy>(
     alloc: A,
     diag: &Diagnostic<'_>,
     children: &[Diagnostic<'_>],
@@ -259,7 +259,7 @@ fn push_place<A: Allocator + Copy>(
 }
 
 // Appends a diagnostic without its children.
-fn push_alone<A: Allocator + Copy>(
+pub(crate) fn push_alone<A: Allocator + Copy>(
     alloc: A,
     width: usize,
     diag: &Diagnostic<'_>,
@@ -310,7 +310,7 @@ fn push_child<A: Allocator + Copy>(
 }
 
 // Appends the children of a diagnostic.
-fn push_children<A: Allocator + Copy>(
+pub(crate) fn push_children<A: Allocator + Copy>(
     alloc: A,
     width: usize,
     children: &[Diagnostic<'_>],
@@ -327,7 +327,7 @@ fn push_children<A: Allocator + Copy>(
 }
 
 // Appends the line between a diagnostic and its children, if it has any.
-fn push_bar<A: Allocator + Copy>(
+pub(crate) fn push_bar<A: Allocator + Copy>(
     alloc: A,
     width: usize,
     children: &[Diagnostic<'_>],

@@ -9,12 +9,14 @@ use Rattle.mbe_diagnostics.specs.declared.diagnostic.Diagnostic.{Diagnostic}
 use Rattle.mbe_diagnostics.specs.declared.diagnostic.FilePart.{FilePart}
 use Rattle.mbe_diagnostics.specs.Diagnostics.{text}
 use Rattle.mbe_diagnostics.specs.Json.{json_line, plain_line}
+use Rattle.mbe_diagnostics.specs.LineLimit.{text_within}
 use Rattle.mbe_session.specs.declared.notes.Level as notes
 use Rattle.mbe_session.specs.Explanation.{Note}
 use Rattle.mbe_diagnostics.specs.Lints.Lint.{Lint, is_child_level}
 use Rattle.mbe_session.specs.declared.source_files.SourceFile.{SourceFile}
 use Rattle.mbe_session.specs.declared.emitter.MessageFormat.{MessageFormat}
-use Rattle.mbe_session.specs.declared.emitter.MessageFormat.TheVariants.{Text, Colours, Json}
+use Rattle.mbe_session.specs.declared.emitter.MessageFormat.TheVariants.{Text, Colours, Brief}
+use Rattle.mbe_session.specs.declared.emitter.MessageFormat.TheVariants.{Json}
 use Rattle.mbe_session.specs.Locations.{IsLocation}
 
 abbrev pub level_shown : notes.Level → Level
@@ -22,10 +24,13 @@ level_shown notes.TheVariants.Error = level.Error
 level_shown notes.TheVariants.Note = level.Note
 level_shown notes.TheVariants.Help = level.Help
 
--- A diagnostic with its children, as it is written in that form.
+-- A diagnostic with its children, as it is written in that form. The brief form shows at most 60
+-- lines, unless the diagnostic itself has more.
 abbrev pub written : MessageFormat → Diagnostic → List Diagnostic → List ℕ
 written Text d children = text d children false
 written Colours d children = text d children true
+written (Brief is_coloured) d children =
+    text_within 60 (codes "`--explain=all` shows them") d children is_coloured
 written Json d children = json_line d children ++ codes "\n"
 
 -- How many children are at the front of diagnostics.
@@ -56,6 +61,7 @@ abbrev pub error_written : Option MessageFormat → List ℕ → List ℕ
 error_written None message = codes "error: " ++ (message ++ codes "\n")
 error_written (Some Text) message = codes "error: " ++ (message ++ codes "\n")
 error_written (Some Colours) message = codes "error: " ++ (message ++ codes "\n")
+error_written (Some (Brief is_coloured)) message = codes "error: " ++ (message ++ codes "\n")
 error_written (Some Json) message = plain_line level.Error message ++ codes "\n"
 
 -- A note that belongs to no file, as it is written.
@@ -63,6 +69,7 @@ abbrev pub note_written : Option MessageFormat → List ℕ → List ℕ
 note_written None message = codes "note: " ++ (message ++ codes "\n")
 note_written (Some Text) message = codes "note: " ++ (message ++ codes "\n")
 note_written (Some Colours) message = codes "note: " ++ (message ++ codes "\n")
+note_written (Some (Brief is_coloured)) message = codes "note: " ++ (message ++ codes "\n")
 note_written (Some Json) message = plain_line level.Note message ++ codes "\n"
 
 -- The part of a file at a span: at its first byte, or at the end of the text if the span begins

@@ -1,7 +1,7 @@
 -- The explanation of a call by the rules of its macro.
 use Rattle.std.specs.Prelude.{◌≡◌, ◌++◌, ◌==◌, ◌&&◌, ◌+◌, ◌-◌, ◌^◌, nat_lt, min, ℕ, Bool, true}
 use Rattle.std.specs.Prelude.{false, not, List, [], ◌∷◌, length, map, codes, slice_get, Option}
-use Rattle.std.specs.Prelude.{Some, None, option_map, IfSome}
+use Rattle.std.specs.Prelude.{Some, None, option_map, IfSome, if◌then◌else◌, max}
 use Rattle.std.specs.Fmt.{decimal}
 use Rattle.std.specs.String.{string_bytes}
 use Rattle.mbe_tt.specs.declared.span.Span.{Span}
@@ -10,7 +10,8 @@ use Rattle.mbe_tt.specs.Trees.Tree.{Forest, flat_len}
 use Rattle.mbe_tt.specs.Grammars.Grammar.{Grammar}
 use Rattle.mbe_semantics.specs.Syntax.Definition.{Rule}
 use Rattle.mbe_semantics.specs.Readings.Input.{input_of}
-use Rattle.mbe_semantics.specs.Readings.Verdict.{Verdict, many_readings, stop_of}
+use Rattle.mbe_semantics.specs.Readings.Verdict.{Verdict, one_reading, many_readings, ambiguous}
+use Rattle.mbe_semantics.specs.Readings.Verdict.{stuck, stop_of}
 use Rattle.mbe_rewriter.specs.MacroItems.{MacroCall}
 use Rattle.mbe_matcher.specs.Expected.{Expected}
 use Rattle.mbe_matcher.specs.Readings.Divergence.{Divergence, DivergeFirst}
@@ -20,6 +21,8 @@ use Rattle.mbe_diagnostics.specs.Outcome.{named_parts, message_text}
 use Rattle.mbe_diagnostics.specs.SpanAt.{span_at}
 use Rattle.mbe_session.specs.CallExpansion.{Setting, State, called_macro}
 use Rattle.mbe_session.specs.declared.explanation.RuleExplanation as code
+use Rattle.mbe_session.specs.declared.explanation.RuleChoice.{RuleChoice}
+use Rattle.mbe_session.specs.declared.explanation.RuleChoice.TheVariants as choice
 use Rattle.mbe_session.specs.declared.notes.Level.{Level}
 use Rattle.mbe_session.specs.declared.notes.Level.TheVariants as level
 use Rattle.mbe_session.specs.declared.notes.Note as declared
@@ -166,12 +169,51 @@ rule_notes rule is_child r =
 abbrev pub next_number : ℕ → ℕ
 next_number n = min (n + 1) (2 ^ 64 - 1)
 
--- The notes of rules, the first of which has that number.
-abbrev pub rules_notes : List ℕ → Bool → ℕ → List RuleExplanation → List Note
-rules_notes name is_child number [] = []
-rules_notes name is_child number (s ∷ ss) =
-    rule_notes (rule_name number name) is_child s
-    ++ rules_notes name is_child (next_number number) ss
+-- Whether the rule with that number is chosen.
+abbrev pub is_chosen : RuleChoice → ℕ → Bool
+is_chosen (choice.Only rule) number = number == rule
+is_chosen (choice.Except rule) number = not (number == rule)
+
+-- The notes of the rule with that number, if it is chosen.
+abbrev pub chosen_notes : List ℕ → Bool → RuleChoice → ℕ → RuleExplanation → List Note
+chosen_notes name is_child chosen number s =
+    if is_chosen chosen number then rule_notes (rule_name number name) is_child s else []
+
+-- The notes of the chosen rules, in order. The first rule has that number.
+abbrev pub rules_notes : List ℕ → Bool → RuleChoice → ℕ → List RuleExplanation → List Note
+rules_notes name is_child chosen number [] = []
+rules_notes name is_child chosen number (s ∷ ss) =
+    chosen_notes name is_child chosen number s
+    ++ rules_notes name is_child chosen (next_number number) ss
+
+-- How far a rule reaches: up to the offset where it stops. A rule that matches reaches furthest.
+abbrev pub reach : Verdict → ℕ
+reach one_reading = 2 ^ 64 - 1
+reach many_readings = 2 ^ 64 - 1
+reach (ambiguous q) = q
+reach (stuck q) = q
+
+-- The number of the closest rule: the first one that reaches furthest. The first of these rules has
+-- the number `number`. Of those before it, rule `closest` is the closest one, and it reaches as far
+-- as `furthest`.
+abbrev pub closest_from : (number closest furthest : ℕ) → List RuleExplanation → ℕ
+closest_from number closest furthest [] = closest
+closest_from number closest furthest (s ∷ ss) =
+    let reached = reach s.outcome.verdict in
+    closest_from (next_number number) (if nat_lt furthest reached then number else closest)
+    (max furthest reached) ss
+
+-- The number of the closest rule of a macro. It is 1 if no rule reaches further than the start.
+abbrev pub closest_rule : List RuleExplanation → ℕ
+closest_rule ss = closest_from 1 1 0 ss
+
+-- The notes on the rules of a macro. If they are children, the closest rule is the first one. Else
+-- the rules are in order: no rule has the number 0.
+abbrev pub explanation_notes : List ℕ → Bool → List RuleExplanation → List Note
+explanation_notes name is_child ss =
+    let first = if is_child then closest_rule ss else 0 in
+    rules_notes name is_child (choice.Only first) 1 ss
+    ++ rules_notes name is_child (choice.Except first) 1 ss
 
 -- ---- which calls are explained
 
@@ -181,12 +223,11 @@ selects explain.Failed call is_expanded = not is_expanded
 selects (explain.At file start end) call is_expanded =
     (call.file == file) && (not (nat_lt call.start start) && nat_lt call.start end)
 
--- The notes on a call: the explanation by each rule, where the first rule is rule 1, if the call is
--- to be explained. The first flag says whether the notes on rules are children, and the second one
+-- The notes on a call: the explanation by each rule, if the call is to be explained. The first flag says whether the notes on rules are children, and the second one
 -- whether the call is to be explained.
 abbrev pub NotesRules : Setting → MacroCall → State → Delimiter × Forest → Bool → Bool → List Note
     → List Note → Type 0
 NotesRules e c s argument is_child false before after = after ≡ before
 NotesRules e c s argument is_child true before after =
     (explanations : List RuleExplanation) × ExplainsRules e c s argument explanations
-    × (after ≡ before ++ rules_notes c.name.sym is_child 1 explanations)
+    × (after ≡ before ++ explanation_notes c.name.sym is_child explanations)

@@ -20,6 +20,7 @@ use crate::settings::ExplainFilter;
 use crate::source_files::SourceFile;
 use mbe_diagnostics::diagnostic::{Diagnostic, FilePart, Level, Point};
 use mbe_diagnostics::json::{json_line, plain_line};
+use mbe_diagnostics::line_limit::rendered_within;
 use mbe_diagnostics::lints::lint::Lint;
 use mbe_diagnostics::message_kinds::code_of;
 use mbe_diagnostics::renderer::rendered;
@@ -34,9 +35,18 @@ pub enum MessageFormat {
     Text,
     /// Text in rustc's style, in colours.
     Colours,
+    /// Text in rustc's style. Each diagnostic has at most `MOST_LINES` lines, and a line says what
+    /// isn't shown.
+    Brief { is_coloured: bool },
     /// JSON as by rustc's `--error-format=json`, one object a line.
     Json,
 }
+
+// How many lines of a diagnostic the brief form shows.
+const MOST_LINES: usize = 60;
+
+// How `expandm` shows the other lines.
+const ALL_LINES: &str = "`--explain=all` shows them";
 
 /// Returns an error that belongs to no file. `AllocError` if out of memory.
 pub fn error_text(
@@ -51,9 +61,9 @@ pub fn error_text(
             let object = plain_line(alloc, Level::Error, message)?;
             format!(in alloc; "{object}\n")
         }
-        Some(MessageFormat::Text | MessageFormat::Colours) | None => format!(in alloc;
-            "error: {message}\n"
-        ),
+        Some(MessageFormat::Text | MessageFormat::Colours | MessageFormat::Brief { .. }) | None => {
+            format!(in alloc; "error: {message}\n")
+        }
     }
 }
 
@@ -70,9 +80,9 @@ pub fn note_text(
             let object = plain_line(alloc, Level::Note, message)?;
             format!(in alloc; "{object}\n")
         }
-        Some(MessageFormat::Text | MessageFormat::Colours) | None => format!(in alloc;
-            "note: {message}\n"
-        ),
+        Some(MessageFormat::Text | MessageFormat::Colours | MessageFormat::Brief { .. }) | None => {
+            format!(in alloc; "note: {message}\n")
+        }
     }
 }
 
@@ -207,6 +217,9 @@ fn written(
     match form {
         MessageFormat::Text => rendered(alloc, diag, children, false),
         MessageFormat::Colours => rendered(alloc, diag, children, true),
+        MessageFormat::Brief { is_coloured } => {
+            rendered_within(alloc, MOST_LINES, ALL_LINES, diag, children, is_coloured)
+        }
         MessageFormat::Json => {
             let object = json_line(alloc, diag, children)?;
             format!(in alloc; "{object}\n")

@@ -1,6 +1,10 @@
 // Explains a call: for each rule of its macro, where the match stops and what the rule expects
 // there, or what its variables are bound to.
-ghost use Rattle.std.specs.Prelude.{◌≡◌, ◌++◌, ◌<◌, IfOk, OnOk, length, map, not};
+//
+// For a call that isn't expanded, the closest rule comes first. It is the first rule that reaches
+// the furthest token that any rule reaches.
+ghost use Rattle.std.specs.Prelude.{◌≡◌, ◌++◌, ◌<◌, IfOk, OnOk, length, map, max, nat_lt, not};
+ghost use Rattle.std.specs.Prelude.{if◌then◌else◌};
 ghost use Rattle.std.specs.String.{string_bytes};
 ghost use Rattle.mbe_semantics.specs.Expansion.Macro.{IsChecked};
 ghost use Rattle.mbe.specs.MacroViews.{macro_of};
@@ -8,6 +12,7 @@ ghost use Rattle.mbe_rewriter.specs.MacroItemViews.{call_shown};
 ghost use Rattle.mbe_diagnostics.specs.Outcome.{part_seen, outcome_seen};
 ghost use Rattle.mbe_semantics.specs.Readings.Verdict.{many_readings};
 ghost use Rattle.mbe.specs.RuleExplanation.{Explains};
+ghost use Rattle.mbe_matcher.specs.MatchResults.{verdict_seen};
 ghost use Rattle.mbe_matcher.specs.Readings.Views.{divergence_seen};
 ghost use Rattle.mbe_session.specs.Explanation as spec;
 ghost use Rattle.mbe_session.specs.Explanation.{NotesRules, ExplainsRules, HasOutcome};
@@ -37,6 +42,15 @@ pub struct RuleExplanation<A: Allocator = Global> {
     pub outcome: MatchOutcome<A>,
     /// The variables of the rule and the texts of their fragments, if it matches.
     pub matched: Vec<BindingText<A>, A>,
+}
+
+/// A choice of rules by their numbers.
+#[derive(Clone, Copy, Drop)]
+pub(crate) enum RuleChoice {
+    /// The rule with that number.
+    Only(usize),
+    /// All rules except that one.
+    Except(usize),
 }
 
 // Returns where two readings of an argument by the rule with this index first diverge, and by what
@@ -236,31 +250,138 @@ fn note_rule<A: Allocator + Copy>(
     note_bindings(alloc, notes, rule, match_outcome.matched.as_slice())
 }
 
-// Notes the explanations of rules. The first rule has that number. `is_child` says whether the
-// notes on rules are children. Those on their parts always are.
+// Whether the rule with that number is chosen.
+fn is_chosen(chosen: RuleChoice, number: usize) -> bool
+    ensures { result ≡ spec.is_chosen chosen number }
+{
+    match chosen {
+        RuleChoice::Only(rule) => number == rule,
+        RuleChoice::Except(rule) => number != rule,
+    }
+}
+
+// Notes the explanation of the rule with that number, if it is chosen.
+fn note_chosen<A: Allocator + Copy>(
+    alloc: A,
+    notes: &mut Vec<Note<A>, A>,
+    name: &str,
+    is_child: bool,
+    chosen: RuleChoice,
+    number: usize,
+    explanation: &RuleExplanation<A>,
+) -> Result<(), AllocError>
+    ensures { OnOk result (map note_seen notes.new.items ≡ map note_seen notes.old.items
+        ++ spec.chosen_notes name.now is_child chosen number (explanation_seen explanation.now)) }
+{
+    if !is_chosen(chosen, number) {
+        return Ok(());
+    }
+    let rule = rule_name(alloc, number, name)?;
+    note_rule(alloc, notes, rule.as_str(), is_child, explanation)
+}
+
+// Notes the explanations of the chosen rules. The first rule has that number. `is_child` says
+// whether the notes on rules are children. Those on their parts always are.
 fn note_rules<A: Allocator + Copy>(
     alloc: A,
     notes: &mut Vec<Note<A>, A>,
     name: &str,
     is_child: bool,
+    chosen: RuleChoice,
     number: usize,
     explanations: &[RuleExplanation<A>],
 ) -> Result<(), AllocError>
     ensures { OnOk result (map note_seen notes.new.items ≡ map note_seen notes.old.items
-        ++ spec.rules_notes name.now is_child number (map explanation_seen explanations.now)) }
+        ++ spec.rules_notes name.now is_child chosen number
+        (map explanation_seen explanations.now)) }
 {
     let mut number = number;
-    for match_outcome in explanations {
-        let rule = rule_name(alloc, number, name)?;
-        note_rule(alloc, notes, rule.as_str(), is_child, match_outcome)?;
+    for explanation in explanations {
+        note_chosen(alloc, notes, name, is_child, chosen, number, explanation)?;
         number = number.saturating_add(1);
     }
     Ok(())
 }
 
+// Returns how far a rule reaches: the offset where it stops. A rule that matches reaches furthest.
+fn reach(verdict: Verdict) -> usize
+    ensures { result ≡ spec.reach (verdict_seen verdict) }
+{
+    match verdict {
+        Verdict::OneReading | Verdict::ManyReadings => usize::MAX,
+        Verdict::Ambiguous(offset) | Verdict::Stuck(offset) => offset,
+    }
+}
+
+// Returns `number` if it reaches further than rule `closest`, and else `closest`.
+fn closer(closest: usize, furthest: usize, number: usize, reached: usize) -> usize
+    ensures { result ≡ (if nat_lt furthest reached then number else closest) }
+{
+    if furthest < reached {
+        return number;
+    }
+    closest
+}
+
+fn further(one: usize, other: usize) -> usize
+    ensures { result ≡ max one other }
+{
+    if one < other {
+        return other;
+    }
+    one
+}
+
+// Returns the number of the closest rule: the first one that reaches furthest.
+fn closest_rule<A: Allocator>(explanations: &[RuleExplanation<A>]) -> usize
+    ensures { result ≡ spec.closest_rule (map explanation_seen explanations.now) }
+{
+    let mut number = 1usize;
+    let mut closest = 1usize;
+    let mut furthest = 0usize;
+    for explanation in explanations {
+        let reached = reach(explanation.outcome.verdict);
+        closest = closer(closest, furthest, number, reached);
+        furthest = further(furthest, reached);
+        number = number.saturating_add(1);
+    }
+    closest
+}
+
+// Returns the number of the rule whose notes are first. It is 0 if the rules are in order.
+fn first_rule<A: Allocator>(is_child: bool, explanations: &[RuleExplanation<A>]) -> usize
+    ensures { result ≡ (if is_child
+        then spec.closest_rule (map explanation_seen explanations.now) else 0) }
+{
+    if is_child {
+        return closest_rule(explanations);
+    }
+    0
+}
+
+// Notes the explanations of the rules of a macro. If the notes on rules are children, the closest
+// rule is the first one.
+fn note_explanations<A: Allocator + Copy>(
+    alloc: A,
+    notes: &mut Vec<Note<A>, A>,
+    name: &str,
+    is_child: bool,
+    explanations: &[RuleExplanation<A>],
+) -> Result<(), AllocError>
+    ensures { OnOk result (map note_seen notes.new.items ≡ map note_seen notes.old.items
+        ++ spec.explanation_notes name.now is_child (map explanation_seen explanations.now)) }
+{
+    let first = first_rule(is_child, explanations);
+    let only = RuleChoice::Only(first);
+    note_rules(alloc, notes, name, is_child, only, 1, explanations)?;
+    let others = RuleChoice::Except(first);
+    note_rules(alloc, notes, name, is_child, others, 1, explanations)
+}
+
 impl<'g, A: Allocator + Copy> FileExpander<'g, A> {
     // Notes the explanations of a call by the rules of its macro, if the settings ask for it. For a
     // call that isn't expanded, an error is the last note, and the explanations are its children.
+    // The closest rule is the first of them.
     pub(crate) fn explain(
         &mut self,
         call: MacroCall<'_, A>,
@@ -279,12 +400,11 @@ impl<'g, A: Allocator + Copy> FileExpander<'g, A> {
         }
         let explanations = self.rule_explanations(call, argument)?;
         let name = call.name.sym.as_str();
-        note_rules(
+        note_explanations(
             self.alloc,
             &mut self.notes,
             name,
             !is_expanded,
-            1,
             explanations.as_slice(),
         )?;
         Ok(())
