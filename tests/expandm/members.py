@@ -203,6 +203,18 @@ def unlike_rustc(err):
             found.append(it)
     return found
 
+# A call in an expansion whose lists have different lengths. With `--trace`, the call that led there belongs to the error, and not to a step.
+TRACED = """\
+macro_rules! inner { ($($a:ident)*, $($b:ident)*) => { ($($a + $b),*) }; }
+macro_rules! outer { ($($t:tt)*) => { inner!($($t)*) }; }
+fn f(x: u8, y: u8) { outer!(x y, x); }
+"""
+TRACED_GROUPS = [
+    ["note: expanding", "note: to"],
+    ["note: expanding", "note: to"],
+    ["error: meta-variable `a` repeats 2 times, but `b` repeats 1 time", "note: in this macro invocation"],
+]
+
 
 def groups(err):
     return [[f"{it['level']}: {it['message']}" for it in (report, *report["children"])] for report in diagnostics(err)]
@@ -225,6 +237,11 @@ def check_groups(program):
         if words.startswith(("--explain", "--lint")):
             err = program.run([*words.split(), "a.rs"], {"a.rs": text}).err
             program.check("members.GROUPS in text", row, groups_in_text(err), want)
+    for form in [], ["--origin"]:
+        err = program.run(["--trace", *form, "--json", "a.rs"], {"a.rs": TRACED}).err
+        got = [[re.sub(r"^(note: (?:expanding|to)) `.*$", r"\1", it, flags=re.S) for it in group] for group in groups(err)]
+        got = [group for group in got if " in the expansion of `" not in group[0]]
+        program.check("members.TRACED", form, got, TRACED_GROUPS)
     err = program.run(["--json", "--extern", "b=b.rs", "a.rs"], FAULTY).err
     got = [[it.partition("`m`")[0], *rest] for it, *rest in groups(err)]
     program.check("members.FAULTY", FAULTY, got, [["error: macro ", "note: `m!` is defined here"]])

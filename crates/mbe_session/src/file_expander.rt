@@ -493,9 +493,10 @@ impl<'g, A: Allocator + Copy> FileExpander<'g, A> {
         }
         let (written, rule) = value;
         let tree = settled_in(self.alloc, self.grammar.dialect, &written)?;
-        self.note_lengths(call, &argument, rule)?;
         self.note_expansion(call, &tree)?;
         self.explain(call, &argument, true)?;
+        // An error is the last note, since the calls that led to this one become its children.
+        self.note_lengths(call, &argument, rule)?;
         self.add_contexts(call)?;
         self.spend_tokens(&tree);
         Ok(Some(tree))
