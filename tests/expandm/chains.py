@@ -9,6 +9,9 @@ STEPS = "macro_rules! a0 { ($x:expr) => { a1!($x) }; }\nmacro_rules! a1 { ($x:ex
 EVEN = "macro_rules! even { ($a:tt $($t:tt)*) => { odd!($($t)*) }; () => { end!() }; }\n"
 ODD = "macro_rules! odd { ($a:tt $($t:tt)*) => { even!($($t)*) }; () => { end!() }; }\nmacro_rules! end { (a) => {}; }\n"
 FOREVER = "macro_rules! forever { ($x:expr) => { forever!($x) }; }\n"
+TWO = PAIR + "macro_rules! two { () => { (pair!(1, 2), pair!(3, 4)) } }\n"
+FOUR = "macro_rules! four { () => { f(a) } }\n"
+DOUBLE = "macro_rules! double { ($($t:tt)*) => { double!($($t)* $($t)*) } }\n"
 THERE = "in this macro invocation"
 
 # A text; the location of its error; and the locations of the calls that led there, from the file's call on.
@@ -51,6 +54,13 @@ ENDS = (
     # Calls in expansions that `--once` leaves don't count.
     ("--once", PAIR + "macro_rules! two { () => { pair!() } }\nfn f() { two!(); pair!(); }", "1 error; 1 of 2 calls expanded"),
     ("--fuel 1", PAIR + "fn f() { pair!(1, 2); pair!(3, 4); }", "1 error; 1 of 2 calls expanded"),
+    # A call beyond a limit isn't expanded, and the calls in its expansion don't count.
+    ("--fuel 2", TWO + "fn f() { two!(); pair!(5, 6); }", "1 error; 1 of 2 calls expanded"),
+    ("--max-tokens 4", FOUR + "fn f() { four!(); four!(); }", "1 error; 1 of 2 calls expanded"),
+    ("--max-tokens 3", FOUR + "fn f() { four!(); }", "1 error; 0 of 1 call expanded"),
+    ("--max-tokens 1000", DOUBLE + "fn f() { double!(x); }", "1 error; 0 of 1 call expanded"),
+    ("--max-tokens 1000", DOUBLE + PAIR + "fn f() { pair!(1, 2); double!(x); pair!(3, 4); quote!(a); }",
+     "1 error; 2 of 3 calls expanded; 1 call of an unknown macro"),
     ("--explain", PAIR + "fn f() { pair!(1); }", "1 error; 0 of 1 call expanded"),
     ("--json", PAIR + "fn f() { pair!(1); }", None),
     ("--lint", "macro_rules! m { ($x:ident) => { x }; }", "1 warning"),

@@ -27,6 +27,14 @@ impl CallCounts {
         self.calls = self.calls.saturating_add(1);
     }
 
+    /// Returns the counts with one more call whose macro a file may define, which isn't expanded.
+    pub(crate) fn with_call(self) -> CallCounts {
+        CallCounts {
+            calls: self.calls.saturating_add(1),
+            ..self
+        }
+    }
+
     /// Counts that a call is expanded.
     pub(crate) fn add_expanded(&mut self) {
         self.expanded = self.expanded.saturating_add(1);

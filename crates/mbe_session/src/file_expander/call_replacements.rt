@@ -226,7 +226,8 @@ impl<A: Allocator + Copy> FileExpander<'_, A> {
     }
 
     // Adds the replacement for a call, and returns the trees after it. A call whose expansion asks
-    // for more than the limits allow is unchanged, and uses nothing of the limits.
+    // for more than the limits allow is unchanged, and uses nothing of the limits. It counts as one
+    // call that isn't expanded, and the calls in its expansion don't count.
     #[cycle(replacing)]
     fn replace_call<'t>(
         &mut self,
@@ -246,7 +247,7 @@ impl<A: Allocator + Copy> FileExpander<'_, A> {
     {
         let depth = self.settings.depth;
         let mark = self.contexts.len();
-        let fuel = self.fuel;
+        let (fuel, counts) = (self.fuel, self.counts);
         match self.expansion(call, depth, levels)? {
             Some(tree) => {
                 let (replacement, rest) = self.replacement(
@@ -261,6 +262,7 @@ impl<A: Allocator + Copy> FileExpander<'_, A> {
                 if self.fuel.is_spent() {
                     self.note_spent(call)?;
                     self.fuel = fuel;
+                    self.counts = counts.with_call();
                     return Ok(call.rest);
                 }
                 push_attributes(self.alloc, replacements, call)?;
