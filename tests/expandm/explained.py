@@ -349,7 +349,7 @@ def rule_of_twenty(number):
 
 def check_closest_first(program):
     """The closest rule is first, and then the others in order. `--explain` shows the first five rules, and `--explain=all` shows all."""
-    error = part("error", "no rules expected `d` in the call of `m!`", "23:8", 23, 8) + "   |\n"
+    error = part("error", "no rules expected `d`", "23:8", 23, 8) + "   |\n"
     notes = [rule_of_twenty(number) for number in CLOSEST_FIRST]
     end = "\n1 error; 0 of 1 call expanded\n"
     cut = "... 150 more lines; `--explain=all` shows them\n"

@@ -154,6 +154,21 @@ STOPS = (
     ("m { ($($x:ident),* ; $y:ty) => {} }", "m!(a b);", ["b rule 1 stops here"], [", ;"]),
 )
 
+# A definition, a call, and for each rule the states that partial readings reach: the numbers of those at which something is expected, with a
+# `|` between two offsets. The states of `$($x:ident),* ;` are 0 before the repetition, 1 before `$x`, 2 after it, 3 before `;` and 4 at the
+# end.
+STATES = (
+    ("m { ($($x:ident),* ;) => {} }", "m!(p ;);", ["1 3|2 3|4"]),
+    ("m { ($($x:ident),* ;) => {} }", "m!(p, q);", ["1 3|2 3|1|2 3"]),
+    ("m { (a) => {}; ($x:ident,) => {} }", "m!(b);", ["0", "0|1"]),
+    ("m { ([$a:tt]) => {} }", "m!([1]);", ["0|1|2|3"]),
+    ("m { ($($a:tt)*) => {} }", "m!(1 2);", ["1 3|1 3|1 3"]),
+    ("m { ($(a)? $x:ident) => {} }", "m!(a);", ["1 3|3 4"]),
+    ("m { ($x:expr) => {} }", "m!(1 + 2);", ["0|||1"]),
+    ("m { ($($a:tt)*) => {} }", f"m!({'1 ' * 400});", ["|".join(["1 3"] * 401)]),
+    ("m { ($($a:tt)*) => {} }", f"m!({'1 ' * 401});", [None]),
+)
+
 # A definition, a call, and what the variables are bound to: rounds are in brackets.
 BOUND = (
     ("m { ($b:vis $a:ident) => {} }", "m!(x);", "$b:vis nothing; $a:ident x; "),
@@ -186,7 +201,7 @@ ELEMENTS = set(
     " svg g rect path text use script h2 h3 h4".split()
 )
 ATTRIBUTES = set(
-    "lang charset http-equiv content name class id href open title tabindex role aria-label data-o data-r data-do hidden type width height"
+    "lang charset http-equiv content name class id href open title tabindex role aria-label data-o data-r data-s data-states data-do hidden type width height"
     " viewbox transform rx y x d".split()
 )
 
@@ -268,6 +283,11 @@ def check_calls(program):
         found = [it.text() for it in one.all(lambda it: it.name == "mark")]
         wanted = [" ".join(it.text() for it in rule.of_class("want")) for rule in one.of_class("rule")]
         program.check("pages.STOPS", row, (found, wanted, faults, status), (stops, marked, [], 1))
+    for row in STATES:
+        rules, call, want = row
+        tree, faults, _ = page(program, defined(rules, call))
+        got = [it.attributes.get("data-states") for it in by_id(tree, "source").of_class("track")]
+        program.check("pages.STATES", row, (got, faults), (want, []))
     for row in BOUND:
         rules, call, want = row
         tree, faults, status = page(program, defined(rules, call))

@@ -16,7 +16,8 @@ In the tour it also checks these:
 - a click expands a call;
 - a token under the mouse marks its origin;
 - the arrow keys go from token to token;
-- a failing call is open where it fails.
+- a failing call is open where it fails;
+- its slider begins there, goes from token to token by the arrow keys, and says what a rule expects.
 
 --pictures keeps pictures of the pages. A file needn't be Rust.
 """
@@ -240,6 +241,24 @@ class Run:
         self.check("a button opens all calls", browser.run(
             "document.querySelectorAll('details.call:not([open])').length"), 0)
 
+    def check_slider(self, made):
+        """The slider of the call `pairs!(width: 2, height 3)`, which fails at the `3`."""
+        browser = self.browser
+        browser.open(made)
+        said = ("[document.querySelector('details.bad .argument .at').textContent, "
+                "document.querySelector('details.bad .expects').textContent, "
+                "Array.from(document.querySelectorAll('details.bad .live'))"
+                ".map((it) => it.textContent).join(' ')]")
+        self.check("a slider begins where a rule stops", browser.run(said),
+                   ["3", "Expects \u201C:\u201D.", ":"])
+        browser.run("document.querySelector('details.bad input').focus()")
+        browser.press("ArrowLeft", 37)
+        self.check("a key moves a slider to a token", browser.run(said),
+                   ["height", "Expects \u201C$key:ident\u201D.", "$key:ident"])
+        browser.press("ArrowLeft", 37)
+        self.check("after a round", browser.run(said),
+                   [",", "Expects \u201C,\u201D or the end.", ","])
+
 
 def main():
     parser = common.arguments(__doc__)
@@ -265,6 +284,7 @@ def main():
         run.check("a failing call is open", browser.run(
             "document.querySelector('details.bad').open && "
             "document.querySelector('details.bad mark').textContent"), "3 rule 1 stops here")
+        run.check_slider(run.page(mistake))
         return common.finish(run.passed, run.failed)
 
 

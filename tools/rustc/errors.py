@@ -3,7 +3,8 @@
 
 A PATH is a Rust file or a folder of them, such as /usr/src/rustc-1.63.0/src/test/ui/macros of
 Debian's package rust-src. rustc reads each file by itself, in the edition of the file's line
-`// edition:YEAR`, else in 2015 below a folder `test`, else in 2021. A file that needs other files or options doesn't count.
+`// edition:YEAR`, else in 2015 below a folder `test`, else in 2021. A file that needs other
+files, options or a feature doesn't count.
 
 The script compares each error of rustc whose message is about macros by example. `expandm` runs
 with --lint. For each error it has
@@ -27,50 +28,31 @@ sys.path.insert(0, os.path.dirname(os.path.dirname(os.path.abspath(__file__))))
 import common  # noqa: E402
 
 NEEDS_MORE = re.compile(
-    r"aux-build|proc[_-]macro|^\s*(pub )?mod \w+;|compile-flags|revisions|include!|ignore-test"
-    r"|needs-|//\s*@?\s*only-",
+    r"#!?\[feature|aux-build|proc[_-]macro|^\s*(pub )?mod \w+;|compile-flags|revisions|include!"
+    r"|ignore-test|needs-|//\s*@?\s*only-",
     re.M)
-# The messages of rustc that are about macros by example.
-ABOUT_MACROS = [
+# Parts of rustc's messages on macros by example.
+ABOUT_MACROS = (
     "no rules expected",
     "unexpected end of macro invocation",
-    "local ambiguity",
+    "local ambiguity when calling macro",
+    "ambiguity: multiple successful parses",
     "cannot find macro",
     "attempted to repeat",
     "meta-variable",
     "is still repeating",
-    "missing fragment specifier",
-    "invalid fragment specifier",
-    "is followed by",
-    "is not allowed for",
+    "fragment specifier",
+    "fragments",
     "duplicate matcher binding",
-    "duplicate macro parameter",
     "recursion limit reached while expanding",
     "macros must contain at least one rule",
     "repetition matches empty token tree",
-    "unknown macro variable",
     "expected one of: `*`, `+`, or `?`",
     "macro expansion ignores",
-    "the `?` macro repetition operator",
-    "unsupported fragment",
-    "invalid macro matcher",
+    "macro repetition operator",
     "macro matcher",
-    "macro transcriber",
-    "macro definition",
     "macro rhs",
-    "macro lhs",
-    "unused macro",
-    "meta-variable expression",
-    "unrecognized meta-variable",
-    "metavariable",
-    "depth parameter",
-    "`count` can not be placed",
-    "variable `",
-    "is ambiguous",
-    "macro-expanded",
-    "questionable",
-    "malformed",
-]
+)
 
 
 class Error:
@@ -97,8 +79,6 @@ def errors_in(lines, path):
 
 
 def is_about_macros(message):
-    if message.endswith("is ambiguous"):
-        return False
     return any(it in message for it in ABOUT_MACROS)
 
 
