@@ -58,7 +58,6 @@ EMPTY = (
 
 # Rules without a fault.
 READ = (
-    "",
     "() => {}",
     "() => {};",
     "($x:vis $(),* $($x:vis a)*) => {$()*}",
