@@ -201,7 +201,7 @@ ELEMENTS = set(
     " svg g rect path text use script h2 h3 h4".split()
 )
 ATTRIBUTES = set(
-    "lang charset http-equiv content name class id href open title tabindex role aria-label data-o data-r data-s data-states data-do hidden type width height"
+    "lang charset http-equiv content name class id href open title tabindex role aria-label data-o data-r data-n data-s data-states data-do hidden type width height"
     " viewbox transform rx y x d".split()
 )
 

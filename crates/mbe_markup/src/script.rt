@@ -106,11 +106,17 @@ function expectation(track, at) {
 function addSlider(match) {
   var tracks = all('.track[data-states]', match);
   if (!tracks.length || match.querySelector('input')) { return; }
-  var tokens = all('.argument i', match);
+  var tokens = [], next = 0;
+  all('.argument i', match).forEach(function (one) {
+    if (one.dataset.n) { next = Number(one.dataset.n); }
+    tokens[next] = one;
+    next += 1;
+  });
+  var end = match.querySelector('.argument .end') ? 1 : 0;
   var slider = document.createElement('input');
   slider.type = 'range';
   slider.min = 0;
-  slider.max = tokens.filter(function (one) { return one.textContent !== 'end'; }).length;
+  slider.max = tokens.length - end;
   slider.setAttribute('aria-label', 'Token of the argument');
   match.querySelector('.argument').after(slider);
   var lines = tracks.map(function (track) {

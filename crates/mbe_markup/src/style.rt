@@ -5,7 +5,7 @@
 /// else.
 pub const POLICY: &str = "default-src 'none'; \
 style-src 'sha256-KAdZobbCUnR5bPvtIX1KiFAPpK1+KtCxkV+YTyRkI1E='; \
-script-src 'sha256-nQdK9SD0wdh7OEehYh8vudEZnZ6bszTNxBCXsJuK/RE='; \
+script-src 'sha256-2PhYRFN9fQLDMbZM6WD77aV3GifYG5agWWCqVHxh/Oo='; \
 base-uri 'none'; form-action 'none'";
 
 /// The style sheet. It has colours for light and dark, and a form for print.

@@ -14,7 +14,7 @@ use mbe_diagnostics::rule_part::variable_text;
 use mbe_markup::fragments::fragment_trees;
 use mbe_markup::html::{Html, Part};
 use mbe_markup::railroad::{draw_pattern, write_svg_open};
-use mbe_markup::token_text::{TokenText, token_text};
+use mbe_markup::token_text::{TextToken, TokenText, token_text};
 use mbe_session::explanation::outcome_of_rule;
 use mbe_session::file_expander::call_steps::{CallState, CallStep};
 use mbe_tt::grammar::FragmentGrammar;
@@ -89,16 +89,26 @@ fn stops_at(matches: &[RuleMatch], offset: usize) -> bool {
     matches.iter().any(|one| stop_of(one) == Some(offset))
 }
 
-// Writes a token. The script finds the token of an offset by these elements.
-fn write_word(alloc: Global, html: &mut Html, token: &str) -> Result<(), AllocError> {
-    html.write(
-        alloc,
-        &[
-            Part::Markup("<i>"),
-            Part::Text(token),
-            Part::Markup("</i>"),
-        ],
-    )
+// Writes a token. The script counts these elements, and finds the token of an offset so. A token
+// with an `offset` begins to count there, since tokens without a text have no element.
+fn write_word(
+    alloc: Global,
+    html: &mut Html,
+    token: &str,
+    offset: Option<usize>,
+) -> Result<(), AllocError> {
+    match offset {
+        Some(offset) => html.write(
+            alloc,
+            &[
+                Part::Markup("<i data-n="),
+                Part::Number(offset),
+                Part::Markup(">"),
+            ],
+        )?,
+        None => html.write(alloc, &[Part::Markup("<i>")])?,
+    }
+    html.write(alloc, &[Part::Text(token), Part::Markup("</i>")])
 }
 
 // Writes a token where rules stop.
@@ -110,9 +120,68 @@ fn write_mark(
     token: &str,
 ) -> Result<(), AllocError> {
     html.write(alloc, &[Part::Markup("<mark>")])?;
-    write_word(alloc, html, token)?;
+    write_word(alloc, html, token, Some(offset))?;
     write_stops(alloc, html, matches, offset)?;
     html.write(alloc, &[Part::Markup("</mark>")])
+}
+
+// The tokens of an argument, of which some are written.
+#[derive(Drop)]
+struct ArgumentText<'a> {
+    argument: &'a TokenText,
+    // The byte up to which the text is written.
+    at: usize,
+    // The offset of the next element, as the script counts.
+    next: usize,
+}
+
+impl<'a> ArgumentText<'a> {
+    // Returns the text of the token at an offset, and writes what is before it.
+    fn word(
+        &mut self,
+        alloc: Global,
+        html: &mut Html,
+        token: TextToken,
+    ) -> Result<&'a str, AllocError> {
+        let text = self.argument.text.as_str();
+        html.write(
+            alloc,
+            &[Part::Text(text.get(self.at..token.start).unwrap_or(""))],
+        )?;
+        self.at = token.end;
+        Ok(text.get(token.start..token.end).unwrap_or(""))
+    }
+
+    // Writes a token where no rule stops as an element. One without a text has none.
+    fn write_token(
+        &mut self,
+        alloc: Global,
+        html: &mut Html,
+        offset: usize,
+        token: TextToken,
+    ) -> Result<(), AllocError> {
+        let word = self.word(alloc, html, token)?;
+        if word.is_empty() {
+            return Ok(());
+        }
+        let is_next = offset == self.next;
+        self.next = offset.saturating_add(1);
+        write_word(alloc, html, word, if is_next { None } else { Some(offset) })
+    }
+
+    // Writes a token where rules stop.
+    fn write_marked(
+        &mut self,
+        alloc: Global,
+        html: &mut Html,
+        matches: &[RuleMatch],
+        offset: usize,
+        token: TextToken,
+    ) -> Result<(), AllocError> {
+        let word = self.word(alloc, html, token)?;
+        self.next = offset.saturating_add(1);
+        write_mark(alloc, html, matches, offset, word)
+    }
 }
 
 // Writes the tokens of an argument. Those where rules stop are marked. In a long argument only
@@ -123,26 +192,21 @@ fn write_tokens(
     argument: &TokenText,
     matches: &[RuleMatch],
 ) -> Result<(), AllocError> {
-    let text = argument.text.as_str();
     let is_short = are_shown(argument.tokens.len());
-    let mut at = 0usize;
+    let mut written = ArgumentText {
+        argument,
+        at: 0,
+        next: 0,
+    };
     for (offset, token) in argument.tokens.iter().enumerate() {
-        let is_marked = stops_at(matches, offset);
-        if is_marked || is_short {
-            html.write(
-                alloc,
-                &[Part::Text(text.get(at..token.start).unwrap_or(""))],
-            )?;
-            let word = text.get(token.start..token.end).unwrap_or("");
-            if is_marked {
-                write_mark(alloc, html, matches, offset, word)?;
-            } else {
-                write_word(alloc, html, word)?;
-            }
-            at = token.end;
+        if stops_at(matches, offset) {
+            written.write_marked(alloc, html, matches, offset, *token)?;
+        } else if is_short {
+            written.write_token(alloc, html, offset, *token)?;
         }
     }
-    html.write(alloc, &[Part::Text(text.get(at..).unwrap_or(""))])
+    let rest = argument.text.as_str().get(written.at..).unwrap_or("");
+    html.write(alloc, &[Part::Text(rest)])
 }
 
 // Writes the end of an argument, if rules stop there.
@@ -155,8 +219,10 @@ fn write_end(
     if !stops_at(matches, end) {
         return Ok(());
     }
-    html.write(alloc, &[Part::Markup(" ")])?;
-    write_mark(alloc, html, matches, end, "end")
+    html.write(alloc, &[Part::Markup(" <mark class=\"end\">")])?;
+    write_word(alloc, html, "end", Some(end))?;
+    write_stops(alloc, html, matches, end)?;
+    html.write(alloc, &[Part::Markup("</mark>")])
 }
 
 // Writes the argument of a call as a row of tokens.
