@@ -1,7 +1,7 @@
 -- What is left to be written, as trees are followed one front after another.
-use Rattle.std.proofs.Common.{ℕ, suc, ◌-◌, ◌≡◌, ◌<◌, List, ◌∷◌, ◌++◌, length, None, refl, ap, sym, ◌∙◌, append_assoc}
-use Rattle.std.proofs.Common.{append-nil, arith}
-use Rattle.std.specs.Prelude.{Option, Result, Ok, Err, OnOk}
+use Rattle.std.proofs.Common.{ℕ, zero, suc, ◌-◌, ◌≡◌, ◌<◌, List, [], ◌∷◌, ◌++◌, length, None, refl, ap, sym, ◌∙◌}
+use Rattle.std.proofs.Common.{append_assoc, append-nil, arith}
+use Rattle.std.specs.Prelude.{true, Option, Result, Ok, Err, OnOk}
 use Rattle.mbe_tt.specs.Buffers.GroupStack.{GroupStack, put, closed}
 use Rattle.mbe_tt.specs.Trees.Leaf.{ident}
 use Rattle.mbe_tt.specs.Trees.Tree.{Forest, Tree, none, leaf, group, append, flat_len, one_leaf}
@@ -11,9 +11,10 @@ use Rattle.mbe_tt.proofs.Buffers.Grown.{put-none, put-put}
 use Rattle.mbe_cfg.specs.Crates.ModuleInliner as spec
 use Rattle.mbe_cfg.specs.Crates.ModuleInliner.{InlineContext, InlinedTrees, Step, UnresolvedFile, unchanged, step}
 use Rattle.mbe_cfg.specs.Crates.ModuleInliner.{before, steps, inlined, alone}
-use Rattle.mbe_cfg.specs.Crates.ModuleItems.{Module, ModuleCursor, at_item_start}
+use Rattle.mbe_cfg.specs.Crates.ModuleItems.{Included, Module, ModuleCursor, at_item_start}
 use Rattle.mbe_cfg.specs.Crates.InlinerSteps.{Writes}
 use Rattle.mbe_cfg.specs.Crates.FileLookup.{CrateFile}
+use Rattle.mbe_cfg.specs.TreeFront.{is_empty}
 
 pub one_more : (n : ℕ) → 0 < n → n ≡ suc (n - 1)
 one_more n h = omega (arith, h)
@@ -86,28 +87,51 @@ front_on within files at all f old noted most cursor after now next found more s
     }
 
 -- nothing is left
-no_steps : (within : InlineContext → Forest
+pub no_steps : (within : InlineContext → Forest
     → InlinedTrees) (files : List CrateFile) (at : InlineContext) (most : ℕ) (l : ModuleCursor) → most ≡ 0
     → unchanged none ≡ steps within files at most l
 no_steps within files at most l e = steps_none within files at l ∙ ap (λ n. steps within files at n l) (sym e)
 
+-- without trees, a front is nothing, and nothing more is left
+abbrev nothing_at : ModuleCursor → Step
+nothing_at l = record { kept = none; unresolved = []; cursor = l }
+
+abbrev cursor_of : Forest → Option (List ℕ) → Option Included → ModuleCursor
+cursor_of f path included = record { rest = f; path = path; included = included }
+
+empty_step : (within : InlineContext → Forest → InlinedTrees) (files : List CrateFile) (at : InlineContext)
+    (f : Forest) (path : Option (List ℕ)) (included : Option Included) → is_empty f ≡ true
+    → nothing_at (cursor_of f path included) ≡ step within files at (cursor_of f path included)
+empty_step within files at none path included e = refl
+empty_step within files at (leaf l rest) path included e = cc
+empty_step within files at (group d inside rest) path included e = cc
+
+-- no trees are left
+pub no_trees : (within : InlineContext → Forest → InlinedTrees) (files : List CrateFile) (at : InlineContext)
+    (most : ℕ) (l : ModuleCursor) → is_empty l.rest ≡ true → unchanged none ≡ steps within files at most l
+unfolding steps
+no_trees within files at zero l e = refl
+no_trees within files at (suc most) l e =
+    no_trees within files at most l e
+    ∙ ap (λ x. before x (steps within files at most x.cursor)) (empty_step within files at l.rest l.path l.included e)
+
 pub ended : (within : InlineContext → Forest
     → InlinedTrees) (files : List CrateFile) (at : InlineContext) (all : ℕ) (f : Forest) (old : GroupStack)
     (noted : List UnresolvedFile) (most : ℕ) (cursor : ModuleCursor) (now : GroupStack) (found : List UnresolvedFile)
-    → most ≡ 0
+    → unchanged none ≡ steps within files at most cursor
     → Going within files at all f old noted most cursor now found
     → now ≡ put (steps within files at all (at_item_start f)).kept old
 ended within files at all f old noted most cursor now found e h =
-    put-none now ∙ ap (λ x. put x.kept now) (no_steps within files at most cursor e) ∙ h.same
+    put-none now ∙ ap (λ x. put x.kept now) e ∙ h.same
 
 pub ended_unfound : (within : InlineContext → Forest
     → InlinedTrees) (files : List CrateFile) (at : InlineContext) (all : ℕ) (f : Forest)
     (old : GroupStack) (noted : List UnresolvedFile) (most : ℕ) (cursor : ModuleCursor) (now : GroupStack)
-    (found : List UnresolvedFile) → most ≡ 0
+    (found : List UnresolvedFile) → unchanged none ≡ steps within files at most cursor
     → Going within files at all f old noted most cursor now found
     → found ≡ noted ++ (steps within files at all (at_item_start f)).unresolved
 ended_unfound within files at all f old noted most cursor now found e h =
-    sym (append-nil found) ∙ ap (λ x. found ++ x.unresolved) (no_steps within files at most cursor e) ∙ h.said
+    sym (append-nil found) ∙ ap (λ x. found ++ x.unresolved) e ∙ h.said
 
 pub followed_suc : (files : List CrateFile) (levels : ℕ) (at : InlineContext) (f : Forest)
     → steps (inlined files levels) files at (flat_len f) (at_item_start f) ≡ inlined files (suc levels) at f
@@ -175,7 +199,8 @@ all_kept (Err x) files levels at f old new noted e k = tt
 -- trees none of which is left
 pub all_written : (files : List CrateFile) (levels : ℕ) (at : InlineContext) (f : Forest) (old : GroupStack)
     (noted : List UnresolvedFile)
-    (most : ℕ) (cursor : ModuleCursor) (now : GroupStack) (found : List UnresolvedFile) → most ≡ 0
+    (most : ℕ) (cursor : ModuleCursor) (now : GroupStack) (found : List UnresolvedFile)
+    → unchanged none ≡ steps (inlined files levels) files at most cursor
     → Going (inlined files levels) files at (flat_len f) f old noted most cursor now found
     → Writes (inlined files (suc levels) at f) old noted now found
 all_written files levels at f old noted most cursor now found e h = record {

@@ -18,6 +18,7 @@ ghost use Rattle.mbe_cfg.specs.Crates.InlinerSteps.{IsStep, Writes};
 use crate::crates::file_lookup::{CrateFile, FileLookupError, FoundFile, find_file};
 use crate::crates::module_items::{Included, Module, ModuleBody, ModuleCursor, module_of};
 use crate::files::module_dir::{Candidates, ModuleDir};
+use crate::tree_front::is_empty;
 use mbe_tt::span::Span;
 use mbe_tt::tt::{Delimiter, DelimiterKind, Leaf, TokenTreesView, TopSubtree, TopSubtreeBuilder};
 use std::alloc::{AllocError, Allocator, Global};
@@ -422,6 +423,9 @@ fn inline_trees<A: Allocator + Copy>(
     let mut most = tokens.flat_len();
     'fronts: while most > 0 {
         most -= 1;
+        if is_empty(cursor.rest) {
+            return Ok(());
+        }
         cursor = inline_front(alloc, files, unresolved, builder, at, cursor, levels)?;
     }
     Ok(())

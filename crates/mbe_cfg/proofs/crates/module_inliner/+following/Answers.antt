@@ -1,4 +1,4 @@
-use Rattle.std.proofs.Common.{ap, ◌∙◌, map, arith}
+use Rattle.std.proofs.Common.{ap, sym, ◌∙◌, map, arith}
 use Rattle.mbe_tt.specs.Buffers.GroupStack.{put}
 use Rattle.mbe_tt.specs.Trees.Leaf.{ident}
 use Rattle.mbe_tt.specs.Trees.Tree.{flat_len, one_leaf}
@@ -8,6 +8,7 @@ use Rattle.mbe_cfg.specs.Crates.ModuleInliner.{inlined}
 use Rattle.mbe_cfg.specs.Crates.CrateViews.{inline_context_shown, file_shown, cursor_shown, module_shown}
 use Rattle.mbe_cfg.specs.Crates.CrateViews.{unresolved_shown}
 use Rattle.mbe_cfg.proofs.FollowLemmas.{all_kept, all_written, file_written, front_on, module_written, not_closed}
+use Rattle.mbe_cfg.proofs.FollowLemmas.{no_steps, no_trees}
 use Rattle.mbe_cfg.proofs.FollowLemmas.{one_open}
 use Rattle.mbe_cfg.proofs.crates.module_inliner.+following.Goals as goal
 
@@ -61,5 +62,16 @@ pub inline_trees-returns : goal.inline_trees-returns
 inline_trees-returns g t c =
     all_written (map file_shown c.args.files.now) c.args.levels (inline_context_shown c.args.at) (trees c.args.tokens)
     c.args.builder.now (map unresolved_shown c.args.unresolved.now.items) c.fronts.most (cursor_shown c.fronts.cursor)
-    c.fronts.builder (map unresolved_shown c.fronts.unresolved.items) (omega (arith, c.fronts-test.false))
+    c.fronts.builder (map unresolved_shown c.fronts.unresolved.items) (no_steps (inlined (map file_shown c.args.files.now) c.args.levels) (map file_shown c.args.files.now)
+    (inline_context_shown c.args.at) c.fronts.most (cursor_shown c.fronts.cursor)
+    (omega (arith, c.fronts-test.false)))
+    c.fronts.invariant
+
+pub inline_trees-returns-then-is_empty : goal.inline_trees-returns-then-is_empty
+inline_trees-returns-then-is_empty g t c =
+    all_written (map file_shown c.args.files.now) c.args.levels (inline_context_shown c.args.at) (trees c.args.tokens)
+    c.args.builder.now (map unresolved_shown c.args.unresolved.now.items) c.fronts.most (cursor_shown c.fronts.cursor)
+    c.fronts.builder (map unresolved_shown c.fronts.unresolved.items) (no_trees (inlined (map file_shown c.args.files.now) c.args.levels) (map file_shown c.args.files.now)
+    (inline_context_shown c.args.at) c.fronts.most (cursor_shown c.fronts.cursor)
+    (sym c.if-is_empty.ensures))
     c.fronts.invariant
