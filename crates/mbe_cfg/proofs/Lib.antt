@@ -5,3 +5,4 @@ mod FollowLemmas
 mod DeclareLemmas
 pub mod StripLemmas
 pub mod ExportLemmas
+mod EnabledLemmas

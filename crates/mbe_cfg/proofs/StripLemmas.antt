@@ -1,6 +1,6 @@
 -- What is left to be written, as trees are stripped one front after another.
-use Rattle.std.proofs.Common.{ℕ, suc, ◌-◌, ◌≡◌, ◌<◌, ◌≤◌, List, ◌++◌, length, Some, refl, ap, sym, ◌∙◌, append_assoc}
-use Rattle.std.proofs.Common.{append-nil, arith}
+use Rattle.std.proofs.Common.{ℕ, zero, suc, ◌-◌, ◌≡◌, ◌<◌, ◌≤◌, List, ◌++◌, length, Some, refl, ap, sym, ◌∙◌}
+use Rattle.std.proofs.Common.{append_assoc, append-nil, arith}
 use Rattle.std.proofs.lemmas.Bool.{lt-ltb, le-ltb}
 use Rattle.std.specs.Prelude.{true, Option, option_map, Result, Ok, Err, OnOk}
 use Rattle.mbe_tt.specs.Buffers.GroupStack.{GroupStack, put}
@@ -13,6 +13,7 @@ use Rattle.mbe_cfg.specs.declared.cfg_options.CfgOptions.{CfgOptions}
 use Rattle.mbe_cfg.specs.declared.cfg_fault.CfgFault.{CfgFault}
 use Rattle.mbe_cfg.specs.CfgStrip.{Stripped, unchanged, up_to, is_disabled, disabled_or_tree, step_by, step, step_then}
 use Rattle.mbe_cfg.specs.CfgStrip.{steps, stripped}
+use Rattle.mbe_cfg.specs.TreeFront.{is_empty}
 
 pub one_more : (n : ℕ) → 0 < n → n ≡ suc (n - 1)
 one_more n h = omega (arith, h)
@@ -85,23 +86,38 @@ front_on within s g all f old before left rest after now next found more some h 
     }
 
 -- nothing is left
-no_steps : (within : Forest → Stripped) (s : CfgOptions) (g : Grammar) (left : ℕ) (rest : Forest) → left ≡ 0
+pub no_steps : (within : Forest → Stripped) (s : CfgOptions) (g : Grammar) (left : ℕ) (rest : Forest) → left ≡ 0
     → unchanged none ≡ steps within s g left rest
 no_steps within s g left rest e = steps_none within s g rest ∙ ap (λ n. steps within s g n rest) (sym e)
 
+empty_none : (f : Forest) → is_empty f ≡ true → none ≡ f
+empty_none none e = refl
+empty_none (leaf l rest) e = cc
+empty_none (group d inside rest) e = cc
+
+steps_of_none : (within : Forest → Stripped) (s : CfgOptions) (g : Grammar) (left : ℕ)
+    → unchanged none ≡ steps within s g left none
+unfolding steps
+steps_of_none within s g zero = refl
+steps_of_none within s g (suc left) = ap (step_then (step within s g none)) (steps_of_none within s g left)
+
+-- no trees are left
+pub no_trees : (within : Forest → Stripped) (s : CfgOptions) (g : Grammar) (left : ℕ) (rest : Forest)
+    → is_empty rest ≡ true → unchanged none ≡ steps within s g left rest
+no_trees within s g left rest e = steps_of_none within s g left ∙ ap (steps within s g left) (empty_none rest e)
+
 pub ended : (within : Forest → Stripped) (s : CfgOptions) (g : Grammar) (all : ℕ) (f : Forest) (old : GroupStack)
-    (before : List CfgFault) (left : ℕ) (rest : Forest) (now : GroupStack) (found : List CfgFault) → left ≡ 0
-    → ModuleCursor within s g all f old before left rest now found
+    (before : List CfgFault) (left : ℕ) (rest : Forest) (now : GroupStack) (found : List CfgFault)
+    → unchanged none ≡ steps within s g left rest → ModuleCursor within s g all f old before left rest now found
     → now ≡ put (steps within s g all f).kept old
-ended within s g all f old before left rest now found e h =
-    put-none now ∙ ap (λ x. put x.kept now) (no_steps within s g left rest e) ∙ h.same
+ended within s g all f old before left rest now found e h = put-none now ∙ ap (λ x. put x.kept now) e ∙ h.same
 
 pub ended_faults : (within : Forest → Stripped) (s : CfgOptions) (g : Grammar) (all : ℕ) (f : Forest) (old : GroupStack)
-    (before : List CfgFault) (left : ℕ) (rest : Forest) (now : GroupStack) (found : List CfgFault) → left ≡ 0
-    → ModuleCursor within s g all f old before left rest now found
+    (before : List CfgFault) (left : ℕ) (rest : Forest) (now : GroupStack) (found : List CfgFault)
+    → unchanged none ≡ steps within s g left rest → ModuleCursor within s g all f old before left rest now found
     → found ≡ before ++ (steps within s g all f).faults
 ended_faults within s g all f old before left rest now found e h =
-    sym (append-nil found) ∙ ap (λ x. found ++ x.faults) (no_steps within s g left rest e) ∙ h.noted
+    sym (append-nil found) ∙ ap (λ x. found ++ x.faults) e ∙ h.noted
 
 pub stripped_suc : (s : CfgOptions) (g : Grammar) (levels : ℕ) (f : Forest)
     → steps (stripped s g levels) s g (flat_len f) f ≡ stripped s g (suc levels) f

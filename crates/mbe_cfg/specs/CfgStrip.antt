@@ -1,6 +1,7 @@
 -- Trees without what attributes are on whose `cfg` doesn't hold, and without `cfg_attr`s that add
 -- nothing.
-use Rattle.std.specs.Prelude.{ℕ, zero, suc, Bool, true, false, not, ◌&&◌, nat_lt, if◌then◌else◌}
+use Rattle.std.specs.Prelude.{◌≡◌, ◌<◌, ℕ, zero, suc, Bool, true, false, not, ◌&&◌, nat_lt}
+use Rattle.std.specs.Prelude.{if◌then◌else◌}
 use Rattle.std.specs.Result.{result_err, is_err}
 use Rattle.std.specs.Prelude.{List, [], ◌∷◌, ◌++◌, Option, Some, None, option_and_then, Result, Ok}
 use Rattle.std.specs.Prelude.{Err, codes}
@@ -8,7 +9,7 @@ use Rattle.mbe_tt.specs.Grammars.Grammar.{Grammar}
 use Rattle.mbe_tt.specs.Trees.Top.{Top}
 use Rattle.mbe_tt.specs.Trees.Leaf.{is_text}
 use Rattle.mbe_tt.specs.Trees.Tree.{Forest, Tree, Leaf_tree, Group_tree, none, leaf, group, append}
-use Rattle.mbe_tt.specs.Trees.Tree.{one_leaf, flat_len}
+use Rattle.mbe_tt.specs.Trees.Tree.{one_leaf, flat_len, skip}
 use Rattle.mbe_tt.specs.Trees.Tree.{front_ident, rest_of}
 use Rattle.mbe_tt.specs.declared.tt.Delimiter.{Delimiter}
 use Rattle.mbe_tt.specs.declared.tt.DelimiterKind.TheVariants.{Bracket, Parenthesis}
@@ -61,6 +62,11 @@ after_inner g f (Some attribute) = none
 
 abbrev pub after_disabled_target : Grammar → Forest → Forest
 after_disabled_target g f = after_inner g f (inner_attribute f)
+
+-- No front with more than `n` flat tokens is off.
+abbrev pub IsEnabledTo : CfgOptions → ℕ → Forest → Type 0
+IsEnabledTo s n f =
+    (k : ℕ) → n < flat_len (skip k f) → is_disabled s (skip k f) ≡ false
 
 -- ---- `cfg_attr`s that add nothing
 
@@ -166,6 +172,13 @@ abbrev pub disabled_or_tree : (Forest → Stripped) → CfgOptions → Grammar �
 disabled_or_tree within s g f t rest true =
     record { kept = none; faults = []; rest = after_disabled_target g f }
 disabled_or_tree within s g f t rest false = other_step within s f t rest
+
+-- the front is no definition and no call
+abbrev pub is_tree : calls.FrontItem → Bool
+is_tree (calls.Other t rest) = true
+is_tree (calls.Definition d) = false
+is_tree (calls.CallItem c) = false
+is_tree calls.End = false
 
 -- A definition and a call stay whole. Any other tree stays with what stays of what it holds, unless
 -- it begins something

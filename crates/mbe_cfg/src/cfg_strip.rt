@@ -3,12 +3,14 @@
 // The trees are read from the front. Definitions and calls of macros are kept whole, because the
 // trees in their groups aren't Rust code yet. A call keeps its attributes, because its expansion
 // needs them.
-ghost use Rattle.std.specs.Prelude.{◌≡◌, ◌<◌, ◌++◌, IfOk, OnOk, length, option_map, suc};
+ghost use Rattle.std.specs.Prelude.{◌≡◌, ◌<◌, ◌&&◌, ◌++◌, if◌then◌else◌, IfOk, OnOk, length};
+ghost use Rattle.std.specs.Prelude.{nat_lt, option_map, suc};
 ghost use Rattle.mbe_tt.specs.Buffers.GroupStack.{put};
 ghost use Rattle.mbe_tt.specs.Trees.Tree.{flat_len, none};
 ghost use Rattle.mbe_tt.specs.Views.Element.{element_tree};
 ghost use Rattle.mbe_tt.specs.Views.View.{trees};
 ghost use Rattle.mbe_rewriter.specs.AttributedCalls.{front_item_with_attributes};
+ghost use Rattle.mbe_rewriter.specs.MacroItems.{front};
 ghost use Rattle.mbe_cfg.specs.CfgViews.{group_shown};
 ghost use Rattle.mbe_cfg.specs.CfgStrip as spec;
 
@@ -17,7 +19,7 @@ use crate::attributes::{attribute, attributes};
 use crate::cfg_fault::CfgFault;
 use crate::cfg_options::CfgOptions;
 use crate::predicate::{DEPTH, predicate};
-use crate::tree_front::{Group, after_char, attribute_group, group_at};
+use crate::tree_front::{Group, after_char, attribute_group, group_at, is_empty};
 use mbe_rewriter::attributed_calls;
 use mbe_rewriter::macro_items::{FrontItem, front_of};
 use mbe_tt::grammar::FragmentGrammar;
@@ -202,7 +204,65 @@ pub fn copy_up_to<'t, A: Allocator + Copy>(
     }
 }
 
-// Writes the enabled part of what these trees begin with, and returns the trees after it.
+// Returns a number of flat tokens: no front of these trees with more flat tokens is disabled. The
+// number `known` is one. If it doesn't say whether the first front is disabled, the attributes there
+// are evaluated. So each attribute of a run is evaluated once, and not for each one before it.
+fn enabled_to<A: Allocator>(
+    settings: &CfgOptions<'_>,
+    tokens: TokenTreesView<'_, A>,
+    known: usize,
+) -> usize
+    requires known { spec.IsEnabledTo settings.now known (trees tokens) }
+    ensures { spec.IsEnabledTo settings.now result (trees tokens.entry) }
+{
+    if known < tokens.flat_len() {
+        return known;
+    }
+    match attributes(settings, tokens) {
+        Ok(run) => {
+            if run.holds {
+                run.rest.flat_len()
+            } else {
+                tokens.flat_len()
+            }
+        }
+        Err(_fault) => tokens.flat_len(),
+    }
+}
+
+// Returns whether the attributes at the front disable their target. No front with more than `known`
+// flat tokens is disabled.
+fn is_front_disabled<A: Allocator>(
+    settings: &CfgOptions<'_>,
+    tokens: TokenTreesView<'_, A>,
+    known: usize,
+) -> bool
+    requires known { spec.IsEnabledTo settings.now known (trees tokens) }
+    ensures { result ≡ spec.is_disabled settings.now (trees tokens.entry) }
+{
+    if known < tokens.flat_len() {
+        return false;
+    }
+    is_disabled(settings, tokens)
+}
+
+// Returns whether a tree is at the front that is known to be enabled.
+fn is_known_tree<A: Allocator>(tokens: TokenTreesView<'_, A>, known: usize) -> bool
+    ensures { result ≡ (nat_lt known (flat_len (trees tokens.entry))
+        && spec.is_tree (front (trees tokens.entry))) }
+{
+    known < tokens.flat_len() && matches!(front_of(tokens), FrontItem::Tree(..))
+}
+
+// Returns the number that is known after a front.
+fn known_after<A: Allocator>(is_known: bool, known: usize, rest: TokenTreesView<'_, A>) -> usize
+    ensures { result ≡ (if is_known then known else flat_len (trees rest.entry)) }
+{
+    if is_known { known } else { rest.flat_len() }
+}
+
+// Writes the enabled part of what these trees begin with, and returns the trees after it. No front
+// with more than `known` flat tokens is disabled.
 #[cycle(stripping)]
 fn strip_front<'t, A: Allocator + Copy, G: FragmentGrammar>(
     settings: &CfgOptions<'_>,
@@ -210,9 +270,11 @@ fn strip_front<'t, A: Allocator + Copy, G: FragmentGrammar>(
     faults: &mut Vec<CfgFault, A>,
     builder: &mut TopSubtreeBuilder<A>,
     tokens: TokenTreesView<'t, A>,
+    known: usize,
     levels: u32,
 ) -> Result<TokenTreesView<'t, A>, AllocError>
     requires some { 0 < length builder.old }
+    requires known { spec.IsEnabledTo settings.now known (trees tokens) }
     ensures kept { OnOk result (builder.new ≡ put
         (spec.step (spec.stripped settings.now (G.grammar grammar.now) levels)
         settings.now (G.grammar grammar.now) (trees tokens.entry)).kept builder.old) }
@@ -234,7 +296,7 @@ fn strip_front<'t, A: Allocator + Copy, G: FragmentGrammar>(
             Ok(call.rest)
         }
         FrontItem::Tree(tree, rest) => {
-            if is_disabled(settings, tokens) {
+            if is_front_disabled(settings, tokens, known) {
                 return after_disabled_target(grammar, tokens);
             }
             strip_other(
@@ -378,9 +440,18 @@ fn strip_trees<A: Allocator + Copy, G: FragmentGrammar>(
 {
     let mut rest = tokens;
     let mut left = tokens.flat_len();
+    let mut known = tokens.flat_len();
     'fronts: while left > 0 {
         left -= 1;
-        rest = strip_front(settings, grammar, faults, builder, rest, levels)?;
+        if is_empty(rest) {
+            return Ok(());
+        }
+        known = enabled_to(settings, rest, known);
+        let is_known = is_known_tree(rest, known);
+        rest = strip_front(
+            settings, grammar, faults, builder, rest, known, levels,
+        )?;
+        known = known_after(is_known, known, rest);
     }
     Ok(())
 }

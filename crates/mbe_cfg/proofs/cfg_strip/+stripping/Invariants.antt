@@ -1,7 +1,7 @@
 use Rattle.std.proofs.Common.{◌+◌, ◌*◌}
 use Rattle.mbe_tt.specs.Trees.Tree.{flat_len}
 use Rattle.mbe_tt.specs.Views.View.{trees}
-use Rattle.mbe_cfg.specs.CfgStrip.{stripped}
+use Rattle.mbe_cfg.specs.CfgStrip.{IsEnabledTo, stripped}
 use Rattle.mbe_cfg.proofs.StripLemmas.{ModuleCursor}
 use Rattle.mbe_cfg.proofs.cfg_strip.+stripping.Given as goal
 
@@ -28,6 +28,7 @@ invariant-strip_trees-fronts g l =
     ModuleCursor (stripped l.settings (g.G.FragmentGrammar.grammar l.grammar) l.levels) l.settings
     (g.G.FragmentGrammar.grammar l.grammar) (flat_len (trees l.fn.tokens)) (trees l.fn.tokens) l.initial.builder
     l.initial.faults.items l.left (trees l.rest) l.builder l.faults.items
+    × IsEnabledTo l.settings l.known (trees l.rest)
 
 abbrev pub decreases-strip_trees-fronts : goal.decreases-strip_trees-fronts
 decreases-strip_trees-fronts g l = l.left
