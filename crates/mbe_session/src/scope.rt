@@ -13,7 +13,8 @@
 // else to the only definition that paths find.
 //
 // A call resolves to none if more than one definition can be meant, and `doubt` says why.
-ghost use Rattle.std.specs.Prelude.{◌≡◌, ◌&&◌, ◌∷◌, [], length, IfOk, OnOk, option_map, false};
+ghost use Rattle.std.specs.Prelude.{◌≡◌, ◌≤◌, ◌<◌, ℕ, ◌&&◌, ◌∷◌, [], length, IfOk, OnOk};
+ghost use Rattle.std.specs.Prelude.{option_map, false};
 ghost use Rattle.std.specs.String.{string_bytes};
 ghost use Rattle.std.specs.List.{list_any, slice_get};
 ghost use Rattle.mbe_tt.specs.Views.View.{trees};
@@ -137,6 +138,20 @@ impl<A: Allocator> CrateDefinitions<A> {
         self.first <= number && number - self.first < self.count
     }
 
+    // Returns the number after the range, if the crate has that name and the number is greater than
+    // `end`, or else `end`.
+    fn end_for(&self, name: &str, end: usize, most: usize) -> usize
+        ensures from_end { end ≤ result }
+        ensures past { (n : ℕ) → result ≤ n → n < most
+            → spec.is_named name.now n (crate_definitions_of self.now) ≡ false }
+    {
+        if self.name.as_str() == name {
+            end.max(self.first.saturating_add(self.count))
+        } else {
+            end
+        }
+    }
+
     // Whether the definition is in the range, and the crate has that name.
     fn is_named(&self, name: &str, number: usize) -> bool
         ensures { result ≡ spec.is_named name.now number (crate_definitions_of self.now) }
@@ -169,6 +184,18 @@ fn is_in_crate_named<A: Allocator>(
         crates.now }
 {
     crates.iter().any(|one| one.is_named(name, number))
+}
+
+// Returns a number from which on, below `most`, no definition belongs to the crate of that name.
+fn end_of_crate<A: Allocator>(crates: &[CrateDefinitions<A>], name: &str, most: usize) -> usize
+    ensures { (n : ℕ) → result ≤ n → n < most
+        → list_any (λ c. spec.is_named name.now n (crate_definitions_of c)) crates.now ≡ false }
+{
+    let mut end = 0;
+    for one in crates {
+        end = one.end_for(name, end, most);
+    }
+    end
 }
 
 // Whether both definitions belong to one of these crates.
@@ -556,6 +583,23 @@ impl<A: Allocator + Copy> Scope<A> {
         self.is_found(number, name, asked) && self.is_admitted(number, crate_filter)
     }
 
+    // Returns a number from which on a lookup searches no definition. The definitions of a crate
+    // follow each other, so a lookup in one crate needn't look at the crates after it.
+    fn search_end(&self, crate_filter: CrateFilter<'_>) -> usize
+        ensures within { result ≤ length (scope_of self.now).definitions }
+        ensures past { (n : ℕ) → result ≤ n → n < length (scope_of self.now).definitions
+            → spec.is_admitted (scope_of self.now) (crate_filter_shown crate_filter.entry) n
+            ≡ false }
+    {
+        let count = self.definitions.len();
+        match crate_filter {
+            CrateFilter::Crate(name) => {
+                end_of_crate(self.crates.as_slice(), name, count).min(count)
+            }
+            _ => count,
+        }
+    }
+
     // Returns the number of the last definition with that name which the lookup finds.
     fn last_found(
         &self,
@@ -566,7 +610,7 @@ impl<A: Allocator + Copy> Scope<A> {
         ensures { result ≡ spec.last_found (crate_filter_shown crate_filter.entry)
             (scope_of self.now) asked name.now }
     {
-        let mut left = self.definitions.len();
+        let mut left = self.search_end(crate_filter);
         'numbers: while left > 0 {
             left -= 1;
             if self.is_eligible(left, name, asked, crate_filter) {
