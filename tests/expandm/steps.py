@@ -58,11 +58,28 @@ def check_frames(program):
         program.check("steps.PLACES", row, (heads, ran.err, ran.status), (want, "", 0))
 
 
+# How two rules go through `x = 1 + 2, y 3`: `($($k:ident = $v:expr),*)`, and `(a)`.
+MATCHES = """\
+      x -- expects `$k:ident` or the end of the call
+      = -- expects `=`
+      1 + 2 -- expects `$v:expr`
+      , -- expects `,` or the end of the call
+      y -- expects `$k:ident`
+      3 -- expects `=`
+    rule 2
+      x -- expects `a`
+"""
+
+
 def check_failures(program):
     text = "macro_rules! m { (a) => {} }\nm!(b);\n"
     ran = program.run(["--step", "2", "a.rs"], {"a.rs": text})
     error = ran.err.split(" error: ")[1].split("\n")[0]
-    program.check("steps.failures", text, (ran.out, ran.status), (f"a.rs:2:1: m! {{ b }}\n  isn't expanded\n  error: {error}\n", 1))
+    program.check("steps.failures", text, (ran.out, ran.status), (f"a.rs:2:1: m! {{ b }}\n  isn't expanded\n  error: {error}\n    rule 1\n      b -- expects `a`\n", 1))
+    text = "macro_rules! m { ($($k:ident = $v:expr),*) => {}; (a) => {} }\nm!(x = 1 + 2, y 3);\n"
+    ran = program.run(["--step", "2", "a.rs"], {"a.rs": text})
+    rows = ran.out.split("\n    rule 1\n")[1]
+    program.check("steps.failures", text, (rows, ran.status), (MATCHES, 1))
 
 
 def check_terminal(program):

@@ -22,6 +22,7 @@ CALL = {
     "rule": 1,
     "variables": [{"name": "a", "kind": "ident", "bound": {"text": "x", "place": [0, 46, 47]}}],
     "argument": "x",
+    "rules": [{"rule": 1, "states": ["`$a:ident`", "the end of the call"], "reached": [[0], [1]]}],
     "expansion": "f(x)",
     "tokens": [
         {"text": "f", "origin": "template", "place": [0, 33, 34]},
@@ -50,6 +51,18 @@ TOKENS = (
     ("m { ($($a:expr),*) => { [$($a),*] } }", "m!(1, y);", "[:template 1:$a@1 ,:template y:$a@2 ]:template"),
     ("m { ($([$($a:ident)*])*) => { $($($a)*)* } }", "m!([x] [] [y z]);", "x:$a@1.1 y:$a@3.1 z:$a@3.2"),
     ("m { ($a:expr, $b:expr) => { $a * $b } }", "m!(1 + x, y);", "(:added 1:$a +:$a x:$a ):added *:template y:$b"),
+)
+
+# A definition, a call in the next line, and for each rule that is tried what is expected at its states and which are reached at each offset.
+# The states are those of `pages.STATES`.
+END = "the end of the call"
+STATES = (
+    ("m { ($($x:ident),* ;) => {} }", "m!(p ;);", [([None, "`$x:ident`", "`,`", "`;`", END], [[1, 3], [2, 3], [4]])]),
+    ("m { (a) => {}; ($x:ident,) => {} }", "m!(b);", [(["`a`", END], [[0]]), (["`$x:ident`", "`,`", END], [[0], [1]])]),
+    ("m { (a) => {}; (b) => {}; (c) => {} }", "m!(b);", [(["`a`", END], [[0]]), (["`b`", END], [[0], [1]])]),
+    ("m { ([$a:tt]) => {} }", "m!([1]);", [(["`[`", "`$a:tt`", "the end of the group", END], [[0], [1], [2], [3]])]),
+    ("m { ($x:expr) => {} }", "m!(1 + 2);", [(["`$x:expr`", END], [[0], [], [], [1]])]),
+    ("m { ($($a:tt)*) => {} }", f"m!({'1 ' * 401});", [None]),
 )
 
 # Options that `--trace=json` can't be used with.
@@ -89,6 +102,15 @@ def check_calls(program):
         program.check("trace_data.TOKENS", row, (" ".join(map(token, found[1]["tokens"])), ran.status), (want, 0))
 
 
+def check_rules(program):
+    for row in STATES:
+        rules, call, want = row
+        found, _ = lines(program, defined(rules, call))
+        got = [(it["states"], it["reached"]) if "states" in it else None for it in found[1]["rules"]]
+        program.check("trace_data.STATES", row, got, want)
+        program.check("trace_data.STATES", row, [it["rule"] for it in found[1]["rules"]], list(range(1, len(want) + 1)))
+
+
 def check_states(program):
     text = "macro_rules! n { () => {} }\nmacro_rules! m { (a) => { n!(); o!() } }\nfn f() { m!(a); m!(b); }\n"
     found, ran = lines(program, text)
@@ -126,6 +148,7 @@ def check_files(program):
 
 def test(program):
     check_calls(program)
+    check_rules(program)
     check_states(program)
     check_bytes(program)
     check_files(program)

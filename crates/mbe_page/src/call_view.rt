@@ -102,6 +102,16 @@ pub fn call_view<'a>(
 }
 
 impl<'a> CallView<'a> {
+    /// Returns the number of rules that are tried on the call: those up to the rule that applies,
+    /// or all.
+    pub fn tried(&self) -> usize {
+        match (self.rule, self.rules) {
+            (Some(rule), _) => rule.saturating_add(1),
+            (None, Some(rules)) => rules.num_rules(),
+            (None, None) => 0,
+        }
+    }
+
     /// Returns where the template of the rule that applies is.
     pub fn site(&self) -> Option<RuleSite<'a>> {
         let called = self.called?;

@@ -2,9 +2,11 @@
 // variables are bound to, and its expansion. Frames of calls in an expansion are further right.
 use crate::call_view::{CallView, call_view};
 use crate::page_data::{PageData, page_data};
+use crate::rule_states::RuleStates;
 use mbe::Binding;
 use mbe_diagnostics::renderer::visible;
 use mbe_diagnostics::rule_checks::variables::PatternVariable;
+use mbe_diagnostics::rule_part::describe;
 use mbe_markup::fragments::{TokenOrigin, fragment_trees};
 use mbe_markup::token_text::{TextToken, TokenText, token_text};
 use mbe_session::file_expander::call_steps::{CallState, CallStep};
@@ -268,6 +270,69 @@ impl Frames {
         Ok(())
     }
 
+    // ---- matches
+
+    // Writes what a rule can expect at an offset.
+    fn expected(
+        &mut self,
+        alloc: Global,
+        states: &RuleStates<'_>,
+        numbers: &[usize],
+    ) -> Result<(), AllocError> {
+        for (index, number) in numbers.iter().enumerate() {
+            if let Some(Some(part)) = states.expected.get(*number) {
+                let part = describe(alloc, *part)?;
+                self.text.push_str(if index == 0 { "" } else { " or " })?;
+                self.word(part.text.as_str())?;
+            }
+        }
+        Ok(())
+    }
+
+    // Writes a line for each offset at which a rule expects something: the tokens of the argument
+    // from there up to the next one, and what the rule can expect.
+    fn offsets(
+        &mut self,
+        alloc: Global,
+        argument: &TokenText,
+        states: &RuleStates<'_>,
+    ) -> Result<(), AllocError> {
+        let offsets = states.by_offset(alloc)?;
+        for (offset, numbers) in offsets.iter().enumerate() {
+            if !numbers.is_empty() {
+                let next = next_offset(offsets.as_slice(), offset);
+                self.line(6)?;
+                self.word(text_between(argument, offset, next))?;
+                self.text.push_str(" -- expects ")?;
+                self.expected(alloc, states, numbers.as_slice())?;
+            }
+        }
+        Ok(())
+    }
+
+    // Writes how each rule of a failing call goes through the argument.
+    fn matches(
+        &mut self,
+        alloc: Global,
+        shown: &PageData<'_>,
+        step: &CallStep,
+        view: &CallView<'_>,
+    ) -> Result<(), AllocError> {
+        let (CallState::Failed, Some(rules)) = (step.state, view.rules) else {
+            return Ok(());
+        };
+        let argument = token_text(alloc, step.argument.iter().remaining())?;
+        for index in 0..view.tried() {
+            if let Some(states) = RuleStates::new(alloc, &shown.grammar, rules, step, index)? {
+                self.line(4)?;
+                self.text.push_str("rule ")?;
+                self.number(alloc, index.saturating_add(1))?;
+                self.offsets(alloc, &argument, &states)?;
+            }
+        }
+        Ok(())
+    }
+
     // Writes the frame of a call.
     fn frame(
         &mut self,
@@ -283,6 +348,7 @@ impl Frames {
         self.call(alloc, step)?;
         self.rule(alloc, step, &view)?;
         self.errors(shown, step)?;
+        self.matches(alloc, shown, step, &view)?;
         self.variables(alloc, &view)?;
         self.expansion(alloc, step, &view)
     }
@@ -307,6 +373,25 @@ impl Frames {
         }
         Ok(())
     }
+}
+
+// Returns the next offset at which something is expected, or else the one after `offset`.
+fn next_offset(offsets: &[Vec<usize>], offset: usize) -> usize {
+    let after = offset.saturating_add(1);
+    let rest = offsets.get(after..).unwrap_or(&[]);
+    match rest.iter().position(|numbers| !numbers.is_empty()) {
+        Some(skipped) => after.saturating_add(skipped),
+        None => after,
+    }
+}
+
+// Returns the text of the tokens between two offsets. It is `the end` at the end of the argument.
+fn text_between(argument: &TokenText, from: usize, to: usize) -> &str {
+    let Some(first) = argument.tokens.get(from) else {
+        return "the end";
+    };
+    let last = argument.tokens.get(to.saturating_sub(1)).unwrap_or(first);
+    argument.text.as_str().get(first.start..last.end).unwrap_or("")
 }
 
 // Whether a call of the file begins at a position.

@@ -8,7 +8,8 @@
 // `page_data` and `call_view` have the data. The views are `source_writer`, `cards`,
 // `token_writer`, `template_view`, `match_view` and `macro_list`. `rule_states` has the states of a
 // match at each token. `page` writes a page of them.
-// `pages` writes the pages of a folder. `trace_values` and `trace` write the same data as JSON.
+// `pages` writes the pages of a folder. `trace_values`, `trace_states` and `trace` write the same
+// data as JSON.
 // `frames` writes a call and its steps for a terminal.
 #![tactic(auto)]
 
@@ -25,4 +26,5 @@ mod source_writer;
 mod template_view;
 mod token_writer;
 pub mod trace;
+mod trace_states;
 mod trace_values;

@@ -5,7 +5,7 @@ ghost use Rattle.mbe.specs.MacroViews.{macro_of};
 
 use crate::call_view::CallView;
 use crate::page_data::PageData;
-use crate::rule_states::{are_shown, rule_states};
+use crate::rule_states::{are_shown, states_text};
 use crate::token_writer::variable_class;
 use mbe::{Binding, Bindings, DeclarativeMacro, MetaVarKind, Verdict};
 use mbe_diagnostics::outcome::{MatchOutcome, message};
@@ -26,7 +26,7 @@ use std::alloc::{AllocError, Global};
 /// The greatest depth to which nested rounds are shown.
 const LEVELS: u32 = 64;
 
-// How a rule matches a call: the outcome, and the states at each offset (`rule_states`).
+// How a rule matches a call: the outcome, and the text of `states_text`.
 #[derive(Drop)]
 struct RuleMatch {
     outcome: MatchOutcome,
@@ -48,7 +48,7 @@ fn matches_of<G: FragmentGrammar>(
         if index < count {
             matches.push(RuleMatch {
                 outcome: outcome_of_rule(alloc, grammar, rules, &step.argument, index)?,
-                states: rule_states(alloc, grammar, rules, step, index)?,
+                states: states_text(alloc, grammar, rules, step, index)?,
             })?;
         }
     }
@@ -551,10 +551,6 @@ pub fn write_match(
     if rules.err().is_some() {
         return Ok(());
     }
-    let count = match view.rule {
-        Some(rule) => rule.saturating_add(1),
-        None => rules.num_rules(),
-    };
-    let matches = matches_of(alloc, &shown.grammar, rules, step, count)?;
+    let matches = matches_of(alloc, &shown.grammar, rules, step, view.tried())?;
     write_rules(alloc, html, step, view, rules, matches.as_slice())
 }

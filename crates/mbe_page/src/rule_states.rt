@@ -1,11 +1,13 @@
-// The states of a rule's pattern at each offset of a call's argument, for the script of the page.
+// The states of a rule's pattern at each offset of a call's argument.
 //
-// The script has a slider over the tokens of the argument. It marks the states that partial
-// readings reach at the slider's offset, as the matcher's threads do. The text has the states of
-// each offset, with a `|` between two offsets. A state is its number in the order of the pattern,
-// from 0, as the boxes of a drawing have it. States at which nothing is expected are left out.
+// A state is known by its number in the order of the pattern, from 0, as the boxes of a drawing
+// have it. States at which nothing is expected are left out. The states of `$($x:ident),* ;` are 0
+// before the repetition, 1 before `$x`, 2 after it, 3 before `;` and 4 at the end. In a match of
+// `p ;`, the states 1 and 3 are reached at offset 0, the states 2 and 3 at offset 1, and state 4 at
+// offset 2.
 //
-// For `$($x:ident),* ;` and `p ;` the text is `1 3|2 3|4`.
+// In a page, the states are a text: `1 3|2 3|4`. The script has a slider over the tokens of the
+// argument, and marks the states at the slider's offset.
 use mbe::{DeclarativeMacro, Expected};
 use mbe_matcher::readings::reached_states::{ReachedState, expected_at_states, reached_states};
 use mbe_session::file_expander::call_steps::CallStep;
@@ -21,57 +23,96 @@ pub fn are_shown(tokens: usize) -> bool {
     tokens <= TOKENS
 }
 
-// Adds the bars up to an offset.
-fn push_bars(text: &mut String, from: usize, to: usize) -> Result<(), AllocError> {
-    for _ in from..to {
-        text.push('|')?;
+/// The states of a rule's pattern, and which of them are reached.
+#[derive(Drop)]
+pub struct RuleStates<'r> {
+    /// What is expected at each state, in the order of the pattern.
+    pub expected: Vec<Option<Expected<'r>>>,
+    reached: Vec<ReachedState>,
+}
+
+// Adds empty lists for the offsets up to that one.
+fn push_offsets(
+    alloc: Global,
+    offsets: &mut Vec<Vec<usize>>,
+    last: usize,
+) -> Result<(), AllocError> {
+    for _ in offsets.len()..last.saturating_add(1) {
+        offsets.push(Vec::new(alloc))?;
     }
     Ok(())
 }
 
-// Adds the number of a state.
-fn push_number(alloc: Global, text: &mut String, number: usize) -> Result<(), AllocError> {
-    if !text.is_empty() && !text.ends_with('|') {
-        text.push(' ')?;
+impl<'r> RuleStates<'r> {
+    /// Returns the states of the rule with that index. `None` if the argument is too long.
+    /// `AllocError` if out of memory.
+    pub fn new<G: FragmentGrammar>(
+        alloc: Global,
+        grammar: &G,
+        rules: &'r DeclarativeMacro,
+        step: &'r CallStep,
+        index: usize,
+    ) -> Result<Option<RuleStates<'r>>, AllocError> {
+        let argument = step.argument.iter().remaining();
+        if !are_shown(argument.flat_len()) || index >= rules.num_rules() {
+            return Ok(None);
+        }
+        let pattern = rules.pattern(index);
+        Ok(Some(RuleStates {
+            expected: expected_at_states(alloc, pattern)?,
+            reached: reached_states(alloc, grammar, pattern, argument)?,
+        }))
     }
-    let number = format!(in alloc; "{number}")?;
-    text.push_str(number.as_str())
+
+    // Adds a state to the list of its offset, if something is expected there.
+    fn add(&self, offsets: &mut Vec<Vec<usize>>, state: ReachedState) -> Result<(), AllocError> {
+        let number = self.expected.len().saturating_sub(state.number);
+        if let Some(Some(_)) = self.expected.get(number)
+            && let Some(numbers) = offsets.get_mut(state.offset)
+        {
+            numbers.push(number)?;
+        }
+        Ok(())
+    }
+
+    /// Returns the numbers of the states that are reached at each offset, up to the last offset
+    /// that a partial reading reaches. `AllocError` if out of memory.
+    pub fn by_offset(&self, alloc: Global) -> Result<Vec<Vec<usize>>, AllocError> {
+        let mut offsets = Vec::new(alloc);
+        for state in &self.reached {
+            push_offsets(alloc, &mut offsets, state.offset)?;
+            self.add(&mut offsets, *state)?;
+        }
+        Ok(offsets)
+    }
 }
 
-// Returns the text for these states. `expected` says what is expected at the states of the pattern.
-fn text_of(
-    alloc: Global,
-    reached: &[ReachedState],
-    expected: &[Option<Expected<'_>>],
-) -> Result<String, AllocError> {
-    let mut text = String::new(alloc);
-    let mut offset = 0usize;
-    for state in reached {
-        push_bars(&mut text, offset, state.offset)?;
-        offset = state.offset;
-        let number = expected.len().saturating_sub(state.number);
-        if let Some(Some(_)) = expected.get(number) {
-            push_number(alloc, &mut text, number)?;
-        }
+// Adds numbers to a text, with a space between two of them.
+fn push_numbers(alloc: Global, text: &mut String, numbers: &[usize]) -> Result<(), AllocError> {
+    for (index, number) in numbers.iter().enumerate() {
+        text.push_str(if index == 0 { "" } else { " " })?;
+        let digits = format!(in alloc; "{number}")?;
+        text.push_str(digits.as_str())?;
     }
-    Ok(text)
+    Ok(())
 }
 
 /// Returns the text with the states of a rule at each offset of the argument. It is empty if the
 /// argument is too long. `AllocError` if out of memory.
-pub fn rule_states<G: FragmentGrammar>(
+pub fn states_text<G: FragmentGrammar>(
     alloc: Global,
     grammar: &G,
     rules: &DeclarativeMacro,
     step: &CallStep,
     index: usize,
 ) -> Result<String, AllocError> {
-    let argument = step.argument.iter().remaining();
-    if !are_shown(argument.flat_len()) || index >= rules.num_rules() {
-        return Ok(String::new(alloc));
+    let mut text = String::new(alloc);
+    let Some(states) = RuleStates::new(alloc, grammar, rules, step, index)? else {
+        return Ok(text);
+    };
+    for (offset, numbers) in states.by_offset(alloc)?.iter().enumerate() {
+        text.push_str(if offset == 0 { "" } else { "|" })?;
+        push_numbers(alloc, &mut text, numbers.as_slice())?;
     }
-    let pattern = rules.pattern(index);
-    let expected = expected_at_states(alloc, pattern)?;
-    let reached = reached_states(alloc, grammar, pattern, argument)?;
-    text_of(alloc, reached.as_slice(), expected.as_slice())
+    Ok(text)
 }

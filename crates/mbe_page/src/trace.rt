@@ -1,6 +1,7 @@
 // The steps of a run as JSON, an object in each line: the files first, and then each call.
 use crate::call_view::{CallView, call_view};
 use crate::page_data::{PageData, whole_data};
+use crate::trace_states::write_rules;
 use crate::trace_values::{
     separator, write_known_place, write_number, write_place, write_tokens, write_variables,
 };
@@ -190,6 +191,7 @@ fn write_call(
     write_places(alloc, json, shown, step, &view)?;
     write_rule(alloc, json, shown, &view)?;
     write_argument(alloc, json, step)?;
+    write_rules(alloc, json, shown, step, &view)?;
     write_expansion(alloc, json, shown, step, &view)?;
     json.write(alloc, &[Piece::Mark(",\"errors\":[")])?;
     write_errors(alloc, json, shown, step)?;
