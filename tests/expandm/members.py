@@ -4,8 +4,8 @@ import re
 
 from expandm import diagnostics
 
-# The members of an object, a child, a span, a line of text and a code, as rustc 1.95 writes them for a call that no rule matches and, of a
-# code, for an error that has one.
+# The members of an object, a child, a span, a line of text and a code, as rustc 1.95 writes them for a call that no rule matches. Those of a
+# code are from an error that has one.
 MEMBERS = {
     "diagnostic": ["$message_type", "message", "code", "level", "spans", "children", "rendered"],
     "child": ["message", "code", "level", "spans", "children", "rendered"],

@@ -154,9 +154,8 @@ STOPS = (
     ("m { ($($x:ident),* ; $y:ty) => {} }", "m!(a b);", ["b rule 1 stops here"], [", ;"]),
 )
 
-# A definition, a call, and for each rule the states that partial readings reach: the numbers of those at which something is expected, with a
-# `|` between two offsets. The states of `$($x:ident),* ;` are 0 before the repetition, 1 before `$x`, 2 after it, 3 before `;` and 4 at the
-# end.
+# A definition, a call, and for each rule the states that partial readings reach: the numbers of those at which something is expected. A `|` is
+# between two offsets. `$($x:ident),* ;` has state 0 before the repetition, 1 before `$x`, 2 after it, 3 before `;`, and 4 at the end.
 STATES = (
     ("m { ($($x:ident),* ;) => {} }", "m!(p ;);", ["1 3|2 3|4"]),
     ("m { ($($x:ident),* ;) => {} }", "m!(p, q);", ["1 3|2 3|1|2 3"]),

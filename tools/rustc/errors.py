@@ -2,18 +2,18 @@
 """Compares the errors about macros that `expandm` and rustc report of files that don't compile.
 
 A PATH is a Rust file or a folder of them, such as /usr/src/rustc-1.63.0/src/test/ui/macros of
-Debian's package rust-src. rustc reads each file by itself, in the edition of the file's line
-`// edition:YEAR`, else in 2015 below a folder `test`, else in 2021. A file that needs other
-files, options or a feature doesn't count.
+Debian's package rust-src. rustc reads each file by itself, in the edition that its line
+`// edition:YEAR` names. Without one it is 2015 below a folder `test`, and else 2021. A file that
+needs other files, options or a feature doesn't count.
 
 The script compares each error of rustc whose message is about macros by example. `expandm` runs
-with --lint. For each error it has
+with --lint. Each error is in one of these columns:
 
-- the same message at the same place, or
-- an error at the same place, or
-- an error in the same line, or
-- an error elsewhere, or
-- no error.
+    equal      the same message at the same place
+    place      an error at the same place
+    line       an error in the same line
+    elsewhere  an error in another line
+    none       no error
 
 The script prints a table with the messages, and with --list a line for each error that has no equal.
 """

@@ -128,7 +128,7 @@ fn shortened<A: Allocator + Copy>(
 }
 
 /// Renders a diagnostic with its children as `rendered` does, if it has no children, or if the text
-/// has at most `limit` lines without the empty line at its end. Else it shows the diagnostic, the
+/// has at most `limit` lines. The empty line at its end doesn't count. Else it shows the diagnostic, the
 /// first children, and a line with the number of the other lines and the hint. All of this has at
 /// most `limit` lines if the diagnostic itself is shorter. `AllocError` if out of memory.
 pub fn rendered_within<A: Allocator + Copy>(

@@ -289,8 +289,8 @@ impl Frames {
         Ok(())
     }
 
-    // Writes a line for each offset at which a rule expects something: the tokens of the argument
-    // from there up to the next one, and what the rule can expect.
+    // Writes a line for each offset at which a rule expects something. It has the tokens from there
+    // up to the next such offset, and what the rule can expect.
     fn offsets(
         &mut self,
         alloc: Global,

@@ -1,10 +1,10 @@
 // The states of a rule's pattern at each offset of a call's argument.
 //
-// A state is known by its number in the order of the pattern, from 0, as the boxes of a drawing
-// have it. States at which nothing is expected are left out. The states of `$($x:ident),* ;` are 0
-// before the repetition, 1 before `$x`, 2 after it, 3 before `;` and 4 at the end. In a match of
-// `p ;`, the states 1 and 3 are reached at offset 0, the states 2 and 3 at offset 1, and state 4 at
-// offset 2.
+// The states are counted in the order of the pattern, from 0, as for the boxes of a drawing. States
+// at which nothing is expected are left out. The pattern `$($x:ident),* ;` has state 0 before the
+// repetition, state 1 before `$x`, state 2 after it, state 3 before `;`, and state 4 at the end. A
+// match of `p ;` reaches the states 1 and 3 at offset 0, the states 2 and 3 at offset 1, and state 4
+// at offset 2.
 //
 // In a page, the states are a text: `1 3|2 3|4`. The script has a slider over the tokens of the
 // argument, and marks the states at the slider's offset.

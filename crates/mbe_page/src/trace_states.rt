@@ -1,5 +1,5 @@
-// Writes how the rules of a macro match a call, as JSON: what each rule expects at the states of
-// its pattern, and which states are reached at each offset of the argument.
+// Writes how the rules of a macro match a call, as JSON. A rule has what it expects at the states of
+// its pattern, and the states that are reached at each offset of the argument.
 use crate::call_view::CallView;
 use crate::page_data::PageData;
 use crate::rule_states::RuleStates;

@@ -223,8 +223,9 @@ selects explain.Failed call is_expanded = not is_expanded
 selects (explain.At file start end) call is_expanded =
     (call.file == file) && (not (nat_lt call.start start) && nat_lt call.start end)
 
--- The notes on a call: the explanation by each rule, if the call is to be explained. The first flag says whether the notes on rules are children, and the second one
--- whether the call is to be explained.
+-- The notes on a call: the explanation by each rule, if the call is to be explained. The first flag
+-- says whether the notes on rules are children, and the second one whether the call is to be
+-- explained.
 abbrev pub NotesRules : Setting → MacroCall → State → Delimiter × Forest → Bool → Bool → List Note
     → List Note → Type 0
 NotesRules e c s argument is_child false before after = after ≡ before

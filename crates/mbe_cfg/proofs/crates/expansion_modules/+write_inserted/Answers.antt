@@ -15,14 +15,18 @@ use Rattle.mbe_cfg.proofs.crates.expansion_modules.+write_inserted.Goals as goal
 pub returns-then-levels-eq0 : goal.returns-then-levels-eq0
 returns-then-levels-eq0 g t c =
     subst (λ f. OnOk c.extend_with_tt.result (c.extend_with_tt.new.self ≡ put f c.args.builder.now))
-    (sym (insertions_kept c.args.levels (map insertion_shown c.args.insertions.now) (trees c.args.tokens) c.if-levels-eq0.true)) c.extend_with_tt.ensures.ok
+    (sym (insertions_kept c.args.levels (map insertion_shown c.args.insertions.now)
+    (trees c.args.tokens) c.if-levels-eq0.true)) c.extend_with_tt.ensures.ok
 
 pub trees-init : goal.trees-init
 trees-init g t c =
     let some = c.if-levels-eq0.false in
     let left : 0 < c.args.levels = omega (arith, some) in
-    subst (λ f. InsertionsLeft c.args.levels (map insertion_shown c.args.insertions.now) (trees c.args.tokens) c.args.builder.now f c.args.builder.now)
-    (sym c.iter-rest.ensures) (insertions_begin c.args.levels (map insertion_shown c.args.insertions.now) (trees c.args.tokens) c.args.builder.now left)
+    subst (λ f. InsertionsLeft c.args.levels (map insertion_shown c.args.insertions.now)
+    (trees c.args.tokens) c.args.builder.now f c.args.builder.now)
+    (sym c.iter-rest.ensures)
+    (insertions_begin c.args.levels (map insertion_shown c.args.insertions.now)
+    (trees c.args.tokens) c.args.builder.now left)
 
 pub trees-smaller-in_ok-write_insertions-in-Leaf : goal.trees-smaller-in_ok-write_insertions-in-Leaf
 trees-smaller-in_ok-write_insertions-in-Leaf g t c =
@@ -82,5 +86,6 @@ trees-preserved g t c =
 
 pub returns : goal.returns
 returns g t c =
-    insertions_written c.args.levels (map insertion_shown c.args.insertions.now) (trees c.args.tokens) c.trees.rest c.args.builder.now c.trees.builder
+    insertions_written c.args.levels (map insertion_shown c.args.insertions.now)
+    (trees c.args.tokens) c.trees.rest c.args.builder.now c.trees.builder
     c.trees.invariant (sym c.in_default.ensures.value)

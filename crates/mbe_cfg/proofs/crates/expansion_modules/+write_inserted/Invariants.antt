@@ -9,7 +9,9 @@ abbrev pub decreases-write_inserted : goal.decreases-write_inserted
 decreases-write_inserted g l = l.levels
 
 abbrev pub invariant-trees : goal.invariant-trees
-invariant-trees g l = InsertionsLeft l.fn.levels (map insertion_shown l.fn.insertions) (trees l.fn.tokens) l.initial.builder l.rest l.builder
+invariant-trees g l =
+    InsertionsLeft l.fn.levels (map insertion_shown l.fn.insertions) (trees l.fn.tokens) l.initial.builder
+    l.rest l.builder
 
 abbrev pub decreases-trees : goal.decreases-trees
 decreases-trees g l = flat_len l.rest

@@ -8,7 +8,9 @@ loop-insertion-init g c = put-none c.args.builder.now
 
 pub write_insertion-requires : goal.write_insertion-requires
 write_insertion-requires g c =
-    record { some = still_open c.args.builder.now c.loop-insertion.builder _ c.requires.some c.loop-insertion.invariant }
+    record {
+      some = still_open c.args.builder.now c.loop-insertion.builder _ c.requires.some c.loop-insertion.invariant;
+    }
 
 pub loop-insertion-preserved : goal.loop-insertion-preserved
 loop-insertion-preserved g c =

@@ -62,7 +62,8 @@ pub inline_trees-returns : goal.inline_trees-returns
 inline_trees-returns g t c =
     all_written (map file_shown c.args.files.now) c.args.levels (inline_context_shown c.args.at) (trees c.args.tokens)
     c.args.builder.now (map unresolved_shown c.args.unresolved.now.items) c.fronts.most (cursor_shown c.fronts.cursor)
-    c.fronts.builder (map unresolved_shown c.fronts.unresolved.items) (no_steps (inlined (map file_shown c.args.files.now) c.args.levels) (map file_shown c.args.files.now)
+    c.fronts.builder (map unresolved_shown c.fronts.unresolved.items)
+    (no_steps (inlined (map file_shown c.args.files.now) c.args.levels) (map file_shown c.args.files.now)
     (inline_context_shown c.args.at) c.fronts.most (cursor_shown c.fronts.cursor)
     (omega (arith, c.fronts-test.false)))
     c.fronts.invariant
@@ -71,7 +72,8 @@ pub inline_trees-returns-then-is_empty : goal.inline_trees-returns-then-is_empty
 inline_trees-returns-then-is_empty g t c =
     all_written (map file_shown c.args.files.now) c.args.levels (inline_context_shown c.args.at) (trees c.args.tokens)
     c.args.builder.now (map unresolved_shown c.args.unresolved.now.items) c.fronts.most (cursor_shown c.fronts.cursor)
-    c.fronts.builder (map unresolved_shown c.fronts.unresolved.items) (no_trees (inlined (map file_shown c.args.files.now) c.args.levels) (map file_shown c.args.files.now)
+    c.fronts.builder (map unresolved_shown c.fronts.unresolved.items)
+    (no_trees (inlined (map file_shown c.args.files.now) c.args.levels) (map file_shown c.args.files.now)
     (inline_context_shown c.args.at) c.fronts.most (cursor_shown c.fronts.cursor)
     (sym c.if-is_empty.ensures))
     c.fronts.invariant

@@ -13,7 +13,8 @@ returns-clause-notes g c =
     let on : selects c.args.self.now.settings.explain c.args.call.start c.args.is_expanded ≡ true = search rules in
     let said : after ≡ before ++ explanation_notes (call_shown c.args.call).name.sym is_child found =
     c.in_ok-note_explanations.ensures
-    ∙ ap (λ n. before ++ explanation_notes n is_child (map explanation_seen c.as_slice.result.now)) c.as_str-name.ensures
+    ∙ ap (λ n. before ++ explanation_notes n is_child (map explanation_seen c.as_slice.result.now))
+    c.as_str-name.ensures
     ∙ ap (λ xs. before ++ explanation_notes (call_shown c.args.call).name.sym is_child (map explanation_seen xs))
     c.as_slice.ensures.value in
     subst (λ b. NotesRules (setting_of c.args.self.now) (call_shown c.args.call) (state_of c.args.self.now)
