@@ -1,10 +1,13 @@
 #!/usr/bin/env python3
 """Compares the errors about macros that `expandm` and rustc report of files that don't compile.
 
-A PATH is a Rust file or a folder of them, such as /usr/src/rustc-1.63.0/src/test/ui/macros of
-Debian's package rust-src. rustc reads each file by itself, in the edition that its line
-`// edition:YEAR` names. Without one it is 2015 below a folder `test`, and else 2021. A file that
-needs other files, options or a feature doesn't count.
+A PATH is a Rust file or a folder of them. Debian's package rust-src has rustc's own tests, such as
+
+    /usr/src/rustc-1.63.0/src/test/ui/macros
+
+rustc reads each file by itself, in the edition that its line `// edition:YEAR` names. Without one
+it is 2015 below a folder `test`, and else 2021. A file that needs other files, options or a feature
+doesn't count.
 
 The script compares each error of rustc whose message is about macros by example. `expandm` runs
 with --lint. Each error is in one of these columns:
