@@ -206,7 +206,7 @@ pub fn copy_up_to<'t, A: Allocator + Copy>(
 
 // Returns a number of flat tokens: no front of these trees with more flat tokens is disabled. The
 // number `known` is one. If it doesn't say whether the first front is disabled, the attributes there
-// are evaluated. So each attribute of a run is evaluated once, and not for each one before it.
+// are evaluated. So a run of attributes that hold isn't evaluated again from each of them on.
 fn enabled_to<A: Allocator>(
     settings: &CfgOptions<'_>,
     tokens: TokenTreesView<'_, A>,
