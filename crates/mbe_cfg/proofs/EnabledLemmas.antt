@@ -98,7 +98,7 @@ brackets_known : (s : CfgOptions) (n : ℕ) (f : Forest) (g : Group) (a : Option
 brackets_known s n f g None e is known = absurd cc
 brackets_known s n f g (Some after) e is known =
     let begun : IsEnabledTo s n after = subst (IsEnabledTo s n) (sym (after_char_rest 35 f after (sym e)))
-        (rest_known s n f known) in
+    (rest_known s n f known) in
     let at = unwrap_or (after_char 33 after) after in
     subst (IsEnabledTo s n) (sym (group_at_rest Bracket at g is))
     (rest_known s n at (bang_known s n after (after_char 33 after) refl begun))
@@ -117,8 +117,13 @@ brackets_shorter : (f : Forest) (g : Group) (a : Option Forest) → a ≡ after_
 brackets_shorter f g None e is = absurd cc
 brackets_shorter f g (Some after) e is =
     let at = unwrap_or (after_char 33 after) after in
-    omega (arith, after_char_shorter 35 f after (sym e), bang_shorter after (after_char 33 after) refl,
-    rest_shorter at, ap flat_len (group_at_rest Bracket at g is))
+    omega (
+      arith,
+      after_char_shorter 35 f after (sym e),
+      bang_shorter after (after_char 33 after) refl,
+      rest_shorter at,
+      ap flat_len (group_at_rest Bracket at g is),
+    )
 
 attribute_shorter : (f : Forest) (g : Group) → attribute_group f ≡ Some g → flat_len g.rest < flat_len f
 attribute_shorter f g e = brackets_shorter f g (after_char 35 f) refl e
@@ -133,7 +138,7 @@ no_attributes s (suc n) f e = ap (go_on (attribute s DEPTH) (attributes s n) tru
 no_hash : (s : CfgOptions) (f : Forest) → after_char 35 f ≡ None → is_disabled s f ≡ false
 no_hash s f e =
     let inner : inner_attribute f ≡ None
-        = ap (λ a. option_and_then (group_at Bracket) (option_and_then (after_char 33) a)) e in
+    = ap (λ a. option_and_then (group_at Bracket) (option_and_then (after_char 33) a)) e in
     let outer : attribute_group f ≡ None = ap (option_and_then with_bang) e in
     ap (λ i. is_disabled_by (is_enabled_by s f i)) inner
     ∙ ap (λ r. is_disabled_by (holds_in r)) (no_attributes s (flat_len f) f outer)
@@ -249,7 +254,7 @@ bang_before s n after g None e is known =
     (subst (IsEnabledTo s n) (group_at_rest Bracket after g is) known)
 bang_before s n after g (Some r) e is known =
     let last : IsEnabledTo s n r = known_with s n r (no_hash s r (group_no_char 35 Bracket r g is))
-        (subst (IsEnabledTo s n) (group_at_rest Bracket r g is) known) in
+    (subst (IsEnabledTo s n) (group_at_rest Bracket r g is) known) in
     known_with s n after (no_hash s after (bang_no_hash after r (sym e)))
     (subst (IsEnabledTo s n) (after_char_rest 33 after r (sym e)) last)
 

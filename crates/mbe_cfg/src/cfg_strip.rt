@@ -205,8 +205,8 @@ pub fn copy_up_to<'t, A: Allocator + Copy>(
 }
 
 // Returns a number of flat tokens: no front of these trees with more flat tokens is disabled. The
-// number `known` is one. If it doesn't say whether the first front is disabled, the attributes there
-// are evaluated. So a run of attributes that hold isn't evaluated again from each of them on.
+// number `known` is one. If it doesn't say whether the first front is disabled, the attributes
+// there are evaluated. So a run of attributes that hold isn't evaluated again from each of them on.
 fn enabled_to<A: Allocator>(
     settings: &CfgOptions<'_>,
     tokens: TokenTreesView<'_, A>,
@@ -448,9 +448,7 @@ fn strip_trees<A: Allocator + Copy, G: FragmentGrammar>(
         }
         known = enabled_to(settings, rest, known);
         let is_known = is_known_tree(rest, known);
-        rest = strip_front(
-            settings, grammar, faults, builder, rest, known, levels,
-        )?;
+        rest = strip_front(settings, grammar, faults, builder, rest, known, levels)?;
         known = known_after(is_known, known, rest);
     }
     Ok(())

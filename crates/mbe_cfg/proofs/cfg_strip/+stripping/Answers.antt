@@ -50,9 +50,10 @@ strip_inside-returns-then-levels-eq0-clause-kept g t c =
     c.extend_with_tt.ensures.ok
 
 pub strip_trees-fronts-init : goal.strip_trees-fronts-init
-strip_trees-fronts-init g t c =
-    (search rules,
-    unknown c.args.settings.now c.flat_len-known.result (trees c.args.tokens) c.flat_len-known.ensures)
+strip_trees-fronts-init g t c = (
+  search rules,
+  unknown c.args.settings.now c.flat_len-known.result (trees c.args.tokens) c.flat_len-known.ensures,
+)
 
 pub strip_trees-fronts-preserved : goal.strip_trees-fronts-preserved
 strip_trees-fronts-preserved g t c =
