@@ -333,23 +333,24 @@ def reported(program, words, text):
     return program.run(words.split(), {"a.rs": text}).err
 
 
-def part(level, message, place, line, column):
-    """A diagnostic on one character, in rustc's form with line numbers of two digits."""
+def part(level, message, line, column, width):
+    """A diagnostic on so many characters of `TWENTY`, in rustc's form with line numbers of two digits."""
     text = TWENTY.split("\n")[line - 1]
-    return f"{level}: {message}\n  --> a.rs:{place}\n   |\n{line:2} | {text}\n   | {'^':>{column}}\n"
+    carets = " " * (column - 1) + "^" * width
+    return f"{level}: {message}\n  --> a.rs:{line}:{column}\n   |\n{line:2} | {text}\n   | {carets}\n"
 
 
 def rule_of_twenty(number):
     """The notes on a rule of `TWENTY`."""
     rule = f"rule {number} of `m!`"
     token, column, stop = ("c", 10, 8) if number == 13 else (f"r{number}", 8, 6)
-    line = number + 1
-    return part("note", f"{rule} stops here; expected `{token}`", f"23:{stop}", 23, stop) + part("note", f"`{token}` in {rule}", f"{line}:{column}", line, column)
+    stops = part("note", f"{rule} stops here; expected `{token}`", 23, stop, 1)
+    return stops + part("note", f"`{token}` in {rule}", number + 1, column, len(token))
 
 
 def check_closest_first(program):
     """The closest rule is first, and then the others in order. `--explain` shows the first five rules, and `--explain=all` shows all."""
-    error = part("error", "no rules expected `d`", "23:8", 23, 8) + "   |\n"
+    error = part("error", "no rules expected `d`", 23, 8, 1) + "   |\n"
     notes = [rule_of_twenty(number) for number in CLOSEST_FIRST]
     end = "\n1 error; 0 of 1 call expanded\n"
     cut = "... 150 more lines; `--explain=all` shows them\n"

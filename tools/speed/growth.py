@@ -197,7 +197,7 @@ ROWS = [
     Row("text that isn't Rust", lambda n: joined("fn f@() {}", n) + '"'),
     Row("lints", mistaken, ("--lint",)),
     Row("lints of rules in a line", rules_in_a_line, ("--lint",)),
-    Row("explained rules in a line", rules_in_a_line, ("--explain",), most=120, limit=PRODUCT),
+    Row("explained rules in a line", rules_in_a_line, ("--explain=all",), most=120, limit=PRODUCT),
     Row("explained optional parts on words", optional, ("--explain=2",), most=60, limit=PRODUCT),
 ]
 

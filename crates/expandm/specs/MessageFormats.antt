@@ -5,8 +5,8 @@ use Rattle.mbe_session.specs.declared.emitter.MessageFormat.TheVariants.{Text, C
 use Rattle.mbe_session.specs.declared.emitter.MessageFormat.TheVariants.{Json}
 
 -- The form of a run's diagnostics. It is JSON if that is asked for. Else it is rustc's style in a
--- terminal, and where calls are explained or definitions are linted. The brief form limits the lines
--- of each diagnostic. `None` is the short form.
+-- terminal, and where calls are explained or definitions are linted. The brief form limits the
+-- lines of each diagnostic. `None` is the short form.
 abbrev pub format_for : (is_json is_brief is_explained is_terminal is_colourless : Bool)
     → Option MessageFormat
 format_for true is_brief is_explained is_terminal is_colourless = Some Json

@@ -1,6 +1,6 @@
 -- The text of a diagnostic in a limited number of lines.
-use Rattle.std.specs.Prelude.{ℕ, ◌==◌, ◌+◌, ◌-◌, ◌^◌, nat_le, nat_lt, min, if◌then◌else◌, Bool, true}
-use Rattle.std.specs.Prelude.{List, [], ◌∷◌, ◌++◌, codes, take, drop, Option, Some, None}
+use Rattle.std.specs.Prelude.{ℕ, ◌==◌, ◌+◌, ◌-◌, ◌^◌, nat_le, nat_lt, min, if◌then◌else◌, Bool}
+use Rattle.std.specs.Prelude.{true, List, [], ◌∷◌, ◌++◌, codes, take, drop, Option, Some, None}
 use Rattle.std.specs.Fmt.{decimal}
 use Rattle.mbe_diagnostics.specs.declared.diagnostic.Diagnostic.{Diagnostic}
 use Rattle.mbe_diagnostics.specs.declared.diagnostic.FilePart.{FilePart}

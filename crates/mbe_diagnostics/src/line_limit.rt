@@ -12,8 +12,7 @@ use std::alloc::{AllocError, Allocator};
 
 // Returns the number of line feeds of a text.
 fn line_feeds(bytes: &[u8]) -> usize
-    ensures count { result ≡ spec.line_feeds bytes.now }
-    ensures few { result ≤ length bytes.now }
+    ensures { result ≡ spec.line_feeds bytes.now }
 {
     let mut count = 0usize;
     for byte in bytes {
@@ -78,8 +77,8 @@ fn fitting(limit: usize, lines: usize, children: &[Diagnostic<'_>]) -> usize
     count
 }
 
-// Whether the text of a diagnostic is shown whole: if it has no children, or if its children fit into
-// `limit` lines, after `lines` others.
+// Whether the text of a diagnostic is shown whole: if it has no children, or if its children fit
+// into `limit` lines, after `lines` others.
 fn is_whole(limit: usize, lines: usize, children: &[Diagnostic<'_>]) -> bool
     ensures { result ≡ spec.is_whole limit lines children.now }
 {

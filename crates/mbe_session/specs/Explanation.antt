@@ -21,8 +21,8 @@ use Rattle.mbe_diagnostics.specs.Outcome.{named_parts, message_text}
 use Rattle.mbe_diagnostics.specs.SpanAt.{span_at}
 use Rattle.mbe_session.specs.CallExpansion.{Setting, State, called_macro}
 use Rattle.mbe_session.specs.declared.explanation.RuleExplanation as code
-use Rattle.mbe_session.specs.declared.explanation.RuleChoice.{RuleChoice}
-use Rattle.mbe_session.specs.declared.explanation.RuleChoice.TheVariants as choice
+use Rattle.mbe_session.specs.declared.explanation.NotedRules.{NotedRules}
+use Rattle.mbe_session.specs.declared.explanation.NotedRules.TheVariants as noted
 use Rattle.mbe_session.specs.declared.notes.Level.{Level}
 use Rattle.mbe_session.specs.declared.notes.Level.TheVariants as level
 use Rattle.mbe_session.specs.declared.notes.Note as declared
@@ -170,17 +170,17 @@ abbrev pub next_number : ℕ → ℕ
 next_number n = min (n + 1) (2 ^ 64 - 1)
 
 -- Whether the rule with that number is chosen.
-abbrev pub is_chosen : RuleChoice → ℕ → Bool
-is_chosen (choice.Only rule) number = number == rule
-is_chosen (choice.Except rule) number = not (number == rule)
+abbrev pub is_chosen : NotedRules → ℕ → Bool
+is_chosen (noted.Only rule) number = number == rule
+is_chosen (noted.Except rule) number = not (number == rule)
 
 -- The notes of the rule with that number, if it is chosen.
-abbrev pub chosen_notes : List ℕ → Bool → RuleChoice → ℕ → RuleExplanation → List Note
+abbrev pub chosen_notes : List ℕ → Bool → NotedRules → ℕ → RuleExplanation → List Note
 chosen_notes name is_child chosen number s =
     if is_chosen chosen number then rule_notes (rule_name number name) is_child s else []
 
 -- The notes of the chosen rules, in order. The first rule has that number.
-abbrev pub rules_notes : List ℕ → Bool → RuleChoice → ℕ → List RuleExplanation → List Note
+abbrev pub rules_notes : List ℕ → Bool → NotedRules → ℕ → List RuleExplanation → List Note
 rules_notes name is_child chosen number [] = []
 rules_notes name is_child chosen number (s ∷ ss) =
     chosen_notes name is_child chosen number s
@@ -199,9 +199,9 @@ reach (stuck q) = q
 abbrev pub closest_from : (number closest furthest : ℕ) → List RuleExplanation → ℕ
 closest_from number closest furthest [] = closest
 closest_from number closest furthest (s ∷ ss) =
-    let reached = reach s.outcome.verdict in
-    closest_from (next_number number) (if nat_lt furthest reached then number else closest)
-    (max furthest reached) ss
+    closest_from (next_number number)
+    (if nat_lt furthest (reach s.outcome.verdict) then number else closest)
+    (max furthest (reach s.outcome.verdict)) ss
 
 -- The number of the closest rule of a macro. It is 1 if no rule reaches further than the start.
 abbrev pub closest_rule : List RuleExplanation → ℕ
@@ -212,8 +212,8 @@ closest_rule ss = closest_from 1 1 0 ss
 abbrev pub explanation_notes : List ℕ → Bool → List RuleExplanation → List Note
 explanation_notes name is_child ss =
     let first = if is_child then closest_rule ss else 0 in
-    rules_notes name is_child (choice.Only first) 1 ss
-    ++ rules_notes name is_child (choice.Except first) 1 ss
+    rules_notes name is_child (noted.Only first) 1 ss
+    ++ rules_notes name is_child (noted.Except first) 1 ss
 
 -- ---- which calls are explained
 

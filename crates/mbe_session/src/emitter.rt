@@ -35,8 +35,8 @@ pub enum MessageFormat {
     Text,
     /// Text in rustc's style, in colours.
     Colours,
-    /// Text in rustc's style. Each diagnostic has at most `MOST_LINES` lines, and a line says what
-    /// isn't shown.
+    /// Text in rustc's style. Each diagnostic has at most 60 lines, and the last one says how many
+    /// others there are.
     Brief { is_coloured: bool },
     /// JSON as by rustc's `--error-format=json`, one object a line.
     Json,
@@ -44,9 +44,6 @@ pub enum MessageFormat {
 
 // How many lines of a diagnostic the brief form shows.
 const MOST_LINES: usize = 60;
-
-// How `expandm` shows the other lines.
-const ALL_LINES: &str = "`--explain=all` shows them";
 
 /// Returns an error that belongs to no file. `AllocError` if out of memory.
 pub fn error_text(
@@ -218,7 +215,8 @@ fn written(
         MessageFormat::Text => rendered(alloc, diag, children, false),
         MessageFormat::Colours => rendered(alloc, diag, children, true),
         MessageFormat::Brief { is_coloured } => {
-            rendered_within(alloc, MOST_LINES, ALL_LINES, diag, children, is_coloured)
+            let hint = "`--explain=all` shows them";
+            rendered_within(alloc, MOST_LINES, hint, diag, children, is_coloured)
         }
         MessageFormat::Json => {
             let object = json_line(alloc, diag, children)?;

@@ -44,9 +44,9 @@ pub struct RuleExplanation<A: Allocator = Global> {
     pub matched: Vec<BindingText<A>, A>,
 }
 
-/// A choice of rules by their numbers.
+/// The rules that are noted, by their numbers.
 #[derive(Clone, Copy, Drop)]
-pub(crate) enum RuleChoice {
+pub enum NotedRules {
     /// The rule with that number.
     Only(usize),
     /// All rules except that one.
@@ -251,12 +251,12 @@ fn note_rule<A: Allocator + Copy>(
 }
 
 // Whether the rule with that number is chosen.
-fn is_chosen(chosen: RuleChoice, number: usize) -> bool
+fn is_chosen(chosen: NotedRules, number: usize) -> bool
     ensures { result ≡ spec.is_chosen chosen number }
 {
     match chosen {
-        RuleChoice::Only(rule) => number == rule,
-        RuleChoice::Except(rule) => number != rule,
+        NotedRules::Only(rule) => number == rule,
+        NotedRules::Except(rule) => number != rule,
     }
 }
 
@@ -266,7 +266,7 @@ fn note_chosen<A: Allocator + Copy>(
     notes: &mut Vec<Note<A>, A>,
     name: &str,
     is_child: bool,
-    chosen: RuleChoice,
+    chosen: NotedRules,
     number: usize,
     explanation: &RuleExplanation<A>,
 ) -> Result<(), AllocError>
@@ -287,7 +287,7 @@ fn note_rules<A: Allocator + Copy>(
     notes: &mut Vec<Note<A>, A>,
     name: &str,
     is_child: bool,
-    chosen: RuleChoice,
+    chosen: NotedRules,
     number: usize,
     explanations: &[RuleExplanation<A>],
 ) -> Result<(), AllocError>
@@ -372,9 +372,9 @@ fn note_explanations<A: Allocator + Copy>(
         ++ spec.explanation_notes name.now is_child (map explanation_seen explanations.now)) }
 {
     let first = first_rule(is_child, explanations);
-    let only = RuleChoice::Only(first);
+    let only = NotedRules::Only(first);
     note_rules(alloc, notes, name, is_child, only, 1, explanations)?;
-    let others = RuleChoice::Except(first);
+    let others = NotedRules::Except(first);
     note_rules(alloc, notes, name, is_child, others, 1, explanations)
 }
 
