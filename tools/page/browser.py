@@ -138,9 +138,9 @@ class Browser:
             self.call("Input.dispatchKeyEvent", type=kind, key=key, code=key,
                       windowsVirtualKeyCode=code, **more)
 
-    def picture(self, path, whole=False):
-        """Writes what the window shows, or the whole page, as a PNG."""
-        how = {}
+    def picture(self, path, whole=False, clip=None):
+        """Writes what the window shows, the whole page, or a part of the page, as a PNG."""
+        how = {"captureBeyondViewport": True, "clip": clip} if clip else {}
         if whole:
             size = self.call("Page.getLayoutMetrics")["cssContentSize"]
             how = {"captureBeyondViewport": True,
