@@ -18,7 +18,8 @@ with --lint. Each error is in one of these columns:
     elsewhere  an error in another line
     none       no error
 
-The script prints a table with the messages, and with --list a line for each error that has no equal.
+The script prints a table with the messages, and with --list a line for each error that has no
+equal. It fails if fewer than 75 in 100 errors are equal.
 """
 import collections
 import json
@@ -119,6 +120,8 @@ def agreement(error, ours):
     return "none", ""
 
 
+# How many errors of a hundred must be equal.
+LEAST = 75
 AGREEMENTS = ["equal", "place", "line", "elsewhere", "none"]
 
 
@@ -157,7 +160,9 @@ def main():
              sorted(counts.items(), key=lambda it: -sum(it[1].values()))]
     total = [sum(count[it] for count in counts.values()) for it in AGREEMENTS]
     common.print_table(("rustc's error", *AGREEMENTS), [*table, ("all", *total)])
+    wanted = -(-sum(total) * LEAST // 100)
+    return common.finish(total[0], max(0, wanted - total[0]))
 
 
 if __name__ == "__main__":
-    main()
+    sys.exit(main())

@@ -3,12 +3,12 @@ ghost use Rattle.std.specs.Prelude.{◌≡◌};
 ghost use Rattle.expandm.specs.MessageFormats.{format_for};
 
 use crate::command_line::{Invocation, RunOptions, RunOutput, parse_arguments};
-use crate::input::{limit_notes, read_files};
+use crate::input::read_files;
 use crate::output::write_output;
 use crate::progress::ProgressLine;
 use crate::reporter::{Reporter, log_conflict, write_collected};
 use crate::reports::{EXIT_FAILED, EXIT_OK, emit_notes, fail};
-use mbe_files::file_reader::FileReader;
+use mbe_files::file_reader::{FileReader, limit_notes};
 use mbe_files::output_paths::file_name;
 use mbe_files::package::{PackagePlan, edition_notes, plan_packages};
 use mbe_session::emitter::{MessageFormat, note_text};

@@ -2,10 +2,8 @@
 // files of modules.
 use crate::command_line::RunOutput;
 use crate::progress::ProgressLine;
-use mbe_files::file_reader::{FileReader, MAX_FILES, MAX_ROUNDS, file_text};
-use mbe_session::file_set::FileSet;
+use mbe_files::file_reader::{FileReader, MAX_FILES, file_text, rounds_note};
 use mbe_session::session_options::SessionOptions;
-use std::alloc::{AllocError, Global};
 use std::io::{self, Read};
 use std::rt::Files;
 
@@ -79,23 +77,9 @@ fn follow_calls<R: Files + AllocGlobal>(
     reader: &mut FileReader,
 ) -> io::Result<()> {
     if !reader.follow_calls(rt, options)? {
-        let note = format!(in rt.alloc();
-            "modules of calls are looked for in {MAX_ROUNDS} rounds only"
-        )?;
-        reader.notes.push(note)?;
+        reader.notes.push(rounds_note(rt.alloc())?)?;
     }
     Ok(())
-}
-
-/// Returns a note if there are files that weren't searched for modules.
-pub fn limit_notes(alloc: Global, files: &FileSet) -> Result<Vec<String>, AllocError> {
-    let mut notes = Vec::new(alloc);
-    if files.texts.len() > MAX_FILES {
-        notes.push(format!(in alloc;
-            "modules are looked for only in the first {MAX_FILES} files"
-        )?)?;
-    }
-    Ok(notes)
 }
 
 /// Reads the files that the arguments name, the roots of external crates, and the files of modules,

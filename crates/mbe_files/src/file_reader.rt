@@ -28,6 +28,24 @@ pub fn file_text<R: Files + AllocGlobal>(rt: &R, path: &str) -> io::Result<Strin
     Ok(text)
 }
 
+/// Returns a note if there are files that weren't searched for modules. `AllocError` if out of
+/// memory.
+pub fn limit_notes(alloc: Global, files: &FileSet) -> Result<Vec<String>, AllocError> {
+    let mut notes = Vec::new(alloc);
+    if files.texts.len() > MAX_FILES {
+        notes.push(format!(in alloc;
+            "modules are looked for only in the first {MAX_FILES} files"
+        )?)?;
+    }
+    Ok(notes)
+}
+
+/// Returns the note on the limit of rounds in which calls are expanded to find modules.
+/// `AllocError` if out of memory.
+pub fn rounds_note(alloc: Global) -> Result<String, AllocError> {
+    format!(in alloc; "modules of calls are looked for in {MAX_ROUNDS} rounds only")
+}
+
 // Where a file of the set comes from.
 #[derive(Drop)]
 struct ReachedFile {
@@ -37,14 +55,14 @@ struct ReachedFile {
     parent: Option<usize>,
 }
 
-// A file that may be added to the set: of a module, or of an `include!`.
+/// A file that may be added to the set: of a module, or of an `include!`.
 #[derive(Clone, Copy, Drop)]
-struct NamedFile<'n> {
-    path: &'n str,
-    // The module's name if its own modules are looked for in the folder of that name.
-    name: Option<&'n str>,
-    // The number of the file that names it.
-    parent: usize,
+pub struct NamedFile<'n> {
+    pub path: &'n str,
+    /// The module's name if its own modules are looked for in the folder of that name.
+    pub name: Option<&'n str>,
+    /// The number of the file that names it.
+    pub parent: usize,
 }
 
 /// Reads the files of crates into a set: the roots, and then the files of their modules.
@@ -58,6 +76,8 @@ pub struct FileReader {
     reached: Vec<ReachedFile>,
     by_path: BTreeMap<String, usize>,
     by_whole: BTreeMap<String, usize>,
+    // The notes that `add_note` added, with their numbers.
+    noted: BTreeMap<String, usize>,
 }
 
 // Returns the canonical path of a file; the path itself if the file has none.
@@ -87,14 +107,20 @@ impl FileReader {
                 }
             }
         }
-        Ok(Ok(FileReader {
+        Ok(Ok(FileReader::below(alloc, wholes)))
+    }
+
+    // Returns a reader that has read nothing, with the canonical paths of its folders.
+    fn below(alloc: Global, folders: Vec<String>) -> FileReader {
+        FileReader {
             files: FileSet::new(alloc),
             notes: Vec::new(alloc),
-            folders: wholes,
+            folders,
             reached: Vec::new(alloc),
             by_path: BTreeMap::new(alloc),
             by_whole: BTreeMap::new(alloc),
-        }))
+            noted: BTreeMap::new(alloc),
+        }
     }
 
     // Records where the next file of the set comes from.
@@ -122,9 +148,64 @@ impl FileReader {
         text: String,
     ) -> io::Result<()> {
         let whole = whole_path(rt, path)?;
-        self.record(rt.alloc(), path, whole, None)?;
-        self.files.add_root(rt.alloc(), options, path, text)?;
+        self.add_root_text(rt.alloc(), options, path, whole, text)?;
         Ok(())
+    }
+
+    /// Adds the root of a crate, with its canonical path and its text.
+    pub fn add_root_text(
+        &mut self,
+        alloc: Global,
+        options: &SessionOptions<'_>,
+        path: &str,
+        whole: String,
+        text: String,
+    ) -> Result<(), AllocError> {
+        self.record(alloc, path, whole, None)?;
+        self.files.add_root(alloc, options, path, text)
+    }
+
+    /// Adds the file of a module, with its canonical path and its text. A file that is reached from
+    /// itself is noted instead.
+    pub fn add_module_text(
+        &mut self,
+        alloc: Global,
+        file: NamedFile<'_>,
+        whole: String,
+        text: String,
+    ) -> Result<(), AllocError> {
+        if self.is_circular(alloc, file, whole.as_str())? {
+            return Ok(());
+        }
+        let root = self.files.roots.get(file.parent).copied().unwrap_or(0);
+        self.record(alloc, file.path, whole, Some(file.parent))?;
+        self.files
+            .add_module(alloc, root, file.path, file.name, text)
+    }
+
+    /// Whether a file with that path is there.
+    pub fn has(&self, path: &str) -> bool {
+        self.by_path.contains_key(path)
+    }
+
+    // Whether a file is reached from itself, which is noted.
+    fn is_circular(
+        &mut self,
+        alloc: Global,
+        file: NamedFile<'_>,
+        whole: &str,
+    ) -> Result<bool, AllocError> {
+        let path = file.path;
+        let Some(around) = self.around(file.parent, whole) else {
+            return Ok(false);
+        };
+        let Some(named) = self.files.texts.get(around) else {
+            return Ok(false);
+        };
+        let name = named.name.as_str();
+        let note = format!(in alloc; "circular: `{path}` is `{name}`, which it is reached from")?;
+        self.add_note(alloc, note)?;
+        Ok(true)
     }
 
     /// Adds the root file of an external crate. `path` names that file, or a folder that has it as
@@ -191,21 +272,21 @@ impl FileReader {
     }
 
     // Adds a note, unless it is there already: a file may be looked for in several rounds.
-    fn add_note(&mut self, note: String) -> Result<(), AllocError> {
-        if !self
-            .notes
-            .iter()
-            .any(|other| other.as_str() == note.as_str())
-        {
-            self.notes.push(note)?;
+    fn add_note(&mut self, alloc: Global, note: String) -> Result<(), AllocError> {
+        if self.noted.contains_key(note.as_str()) {
+            return Ok(());
         }
+        let number = self.notes.len();
+        self.noted
+            .insert(String::from_str(alloc, note.as_str())?, number)?;
+        self.notes.push(note)?;
         Ok(())
     }
 
     // Adds a file, if it can be read, isn't there yet, and isn't reached from itself.
     fn add_file<R: Files + AllocGlobal>(&mut self, rt: &R, file: NamedFile<'_>) -> io::Result<()> {
         let (path, alloc) = (file.path, rt.alloc());
-        if self.by_path.contains_key(path) || !fs::exists(rt, path).unwrap_or(false) {
+        if self.has(path) || !fs::exists(rt, path).unwrap_or(false) {
             return Ok(());
         }
         let whole = whole_path(rt, path)?;
@@ -213,25 +294,12 @@ impl FileReader {
             let note = format!(in alloc;
                 "`{path}` isn't read: it isn't below a folder of `--root`"
             )?;
-            self.add_note(note)?;
+            self.add_note(alloc, note)?;
             return Ok(());
         }
         let known = self.by_whole.get(whole.as_str()).copied();
-        if known.is_some()
-            && let Some(around) = self.around(file.parent, whole.as_str())
-            && let Some(named) = self.files.texts.get(around)
-        {
-            let name = named.name.as_str();
-            let note = format!(in alloc;
-                "circular: `{path}` is `{name}`, which it is reached from"
-            )?;
-            self.add_note(note)?;
-            return Ok(());
-        }
         if let Some(text) = self.text_once(rt, known, path)? {
-            let root = self.files.roots.get(file.parent).copied().unwrap_or(0);
-            self.record(alloc, path, whole, Some(file.parent))?;
-            self.files.add_module(alloc, root, path, file.name, text)?;
+            self.add_module_text(alloc, file, whole, text)?;
         }
         Ok(())
     }

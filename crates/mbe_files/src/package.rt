@@ -91,8 +91,9 @@ fn add_cfgs<'c>(cfgs: &mut Vec<Cfg<'c>>, options: &'c [CfgOption<'c>]) -> Result
     Ok(())
 }
 
-// Returns for each target its options for `cfg`, with those that `--cfg` gives.
-fn cfg_tables<'c>(
+/// Returns for each target its options for `cfg`, with those that `options` give. `AllocError` if
+/// out of memory.
+pub fn cfg_tables<'c>(
     alloc: Global,
     options: &'c SessionOptions<'_>,
     triples: &[&str],
@@ -109,8 +110,9 @@ fn cfg_tables<'c>(
     Ok(tables)
 }
 
-// Returns the platforms that are known.
-fn platforms_of<'c>(
+/// Returns the platforms that are known, from the tables of `cfg_tables`. `AllocError` if out of
+/// memory.
+pub fn platforms_of<'c>(
     alloc: Global,
     triples: &'c [&'c str],
     tables: &'c [Vec<Cfg<'c>>],
@@ -161,19 +163,6 @@ fn plans_of<'r, R: Env + Files + AllocGlobal + Clone + Drop>(
     read_plans(rt, request, folder)
 }
 
-// Returns the plan with its notes as texts.
-fn with_notes(alloc: Global, folder: &str, plan: Plan) -> Result<PackagePlan, AllocError> {
-    let mut notes = Vec::new(alloc);
-    for problem in plan.notes.iter() {
-        notes.push(problem_text(alloc, folder, problem)?)?;
-    }
-    Ok(PackagePlan {
-        plan,
-        folder: String::from_str(alloc, folder)?,
-        notes,
-    })
-}
-
 /// Plans the targets of the packages that `package` names, or of the package of the current folder,
 /// with the features and the `cfg` options of `options`. The inner error is a message.
 pub fn plan_packages<R: Env + Files + AllocGlobal + Clone + Drop>(
@@ -196,7 +185,7 @@ pub fn plan_packages<R: Env + Files + AllocGlobal + Clone + Drop>(
     };
     let mut found = Vec::new(alloc);
     for plan in plans {
-        found.push(with_notes(alloc, folder, plan)?)?;
+        found.push(PackagePlan::of(alloc, folder, plan)?)?;
     }
     Ok(Ok(found))
 }
@@ -271,6 +260,20 @@ pub fn edition_notes(
 }
 
 impl PackagePlan {
+    /// Returns the plan of a target, with its notes as texts. Paths are shown as seen from `folder`.
+    /// `AllocError` if out of memory.
+    pub fn of(alloc: Global, folder: &str, plan: Plan) -> Result<PackagePlan, AllocError> {
+        let mut notes = Vec::new(alloc);
+        for problem in plan.notes.iter() {
+            notes.push(problem_text(alloc, folder, problem)?)?;
+        }
+        Ok(PackagePlan {
+            plan,
+            folder: String::from_str(alloc, folder)?,
+            notes,
+        })
+    }
+
     // Adds crate `number` to the external crates. A name that another one has is noted.
     fn add_extern<'p>(
         &'p self,

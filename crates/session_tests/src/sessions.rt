@@ -127,14 +127,14 @@ fn is_first(
     message: &str,
 ) -> Result<bool, AllocError> {
     let diagnostics = session.diagnostics(alloc)?;
-    Ok(match diagnostics.first() {
-        Some(first) => {
-            first.start.line == number(line)
-                && first.start.column == number(column)
-                && first.message == message
-        }
-        None => false,
-    })
+    let Some(first) = diagnostics.first() else {
+        return Ok(false);
+    };
+    let Some(place) = &first.place else {
+        return Ok(false);
+    };
+    let (start, is_said) = (place.start, first.message == message);
+    Ok(is_said && start.line == number(line) && start.column == number(column))
 }
 
 // Whether the first diagnostic has this line, column and message.
@@ -203,7 +203,7 @@ const AT: &str = rows![
 ];
 
 // Each row: a text, and the line, the column and the message of its first diagnostic. The message
-// is rustc's, and the name of the macro, as in tests/expandm/mismatches.py.
+// is rustc's, as in tests/expandm/mismatches.py.
 const REPORTED: &str = rows![(
     "macro_rules! m { () => { 1 } }\nconst A: u8 = m!(4);\n",
     "2",
