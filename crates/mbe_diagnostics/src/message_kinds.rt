@@ -129,7 +129,7 @@ pub static KINDS: [MessageKind; 20] = [
 ];
 
 // What messages of a kind begin with.
-static STARTS: [Mark; 26] = [
+static STARTS: [Mark; 31] = [
     Mark {
         text: "no rules expected ",
         id: "no-matching-rule",
@@ -199,11 +199,31 @@ static STARTS: [Mark; 26] = [
         id: "invalid-definition",
     },
     Mark {
+        text: "expected identifier",
+        id: SYNTAX,
+    },
+    Mark {
         text: "expected ident",
         id: "invalid-definition",
     },
     Mark {
-        text: "expected `",
+        text: "expected `=`",
+        id: "invalid-definition",
+    },
+    Mark {
+        text: "expected `>`",
+        id: "invalid-definition",
+    },
+    Mark {
+        text: "expected `;`",
+        id: "invalid-definition",
+    },
+    Mark {
+        text: "expected `()`",
+        id: "invalid-definition",
+    },
+    Mark {
+        text: "expected `$()`",
         id: "invalid-definition",
     },
     Mark {
