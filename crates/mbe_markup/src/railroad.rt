@@ -297,7 +297,14 @@ fn add_op(
         Op::Subtree { tokens, delimiter } => {
             let inside = sequence(alloc, tokens, marks, levels)?;
             let states = (state, marks.state());
-            add_group(alloc, line, delimiter.get(), &inside, marks.expected, states)
+            add_group(
+                alloc,
+                line,
+                delimiter.get(),
+                &inside,
+                marks.expected,
+                states,
+            )
         }
         Op::Repeat {
             tokens,

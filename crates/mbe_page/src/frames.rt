@@ -391,7 +391,11 @@ fn text_between(argument: &TokenText, from: usize, to: usize) -> &str {
         return "the end";
     };
     let last = argument.tokens.get(to.saturating_sub(1)).unwrap_or(first);
-    argument.text.as_str().get(first.start..last.end).unwrap_or("")
+    argument
+        .text
+        .as_str()
+        .get(first.start..last.end)
+        .unwrap_or("")
 }
 
 // Whether a call of the file begins at a position.

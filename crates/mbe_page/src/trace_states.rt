@@ -39,11 +39,7 @@ fn write_numbers(alloc: Global, json: &mut Json, numbers: &[usize]) -> Result<()
 }
 
 // Writes the numbers of the states that are reached at each offset, as lists.
-fn write_reached(
-    alloc: Global,
-    json: &mut Json,
-    offsets: &[Vec<usize>],
-) -> Result<(), AllocError> {
+fn write_reached(alloc: Global, json: &mut Json, offsets: &[Vec<usize>]) -> Result<(), AllocError> {
     for (index, numbers) in offsets.iter().enumerate() {
         json.write(alloc, &[separator(index), Piece::Mark("[")])?;
         write_numbers(alloc, json, numbers.as_slice())?;
@@ -53,11 +49,7 @@ fn write_reached(
 }
 
 // Writes the states of a rule.
-fn write_states(
-    alloc: Global,
-    json: &mut Json,
-    states: &RuleStates<'_>,
-) -> Result<(), AllocError> {
+fn write_states(alloc: Global, json: &mut Json, states: &RuleStates<'_>) -> Result<(), AllocError> {
     json.write(alloc, &[Piece::Mark(",\"states\":[")])?;
     write_expected(alloc, json, states.expected.as_slice())?;
     json.write(alloc, &[Piece::Mark("],\"reached\":[")])?;

@@ -352,7 +352,13 @@ fn push_lint_diagnostics<'t>(
 {
     for lint in lints {
         let is_child = lint.is_child();
-        let diag = diagnostic(files, lint.level, lint.span, lint.message.as_str(), is_child);
+        let diag = diagnostic(
+            files,
+            lint.level,
+            lint.span,
+            lint.message.as_str(),
+            is_child,
+        );
         diagnostics.push(diag)?;
     }
     Ok(())

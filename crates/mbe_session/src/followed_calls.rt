@@ -169,9 +169,7 @@ impl<'t> ItemsLeft<'t> {
     fn after_items(self, inside: ItemsLeft<'_>) -> ItemsLeft<'t> {
         ItemsLeft {
             has_file: self.has_file || inside.has_file,
-            is_late: self.is_late
-                || inside.is_late
-                || (inside.has_definition && inside.has_file),
+            is_late: self.is_late || inside.is_late || (inside.has_definition && inside.has_file),
             ..self
         }
     }
@@ -230,8 +228,11 @@ fn call_text(
     let (Ok(start), Ok(end)) = (u32::try_from(part.start), u32::try_from(part.end)) else {
         return Ok(None);
     };
-    let settings =
-        options.file_settings(rust_rules(options.edition, &[]), roots, part.file as usize);
+    let settings = options.file_settings(
+        rust_rules(options.edition, &[]),
+        roots,
+        part.file as usize,
+    );
     let mut symbols = SymbolTable::new(alloc);
     let mut ignored_notes = Vec::new(alloc);
     let notes = &mut ignored_notes;
