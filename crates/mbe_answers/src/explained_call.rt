@@ -48,12 +48,35 @@ fn is_explanation(note: &Finding) -> bool {
     is_on_rule(note) || note.message.as_str().contains(" in rule ")
 }
 
+// Whether a note is on a rule of the macro that `of` names, such as "of `pair!` ".
+fn is_on_rule_of(note: &Finding, of: &str) -> bool {
+    let Some(rest) = note.message.as_str().strip_prefix("rule ") else {
+        return false;
+    };
+    match rest.split_once(' ') {
+        Some((_, after)) => after.starts_with(of),
+        None => false,
+    }
+}
+
+// Returns the number of the rule that a note is on.
+fn number_on(note: &Finding) -> Option<usize> {
+    let rest = note.message.as_str().strip_prefix("rule ")?;
+    let (digits, _) = rest.split_once(' ')?;
+    let mut number = 0usize;
+    for digit in digits.chars() {
+        let value = digit.to_digit(10)?;
+        number = number.checked_mul(10)?.checked_add(value as usize)?;
+    }
+    Some(number)
+}
+
 // Splits the notes into those before the first explanation, and those from there on. It begins with
-// a note that begins with `front`.
-fn split_before<'f>(notes: &'f [Finding], front: &str) -> (&'f [Finding], &'f [Finding]) {
+// a note on a rule of the macro.
+fn split_before<'f>(notes: &'f [Finding], of: &str) -> (&'f [Finding], &'f [Finding]) {
     let at = notes
         .iter()
-        .position(|note| note.message.as_str().starts_with(front))
+        .position(|note| is_on_rule_of(note, of))
         .unwrap_or(notes.len());
     (
         notes.get(..at).unwrap_or(notes),
@@ -61,34 +84,31 @@ fn split_before<'f>(notes: &'f [Finding], front: &str) -> (&'f [Finding], &'f [F
     )
 }
 
+// Whether a note is on the rule of that number of the macro.
+fn is_on_number(note: &Finding, of: &str, number: Option<usize>) -> bool {
+    is_on_rule_of(note, of) && number_on(note) == number
+}
+
 // Returns the explanation at the front of the notes: up to a note that is of none, or to the next
-// explanation of the same call.
-fn explanation<'f>(notes: &'f [Finding], front: &str) -> &'f [Finding] {
-    let after = notes.get(1..).unwrap_or(&[]);
+// explanation of a call of the macro. That begins with the same rule, since each rule has one note.
+fn explanation<'f>(notes: &'f [Finding], of: &str) -> &'f [Finding] {
+    let Some((first, after)) = notes.split_first() else {
+        return notes;
+    };
+    let number = number_on(first);
     let count = after
         .iter()
-        .take_while(|note| is_explanation(*note) && !note.message.as_str().starts_with(front))
+        .take_while(|note| is_explanation(*note) && !is_on_number(*note, of, number))
         .count();
     notes.get(..count.saturating_add(1)).unwrap_or(&[])
 }
 
 // Returns the number of the first rule that matches.
-fn matching_rule(
-    alloc: Global,
-    notes: &[Finding],
-    name: &str,
-) -> Result<Option<usize>, AllocError> {
-    let mut number = 0usize;
-    for note in notes {
-        if is_on_rule(note) {
-            number = number.saturating_add(1);
-            let matches = format!(in alloc; "rule {number} of `{name}!` matches")?;
-            if note.message.as_str() == matches.as_str() {
-                return Ok(Some(number));
-            }
-        }
-    }
-    Ok(None)
+fn matching_rule(notes: &[Finding], of: &str) -> Option<usize> {
+    let found = notes
+        .iter()
+        .find(|note| is_on_rule_of(*note, of) && note.message.as_str().ends_with("` matches"))?;
+    number_on(found)
 }
 
 /// Returns the explanation of a call among the notes of a session. `AllocError` if out of memory.
@@ -98,10 +118,10 @@ pub fn explain<'f>(
     call: &'f CallSite,
 ) -> Result<ExplainedCall<'f>, AllocError> {
     let name = call.name.as_str();
-    let front = format!(in alloc; "rule 1 of `{name}!` ")?;
-    let (before, rest) = split_before(found.notes.as_slice(), front.as_str());
-    let notes = explanation(rest, front.as_str());
-    let rule = matching_rule(alloc, notes, name)?;
+    let of = format!(in alloc; "of `{name}!` ")?;
+    let (before, rest) = split_before(found.notes.as_slice(), of.as_str());
+    let notes = explanation(rest, of.as_str());
+    let rule = matching_rule(notes, of.as_str());
     Ok(ExplainedCall {
         found,
         name,
