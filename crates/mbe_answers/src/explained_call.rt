@@ -105,9 +105,8 @@ fn explanation<'f>(notes: &'f [Finding], of: &str) -> &'f [Finding] {
 
 // Returns the number of the first rule that matches.
 fn matching_rule(notes: &[Finding], of: &str) -> Option<usize> {
-    let found = notes
-        .iter()
-        .find(|note| is_on_rule_of(*note, of) && note.message.as_str().ends_with("` matches"))?;
+    let found = notes.iter().find(|note| is_on_rule_of(*note, of)
+        && note.message.as_str().ends_with("` matches"))?;
     number_on(found)
 }
 
