@@ -94,7 +94,6 @@ the places of the path's
 the place of the name
 A place is
 The place of a token
-The position is as for
 and its position
 underlined with dots
 one way in which
@@ -105,7 +104,6 @@ in ways that no test finds
 one of the ways
 the ways consume
 two ways consume
-Two ways that consume
 the second way can
 one of two ways
 the same way
