@@ -6,7 +6,7 @@ Each row is a file with a definition, and a call or none. `expandm` runs on it w
 --explain, and so does rustc. The tables have what each reports first, with the location. For
 `expandm` that is the error of --lint, or what --explain says, or the warning of --lint.
 
-A row says how the two agree: they mark one token, they mark different tokens, or `expandm` is
+A row says how the two agree: they mark the same token, they mark different tokens, or `expandm` is
 silent. The row fails if they agree otherwise. The script prints the tables, or with --write puts
 them into docs/MACROS.md.
 """
@@ -28,7 +28,7 @@ HEAD = "| Rules, and a call | `expandm` | rustc |\n|---|---|---|\n"
 
 class Agreement(enum.Enum):
     """How the reports of `expandm` agree with the first one of rustc."""
-    SAME = "they mark one token, or neither reports anything"
+    SAME = "they mark the same token, or neither reports anything"
     ELSEWHERE = "`expandm` marks another token"
     SILENT = "`expandm` reports nothing"
 
@@ -185,7 +185,7 @@ def compared(row, folder, program):
 
 def summary(counts):
     total = sum(counts.values())
-    return (f"In {counts[Agreement.SAME]} of these {total} rows both programs mark one token, or neither "
+    return (f"In {counts[Agreement.SAME]} of these {total} rows both programs mark the same token, or neither "
             f"reports anything.\n`expandm` marks another token in {counts[Agreement.ELSEWHERE]} rows, and "
             f"reports nothing in {counts[Agreement.SILENT]}.\n")
 
