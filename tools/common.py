@@ -228,7 +228,8 @@ def sources_hash():
     kept = f"{cache()}/sources-{hash_of([TOP.encode()])}"
     if os.path.exists(kept) and read(kept).startswith(f"{state} "):
         return read(kept).split()[1]
-    found = hash_of(f"{os.path.relpath(path, TOP)}\0{read(path)}\0".encode() for path in files)
+    names = (path.removeprefix(f"{TOP}/") for path in files)
+    found = hash_of(f"{name}\0{read(path)}\0".encode() for name, path in zip(names, files))
     write(kept, f"{state} {found}\n")
     return found
 
