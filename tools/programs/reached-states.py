@@ -10,16 +10,21 @@ arguments are made from a pattern, so that they match far, and many are changed 
 
 The script reads each argument by each pattern, as docs/MACROS.md, docs/EXPANDM.md and
 crates/mbe_semantics/specs/Readings say. Partial readings go through a pattern part by part, and
-through a repetition round by round. The script counts them at each state and offset. It compares
-these with what the program prints of each call:
+through a repetition round by round. The script counts them at each state and offset.
 
-- the rules that are listed;
-- of each rule what is expected at its states, and which of them are reached at each offset;
-- the rule that applies, if one does;
-- what the error is: a local ambiguity, several readings, a fault inside a fragment, or a token that
-  no rule expected;
-- of each rule of a failing call, by `--explain`, whether it matches, in one way or in several, or
-  where it is ambiguous or stops, and what it expects there.
+It compares these with what the program prints of a call:
+
+- which rules are listed;
+- what a rule expects at each state, and which states it reaches at each offset;
+- the same states in the page of `--html`;
+- which rule applies, if one does;
+- the kind of the error: a local ambiguity, several readings, a fault inside a fragment, or a token
+  that no rule expected.
+
+It also compares the notes of `--explain` on the rules of a failing call:
+
+- whether a rule matches, matches in several ways, is ambiguous, or stops;
+- where a rule is ambiguous or stops, and what it expects there.
 
 The same seed gives the same calls. A call that differs is printed with its definition. The line
 before the last says how many calls are expanded, and why the others aren't.
@@ -168,6 +173,7 @@ class Argument:
         return 1 if (first.kind, first.text) == (kind, tree.text) else 0
 
     def lifetime(self, offset):
+        """The lifetime at an offset, or `None`."""
         is_one = self.at(offset)[:2] == ("punct", "'") and self.at(offset + 1).kind == "word"
         return "'" + self.at(offset + 1).text if is_one else None
 
@@ -193,7 +199,10 @@ class Argument:
         return 2 if self.lifetime(offset) else len(self.operator(offset))
 
     def starts(self, text, first):
-        """Where in a text each token begins, and the byte after them. `first` is a byte before."""
+        """The bytes of a text at which the tokens begin, and the byte after them.
+
+        The tokens begin at the byte `first` or later.
+        """
         found = []
         for token in [*self.tokens, Token("end", "")]:
             first = len(text) - len(text[first:].lstrip(" "))
@@ -338,21 +347,27 @@ class Reading:
         expected = self.pattern.expected
         return [[it for it in states if expected[it]] for states in self.reached]
 
-    def is_ambiguous(self, offset):
-        """Whether two partial readings that end at an offset are a local ambiguity."""
-        count, has_fragment, widths = 0, False, set()
+    def ambiguities(self, offset):
+        """What is expected by each two partial readings at an offset that are a local ambiguity."""
+        found, others = [], []
         for state in self.reached[offset]:
             step = self.pattern.steps[state]
-            width = self.width(step, offset)
-            if width:
-                count += self.counts[offset, state]
-                has_fragment |= isinstance(step, Variable)
-                widths.add(width)
-        return count > 1 and (has_fragment or len(widths) > 1)
+            width, is_fragment = self.width(step, offset), isinstance(step, Variable)
+            if not width:
+                continue
+            text = self.pattern.expected[state]
+            if is_fragment and self.counts[offset, state] > 1:
+                found.append(sorted([text, text]))
+            for other, other_width, is_other_fragment in others:
+                if is_fragment or is_other_fragment or width != other_width:
+                    found.append(sorted([text, other]))
+            others.append((text, width, is_fragment))
+        return found
 
     def verdict(self):
+        """The first local ambiguity, or else how many readings there are, or where they stop."""
         for offset in range(len(self.reached)):
-            if self.is_ambiguous(offset):
+            if self.ambiguities(offset):
                 return Verdict("ambiguous", offset)
         size = len(self.argument.tokens)
         if not self.ends.get(size):
@@ -360,7 +375,7 @@ class Reading:
         return Verdict("one" if self.ends[size] == 1 else "several", size)
 
     def fails_inside(self, offset):
-        """Whether a literal is expected at an offset, and begins there by its `-` alone."""
+        """Whether a literal is expected at an offset, where its `-` is without a literal."""
         steps = [self.pattern.steps[state] for state in self.reached[offset]]
         return self.argument.at(offset)[:2] == ("punct", "-") and any(
             isinstance(it, Variable) and it.kind == "literal" and not self.width(it, offset)
@@ -413,26 +428,27 @@ def wanted(case):
 
 
 class Note(NamedTuple):
-    """The note on a rule: the front of its message, and what the rest lists as expected.
+    """The note on a rule: the front of its message, and the lists of which one is the rest.
 
-    It is at a token offset, which is `None` if it isn't compared.
+    No lists mean that the rest isn't compared. No offset means that its location isn't.
     """
 
     front: str
-    listed: list
+    lists: list
     offset: Optional[int]
 
 
 def note_of(reading, verdict):
     if verdict.name == "one":
-        return Note("matches", [], None)
+        return Note("matches", [[]], None)
     if verdict.name == "several":
-        return Note("matches the call in several ways: here it can continue with ", None, None)
+        return Note("matches the call in several ways: here it can continue with ", [], None)
     if verdict.name == "ambiguous":
-        return Note("is ambiguous here: it can continue with ", None, verdict.offset)
+        pairs = reading.ambiguities(verdict.offset)
+        return Note("is ambiguous here: it can continue with ", pairs, verdict.offset)
     states = reading.listed()[verdict.offset]
     listed = sorted(reading.pattern.expected[it] for it in states)
-    return Note("stops here; expected ", listed, verdict.offset)
+    return Note("stops here; expected ", [listed], verdict.offset)
 
 
 # ---- random definitions and calls
@@ -547,7 +563,9 @@ class Maker:
         if not isinstance(part, Repetition):
             return [part]
         least, most = {"*": (0, 3), "+": (1, 3), "?": (0, 1)}[part.operator]
-        rounds = self.random.randint(0, 2) if self.is_one_of(6) else self.random.randint(least, most)
+        if self.is_one_of(6):
+            least, most = 0, 2
+        rounds = self.random.randint(least, most)
         trees = []
         for number in range(rounds):
             has_separator = part.separator and (number > 0) != self.is_one_of(20)
@@ -569,8 +587,10 @@ class Maker:
         if self.is_one_of(5):
             trees = [self.leaf() for _ in range(self.random.randint(0, 2))]
             return Group(self.random.choice("([{"), trees)
-        # Operators that aren't parted by a space.
-        return Operator(self.random.choice(["&&&", "=>=", ",,"])) if self.is_one_of(12) else self.leaf()
+        if self.is_one_of(12):
+            # Operators without a space between them.
+            return Operator(self.random.choice(["&&&", "=>=", ",,"]))
+        return self.leaf()
 
     def changed(self, trees):
         """The trees with one change, at their top or in a group."""
@@ -616,11 +636,15 @@ class Maker:
 # ---- runs
 
 class Printed(NamedTuple):
-    """What the program prints of a call: its data, and its notes on rules with their bytes."""
+    """What the program prints of a call.
+
+    `data` is its data, and `page` the texts of reached states in its part of the page. `notes` are
+    on rules, each with its byte in the file. The call's argument begins at the byte `first`.
+    """
 
     data: dict
+    page: list
     notes: dict
-    # The text of the file, and where the call's argument begins in it.
     text: str
     first: int
 
@@ -628,18 +652,32 @@ class Printed(NamedTuple):
 def printed(program, room, cases):
     """What the program prints of the calls of these cases, in their order."""
     text = "".join(f"{line}\n" for case in cases for line in case.texts())
-    common.write(f"{room}/calls.rs", text)
-    ran = common.run([program, "--trace=json", "--explain", "--json", f"{room}/calls.rs"])
+    path, page = f"{room}/calls.rs", f"{room}/calls.html"
+    common.write(path, text)
+    ran = common.run([program, "--trace=json", "--explain", "--json", path])
+    common.run([program, "--html", page, path])
     lines = map(json.loads, ran.stdout.splitlines())
     data = {it["macro"]: it for it in lines if it["reason"] == "call"}
+    parts = re.split('<details class="call', common.read(page))[1:]
+    tracks = [re.findall('data-states="([^"]*)"', it) for it in parts]
+    if not len(data) == len(tracks) == len(cases):
+        sys.exit(f"{len(cases)} calls, {len(data)} in the data, {len(tracks)} in the page")
+    notes = notes_of(cases, ran.stderr)
+    for number, case in enumerate(cases):
+        call = f"\n{case.name}!{case.brackets}"
+        first = text.index(call) + len(call)
+        yield Printed(data[case.name], tracks[number], notes[case.name], text, first)
+
+
+def notes_of(cases, lines):
+    """The notes on rules among diagnostics, by macro and rule: the message, and its byte."""
     notes = {case.name: {} for case in cases}
-    for it in common.reports(ran.stderr):
-        found = re.match(r"rule (\d+) of `(\w+)!` ((?:matches|is ambiguous|stops).*)", it["message"])
+    of_rule = re.compile(r"rule (\d+) of `(\w+)!` ((?:matches|is ambiguous|stops).*)")
+    for it in common.reports(lines):
+        found = of_rule.match(it["message"])
         if found:
             notes[found[2]][int(found[1])] = found[3], it["spans"][0]["byte_start"]
-    for case in cases:
-        call = f"\n{case.name}!{case.brackets}"
-        yield Printed(data.get(case.name), notes[case.name], text, text.index(call) + len(call))
+    return notes
 
 
 def differences(got, want):
@@ -659,6 +697,14 @@ def differences(got, want):
             if one.get(name) != value:
                 yield f"rule {one['rule']}: {name} {json.dumps(one.get(name))}"
                 yield f"    wanted {json.dumps(value)}"
+    page = [page_text(it.listed()) for it in want.readings[:want.listed]]
+    if got.page != page:
+        yield f"page {got.page}, wanted {page}"
+
+
+def page_text(reached):
+    """The states that a rule reaches, as in a page."""
+    return "|".join(" ".join(map(str, states)) for states in reached)
 
 
 def differing_notes(got, want):
@@ -670,8 +716,10 @@ def differing_notes(got, want):
     for rule, note in zip(numbers, want.notes):
         message, byte = got.notes[rule]
         listed = re.findall("`[^`]+`|the end of the (?:call|group)", message[len(note.front):])
-        if not message.startswith(note.front) or note.listed not in (None, sorted(listed)):
-            yield f"rule {rule}: {message}; wanted {note.front}{note.listed or ''}"
+        listed *= 2 if message.endswith(" in two ways") else 1
+        is_one = not note.lists or sorted(listed) in note.lists
+        if not message.startswith(note.front) or not is_one:
+            yield f"rule {rule}: {message}; wanted {note.front}{note.lists}"
         starts = want.readings[0].argument.starts(got.text, got.first)
         if note.offset is not None and byte != starts[note.offset]:
             yield f"rule {rule}: {message}; at {byte}, wanted {starts[note.offset]}"
@@ -679,9 +727,7 @@ def differing_notes(got, want):
 
 def is_equal(case, got, want):
     """Compares a call with what is wanted, and prints how it differs."""
-    lines = ["the call isn't printed"]
-    if got.data:
-        lines = [*differences(got, want), *differing_notes(got, want)]
+    lines = [*differences(got, want), *differing_notes(got, want)]
     if lines:
         print("\n    ".join([*case.texts(), *lines]), flush=True)
     return not lines
