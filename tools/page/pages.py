@@ -2,6 +2,7 @@
 """Writes pages by `expandm --html`, and drives them in a headless Chromium.
 
     python3 tools/page/pages.py [--program EXPANDM] [--pictures FOLDER] [FILE.rs ..]
+    python3 tools/page/pages.py [--program EXPANDM] --sizes FILE.rs | FOLDER ..
 
 The pages are of the tour, of a macro that takes its argument in 200 steps, of a text that looks
 like markup, and of the given files. The script checks these on each page:
@@ -20,10 +21,14 @@ In the tour it also checks these:
 - its slider begins there, goes from token to token by the arrow keys, and says what a rule expects.
 
 --pictures keeps pictures of the pages. A file needn't be Rust.
+
+--sizes checks the size and the HTML of each page alone, without Chromium, and lists the sizes. A
+page that isn't written within a minute fails.
 """
 import html.parser
 import os
 import shutil
+import subprocess
 import sys
 
 sys.path.insert(0, os.path.dirname(os.path.dirname(os.path.abspath(__file__))))
@@ -161,13 +166,19 @@ class Run:
         common.run([self.program, "--html", made, path])
         return made
 
+    def check_html(self, name, made):
+        """Checks the size and the HTML of a page. `tidy` doesn't read a page that is too large."""
+        is_small = os.path.getsize(made) <= LIMIT
+        self.check(f"{name}: size", is_small, True)
+        if is_small:
+            tidy = common.run(["tidy", "-errors", "-quiet", "--show-warnings", "yes", made])
+            self.check(f"{name}: tidy", tidy.stderr, "")
+
     def check_page(self, path):
         """Checks what holds for each page."""
         made = self.page(path)
         name = os.path.basename(path)
-        self.check(f"{name}: size", os.path.getsize(made) <= LIMIT, True)
-        tidy = common.run(["tidy", "-errors", "-quiet", "--show-warnings", "yes", made])
-        self.check(f"{name}: tidy", tidy.stderr, "")
+        self.check_html(name, made)
         self.check(f"{name}: origins", *self.origins(path, made))
         for scheme in ("light", "dark"):
             self.browser.open(made, color_scheme=scheme)
@@ -260,15 +271,36 @@ class Run:
                    [",", "Expects \u201C,\u201D or the end.", ","])
 
 
+def check_sizes(program, paths):
+    """Checks the pages of files without a browser, and lists their sizes, the largest first."""
+    sizes = []
+    with common.folder() as room:
+        run = Run(program, None, room, None)
+        for path in common.rust_files(paths):
+            made = f"{room}/page.html"
+            try:
+                common.run([program, "--html", made, path], timeout=60)
+            except subprocess.TimeoutExpired:
+                run.check(f"{path}: a page within a minute", False, True)
+                continue
+            run.check_html(path, made)
+            sizes.append((os.path.getsize(made), path))
+    common.print_table(("Bytes", "File"), sorted(sizes, reverse=True))
+    return common.finish(run.passed, run.failed)
+
+
 def main():
     parser = common.arguments(__doc__)
     common.add_expandm(parser)
     parser.add_argument("--pictures", metavar="FOLDER", help="keep pictures of the pages here")
+    parser.add_argument("--sizes", action="store_true", help="check sizes and HTML, and list sizes")
     parser.add_argument("files", metavar="FILE.rs", nargs="*")
     args = parser.parse_args()
-    for needed in ("chromium", "tidy"):
+    for needed in ("tidy",) if args.sizes else ("chromium", "tidy"):
         if not shutil.which(needed):
             sys.exit(f"no {needed}")
+    if args.sizes:
+        return check_sizes(common.expandm(args.program), args.files)
     if args.pictures:
         os.makedirs(args.pictures, exist_ok=True)
     with common.folder() as room, Browser() as browser:
