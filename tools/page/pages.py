@@ -206,7 +206,9 @@ class Run:
             if it["message"].startswith("to `"):
                 wanted.append([])
             elif "` in the expansion of `" in it["message"]:
-                wanted[-1].append((it["message"][1:].rsplit("` in the expansion", 1)[0],
+                text = it["message"][1:].rsplit("` in the expansion", 1)[0]
+                # A page writes `crate` for `$crate`, as the expansion does.
+                wanted[-1].append(("crate" if text == "$crate" else text,
                                    it["spans"][0]["byte_start"] if it["spans"] else 0))
         steps = [reader.steps[number] for number in sorted(reader.steps)]
         closings = (")", "]", "}")
